@@ -19,7 +19,8 @@ use Rattle.lv_bodies.specs.declared.kinds.Kind.{Kind}
 use Rattle.lv_bodies.specs.declared.kinds.Shown.{Shown}
 use Rattle.lv_reduce.specs.Running.{reached, scan_from}
 use Rattle.lv_reduce.proofs.PieceLaws.{slice_range-append}
-use Rattle.lv_series.specs.Series.{Asks, Held, IsLongValue, keeps_kind, range_refused, size_of, slice_of}
+use Rattle.lv_series.specs.Places.{IsSearchable}
+use Rattle.lv_series.specs.Series.{Held, IsLongValue, keeps_kind, range_refused, size_of, slice_of}
 use Rattle.lv_series.specs.declared.answers.LongAnswer.{LongAnswer}
 use Rattle.lv_series.specs.declared.refusals.LongRefusal.{LongRefusal}
 use Rattle.lv_series.specs.declared.refusals.LongRefusal.TheVariants.{NoMemory}
@@ -30,6 +31,7 @@ use Rattle.lv_tree.specs.declared.kind_summaries.KindSummary.{KindSummary}
 use Rattle.livevec_c.specs.Columns.{CanGoOnLong}
 use Rattle.livevec_c.specs.Seats.{values_for}
 use Rattle.livevec_c.specs.SeriesAnswers.{granted, long_valued, refused_by, unreduced_by}
+use Rattle.livevec_c.specs.SeriesBehind.{AsksSeries, values_of, with_all}
 use Rattle.livevec_c.specs.SeriesHeld.{Long}
 use Rattle.livevec_c.specs.SeriesValued.{ValuesSeries, value_of, with_tree}
 use Rattle.livevec_c.specs.SpreadLaws.{shown-plain}
@@ -40,27 +42,25 @@ pub same_six : (s : SixSummary) (sum : ℕ) (least greatest : Option ℤ) (best 
     → (sum, (least, (greatest, (best, (m, states))))) ≡ s
 same_six s sum least greatest best m states a b c d e f = rw (a, b, c, d, e, f) refl
 
--- a value that was told is the plain value of its kind, and the kind has a tree
-pub kind_told : (kind : Kind) (s new : Long) (lo hi : ℕ) (answer : LongAnswer KindSummary) (shown : Shown) (told : SeriesReduced) → IsLongValue s kind lo hi answer × (new ≡ with_tree kind None s) → shown ≡ shown_of answer.value → told ≡ record { why = granted; edit = answer.edit; values = values_for (nat_lt lo hi) shown } → ValuesSeries kind lo hi told s new
-kind_told kind s new lo hi answer shown told (is, after) shows tells =
+-- a value that was told is the plain value of its kind
+pub kind_told : (kind : Kind) (s : Long) (lo hi : ℕ) (answer : LongAnswer KindSummary) (shown : Shown) (told : SeriesReduced) → IsLongValue s kind lo hi answer → shown ≡ shown_of answer.value → told ≡ record { why = granted; edit = answer.edit; values = values_for (nat_lt lo hi) shown } → told ≡ value_of kind lo hi s
+kind_told kind s lo hi answer shown told is shows tells =
     let xs = slice_of s.held lo hi in
     let any = nat_lt lo hi in
-    inl (
-      tells
-          ∙ ap (λ n. record { why = granted; edit = n; values = values_for any shown }) is.edit
-          ∙ ap (λ v. record { why = granted; edit = s.edits; values = values_for any v }) (shows ∙ ap shown_of is.value ∙ shown-plain s.table xs kind)
-          ∙ ap (λ r. long_valued r s.edits (values_for any (plain_value_with s.table kind xs))) (sym is.granted),
-      after ∙ ap (λ r. with_tree kind r s) (sym is.granted),
-    )
+    tells
+    ∙ ap (λ n. record { why = granted; edit = n; values = values_for any shown }) is.edit
+    ∙ ap (λ v. record { why = granted; edit = s.edits; values = values_for any v }) (shows ∙ ap shown_of is.value ∙ shown-plain s.table xs kind)
+    ∙ ap (λ r. long_valued r s.edits (values_for any (plain_value_with s.table kind xs))) (sym is.granted)
 
--- one that was refused
-pub kind_refused : (kind : Kind) (s new : Long) (lo hi : ℕ) (refusal : LongRefusal) (told : SeriesReduced) → Asks s kind lo hi (Err refusal) new → told ≡ unreduced_by (refused_by refusal) → ValuesSeries kind lo hi told s new
-kind_refused kind s new lo hi refusal told (same, inl why) tells =
-    inl (
-      tells ∙ ap (λ r. long_valued r s.edits (values_for (nat_lt lo hi) (plain_value_with s.table kind (slice_of s.held lo hi)))) (sym why),
-      same ∙ ap (λ r. with_tree kind r s) (sym why),
-    )
-kind_refused kind s new lo hi refusal told (same, inr (free, is, none)) tells = inr (tells ∙ ap (λ r. unreduced_by (refused_by r)) is, free, none, same)
+-- one that was told where the kind's tree was made first
+pub kind_made : (kind : Kind) (s new : Long) (lo hi : ℕ) (told : SeriesReduced) → new ≡ with_tree kind None s → IsSearchable new kind lo hi → told ≡ value_of kind lo hi new → ValuesSeries kind lo hi told s (with_tree kind None s)
+kind_made kind s new lo hi told is free tells =
+    let granted : range_refused s.held lo hi ≡ None = sym (ap (λ t. range_refused t.held lo hi) is) ∙ free.granted in
+    inl (tells ∙ ap (value_of kind lo hi) is, ap (λ r. with_tree kind r s) (sym granted))
+
+-- values of all kinds that were told where the tree of each was made first
+pub all_made : (s new : Long) (lo hi : ℕ) (told : SeriesReduced) → new ≡ with_all None s → range_refused s.held lo hi ≡ None → told ≡ values_of lo hi new → AsksSeries lo hi told s (with_all None s)
+all_made s new lo hi told is granted tells = inl (tells ∙ ap (values_of lo hi) is, ap (λ r. with_all r s) (sym granted))
 
 -- the fold of what stands in front of some elements may go on over them
 pub piece_can : {S : Type 0} (o : Operations S) (within : S → ℕ → Type 0) → LongLaws o within → (h : Held) (lo at more : ℕ) → range_refused h lo at ≡ None → range_refused h at (at + more) ≡ None → All IsElement h.elements → size_of h ≤ 2 ^ 62 → (s : S) → s ≡ fold_of o (slice_of h lo at) → CanGoOnLong within s more

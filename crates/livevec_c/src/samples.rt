@@ -3,6 +3,7 @@ ghost use Rattle.std.specs.Prelude.{◌≡◌, IfOk, length};
 ghost use Rattle.lv_bodies.specs.Plain.{program_table};
 ghost use Rattle.lv_series.specs.declared.sample_edits.SampleEdit.TheVariants as sampled;
 ghost use Rattle.livevec_c.specs.SamplesBehind.{ExpiresBefore, ExpiresObject, IsNewSamples, OpensSamples, SamplesEdited, SamplesObject, TellsWindow, WindowOfLast, WindowOfLastIn, WindowsBehind, WindowsIn, sample_behind, sample_in, times_behind, times_in, times_put_behind, times_put_in, unsampled, unwindowed};
+ghost use Rattle.livevec_c.specs.declared.objects.Object.TheVariants as objects;
 
 use crate::objects::Object;
 use crate::results::{IN_USE, NO_HANDLE, NO_MEMORY};
@@ -255,20 +256,30 @@ pub extern "C" fn livevec_proved_samples_last(
     }
 }
 
-// The times of an object's samples, as many as a buffer takes.
+// The times of samples, as many as a buffer takes.
+fn read_times(samples: &Samples, lo: u64, hi: u64, buffer: &mut [i64]) -> SeriesScanned
+    ensures answer { result ≡ times_in lo hi (length buffer.old) (objects.Samples samples.now) }
+    ensures buffer { buffer.new ≡ times_put_in lo hi buffer.old (objects.Samples samples.now) }
+{
+    // There is a time for each value.
+    samples.holds();
+    match samples.times(lo, hi) {
+        Err(refusal) => not_scanned(refusal_answer(refusal)),
+        Ok(times) => {
+            let many = buffer.len().min(times.len());
+            lay_elements(&times[..many], buffer);
+            piece_answer(samples.series(), many)
+        }
+    }
+}
+
+// The same of an object.
 fn times_of(object: &Object, lo: u64, hi: u64, buffer: &mut [i64]) -> SeriesScanned
     ensures answer { result ≡ times_in lo hi (length buffer.old) object.now }
     ensures buffer { buffer.new ≡ times_put_in lo hi buffer.old object.now }
 {
     match object {
-        Object::Samples(samples) => match samples.times(lo, hi) {
-            Err(refusal) => not_scanned(refusal_answer(refusal)),
-            Ok(times) => {
-                let many = buffer.len().min(times.len());
-                lay_elements(&times[..many], buffer);
-                piece_answer(samples.series(), many)
-            }
-        },
+        Object::Samples(samples) => read_times(samples, lo, hi, buffer),
         _ => not_scanned(not_held()),
     }
 }

@@ -3,7 +3,7 @@ ghost use Rattle.std.specs.Prelude.{◌≡◌, IfOk};
 ghost use Rattle.lv_bodies.specs.Plain.{program_table};
 ghost use Rattle.lv_series.specs.declared.edits.LongEdit.TheVariants as asked;
 ghost use Rattle.livevec_c.specs.SeriesBehind.{EditsBehind, EditsLong, EditsSamplesBy, IsNewSeries, OpensSeries, sample_edit_of};
-ghost use Rattle.livevec_c.specs.declared.objects.Object.TheVariants.{Samples};
+ghost use Rattle.livevec_c.specs.declared.objects.Object.TheVariants as objects;
 
 use crate::objects::Object;
 use crate::results::{IN_USE, NO_MEMORY};
@@ -40,7 +40,7 @@ pub extern "C" fn livevec_proved_series_new(alloc: Global, slot: &mut Slot) -> u
 
 // An edit of samples by one of their values, where it leaves each value its time.
 fn edit_samples(samples: &mut Samples, edit: &LongEdit) -> SeriesEdited
-    ensures { EditsSamplesBy (sample_edit_of edit.now) result samples.old (Samples samples.new) }
+    ensures { EditsSamplesBy (sample_edit_of edit.now) result samples.old (objects.Samples samples.new) }
 {
     match *edit {
         LongEdit::Pop => sample_answer(samples.pop()),
