@@ -1,5 +1,5 @@
 -- What has a series, with the trees of some kinds.
-use Rattle.std.proofs.Common.{◌≡◌, ℕ, ◌+◌, ◌<◌, true, false, [], ◌∷◌, ◌++◌, Result, Ok, Err, OnErr, OnOk, List, fold, get_or, take, sym, ap, ◌∙◌, true≢false}
+use Rattle.std.proofs.Common.{◌≡◌, ℕ, ◌+◌, ◌<◌, true, false, [], ◌∷◌, Result, Ok, Err, OnErr, OnOk, List, fold, get_or, take, sym, ap, ◌∙◌, true≢false}
 use Rattle.std.specs.Prelude.{is_err}
 use Rattle.std.proofs.lemmas.List.{take_more}
 use Rattle.std.proofs.lemmas.List.Sums.{fold_push}

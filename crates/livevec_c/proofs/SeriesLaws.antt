@@ -1,5 +1,5 @@
 -- What a series answers of a range, and the cells of a piece of one.
-use Rattle.std.proofs.Common.{◌≡◌, ◌⊎◌, ℕ, zero, suc, ℤ, pos, ◌+◌, ◌-◌, ◌^◌, ◌≤◌, ◌++◌, ◌∷◌, [], Bool, true, false, Option, Some, None, Result, Ok, Err, List, if◌then◌else◌, length, map, take, get_or, All, inl, inr, refl, sym, ap, subst, ◌∙◌, arith}
+use Rattle.std.proofs.Common.{◌≡◌, ℕ, zero, suc, ℤ, pos, ◌+◌, ◌-◌, ◌^◌, ◌≤◌, ◌++◌, ◌∷◌, [], Bool, true, false, Option, None, List, if◌then◌else◌, length, map, take, get_or, All, inl, refl, sym, ap, subst, ◌∙◌, arith}
 use Rattle.std.specs.Prelude.{nat_lt}
 use Rattle.std.specs.List.{range_with_len}
 use Rattle.std.proofs.Math.Numerals.{suc-eq-add-one}
@@ -20,17 +20,15 @@ use Rattle.lv_bodies.specs.declared.kinds.Shown.{Shown}
 use Rattle.lv_reduce.specs.Running.{reached, scan_from}
 use Rattle.lv_reduce.proofs.PieceLaws.{slice_range-append}
 use Rattle.lv_series.specs.Places.{IsSearchable}
-use Rattle.lv_series.specs.Series.{Held, IsLongValue, keeps_kind, range_refused, size_of, slice_of}
+use Rattle.lv_series.specs.Series.{Held, IsLongValue, range_refused, size_of, slice_of}
 use Rattle.lv_series.specs.declared.answers.LongAnswer.{LongAnswer}
-use Rattle.lv_series.specs.declared.refusals.LongRefusal.{LongRefusal}
-use Rattle.lv_series.specs.declared.refusals.LongRefusal.TheVariants.{NoMemory}
 use Rattle.lv_series.proofs.FreeLaws.{free_range}
 use Rattle.lv_series.proofs.KeptLaws.{slice_long, slice_start}
 use Rattle.lv_tree.specs.KindSummaries.{shown_of}
 use Rattle.lv_tree.specs.declared.kind_summaries.KindSummary.{KindSummary}
 use Rattle.livevec_c.specs.Columns.{CanGoOnLong}
 use Rattle.livevec_c.specs.Seats.{values_for}
-use Rattle.livevec_c.specs.SeriesAnswers.{granted, long_valued, refused_by, unreduced_by}
+use Rattle.livevec_c.specs.SeriesAnswers.{granted, long_valued}
 use Rattle.livevec_c.specs.SeriesBehind.{AsksSeries, values_of, with_all}
 use Rattle.livevec_c.specs.SeriesHeld.{Long}
 use Rattle.livevec_c.specs.SeriesValued.{ValuesSeries, value_of, with_tree}

@@ -1,12 +1,10 @@
 -- Many writes at a series: which of them is refused first.
-use Rattle.std.proofs.Common.{◌≡◌, ◌≢◌, ℕ, ℤ, ◌+◌, ◌-◌, ◌<◌, ◌≤◌, Bool, true, false, Option, Some, None, List, [], ◌∷◌, length, drop, get_or, is_some, nat_eq, cond, if◌then◌else◌, refl, sym, ap, ◌∙◌, inl, inr, arith, add-one, drop-cons, eq-eqb, length-set}
+use Rattle.std.proofs.Common.{◌≡◌, ◌≢◌, ℕ, ℤ, ◌+◌, ◌-◌, ◌<◌, ◌≤◌, Bool, true, false, List, [], ◌∷◌, length, drop, get_or, is_some, nat_eq, cond, if◌then◌else◌, refl, sym, ap, ◌∙◌, inl, inr, arith, add-one, drop-cons, eq-eqb, length-set}
 use Rattle.std.specs.Prelude.{is_err, not}
 use Rattle.std.proofs.lemmas.Bool.{cases_Bool, cond-false, cond-true, eqb-false, eqb-true, ne_eqb}
-use Rattle.std.proofs.lemmas.List.{drop_all}
 use Rattle.lv_series.specs.declared.edits.LongEdit.TheVariants.{Write}
-use Rattle.lv_series.specs.declared.refusals.LongRefusal.TheVariants.{OutOfRange, Worn}
-use Rattle.lv_series.specs.Batches.{verdict_of_edits, with_edit, writes_at}
-use Rattle.lv_series.specs.Series.{Held, element_at, is_kept, refused, size_of}
+use Rattle.lv_series.specs.Batches.{with_edit, writes_at}
+use Rattle.lv_series.specs.Series.{Held, element_at, is_kept, size_of}
 use Rattle.lv_series.proofs.WriteLaws.{is_within, judged, judged_more, judged_none, judged_out, judged_worn, verdict_judged}
 use Rattle.livevec_c.specs.SeriesHeld.{Long}
 use Rattle.livevec_c.specs.SeriesWritten.{accepted_before, place_refused}

@@ -1,5 +1,5 @@
 -- Proof of `prepare_each`: makes the tree of each kind, where there is none, and says whether there was memory for it.
-use Rattle.std.proofs.Common.{refl, sym, ap, take, arith, ◌∙◌}
+use Rattle.std.proofs.Common.{refl, sym, ap, take, ◌∙◌}
 use Rattle.std.proofs.lemmas.List.{take_all}
 use Rattle.lv_bodies.specs.declared.kinds.Kind.TheVariants.{Sum}
 use Rattle.livevec_c.proofs.HeldLaws.{done_at, each_kind, one_tree_more, same_at, with_trees}

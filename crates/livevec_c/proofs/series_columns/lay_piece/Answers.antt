@@ -1,5 +1,5 @@
 -- Proof of `lay_piece`: puts the running values of some elements into the front of a column, which keeps what it has behind.
-use Rattle.std.proofs.Common.{◌+◌, ◌++◌, length, drop, map, take, sym, ap, subst, ◌∙◌, arith}
+use Rattle.std.proofs.Common.{◌+◌, ◌++◌, length, drop, map, sym, ap, subst, ◌∙◌, arith}
 use Rattle.std.proofs.lemmas.List.{length-take-le, take_all}
 use Rattle.lv_reduce.specs.Running.{scan_from}
 use Rattle.livevec_c.proofs.SeriesLaws.{piece_can, piece_cells}
