@@ -1,5 +1,5 @@
 -- What is looked for in a range, by a number, and the kind by which it is looked for.
-use Rattle.std.specs.Prelude.{ℕ, ℤ, Option, Some, None}
+use Rattle.std.specs.Prelude.{ℕ, ℤ, Option, [], ◌∷◌, slice_get}
 use Rattle.lv_bodies.specs.declared.kinds.Kind.{Kind}
 use Rattle.lv_bodies.specs.declared.kinds.Kind.TheVariants as kinds
 use Rattle.lv_tree.specs.Where.{kind_within}
@@ -8,16 +8,8 @@ use Rattle.livevec_c.specs.declared.wanted.Wanted.{Wanted as Sought}
 use Rattle.livevec_c.specs.declared.wanted.Wanted.TheVariants.{Least, Greatest, Best, Reaches, ReachesBack, First, Last}
 
 abbrev pub wanted_at : ℕ → ℤ → Option Sought
-wanted_at 0 x = Some Least
-wanted_at 1 x = Some Greatest
-wanted_at 2 x = Some Best
-wanted_at 3 x = Some (Reaches x)
-wanted_at 4 x = Some (ReachesBack x)
-wanted_at 5 x = Some (First (AtLeast x))
-wanted_at 6 x = Some (First (AtMost x))
-wanted_at 7 x = Some (Last (AtLeast x))
-wanted_at 8 x = Some (Last (AtMost x))
-wanted_at _ x = None
+wanted_at number x =
+    slice_get (Least ∷ Greatest ∷ Best ∷ Reaches x ∷ ReachesBack x ∷ First (AtLeast x) ∷ First (AtMost x) ∷ Last (AtLeast x) ∷ Last (AtMost x) ∷ []) number
 
 abbrev pub kind_sought : Sought → Kind
 kind_sought Least = kinds.Least
