@@ -1,6 +1,6 @@
 //! A series as bytes, or samples, and back.
-ghost use Rattle.std.specs.Prelude.{◌≡◌, IfOk, None};
-ghost use Rattle.livevec_c.specs.SavedBehind.{EndsLoad, EndsLoadIn, EndsLoadOf, GivesBytes, GivesObject, IsNewLoader, LoadsOf, OpensLoader, SavesIn, saved_behind, saved_in, saved_length};
+ghost use Rattle.std.specs.Prelude.{◌≡◌, ◌%◌, IfOk, None};
+ghost use Rattle.livevec_c.specs.SavedBehind.{EndsLoad, EndsLoadIn, EndsLoadOf, GivesBytes, GivesObject, IsNewLoader, LoadsOf, OpensLoader, SavesFrom, SavesIn, saved_behind, saved_in, saved_length};
 
 use crate::jobs::refilled;
 use crate::objects::{Object, nothing};
@@ -60,11 +60,9 @@ pub extern "C" fn livevec_proved_series_saved_length(alloc: Global, slot: &mut S
 
 // A piece of the bytes of an object, from a place on that is a multiple of 8.
 fn save_of(object: &Object, from: u64, buffer: &mut [u8]) -> SeriesScanned
-    ensures { SavesIn (saved_in object.now) from result buffer.old buffer.new }
+    requires { from % 8 ≡ 0 }
+    ensures { SavesFrom (saved_in object.now) from result buffer.old buffer.new }
 {
-    if from % 8 != 0 {
-        return not_scanned(refusal_answer(LongRefusal::BadRange));
-    }
     let (edit, many) = match object {
         Object::Series(series) => (series.edits(), save(series, from, buffer)),
         Object::Samples(samples) => (
@@ -91,6 +89,9 @@ pub extern "C" fn livevec_proved_series_save(
     ensures answer { SavesIn (saved_behind slot.old.raw.inner) from result buffer.old buffer.new }
     ensures same { slot.new.raw.inner ≡ slot.old.raw.inner }
 {
+    if from % 8 != 0 {
+        return not_scanned(refusal_answer(LongRefusal::BadRange));
+    }
     match take(alloc, slot) {
         None => not_scanned(not_held()),
         Some(held) => {
