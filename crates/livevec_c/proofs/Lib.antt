@@ -5,6 +5,7 @@ pub mod BlockLaws
 pub mod ColumnAnswers
 pub mod ColumnFolds
 pub mod Empty
+pub mod FoundLaws
 pub mod HeldLaws
 pub mod KindAnswers
 pub mod KindVectorLaws

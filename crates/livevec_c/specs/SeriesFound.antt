@@ -1,5 +1,5 @@
 -- Where something stands in a range of a series, for C, by what lies behind a slot.
-use Rattle.std.specs.Prelude.{◌≡◌, ℕ, ℤ, pos, ◌+◌, ◌⊎◌, true, false, Option, Some, None}
+use Rattle.std.specs.Prelude.{◌≡◌, ℕ, pos, ◌+◌, ◌⊎◌, true, false, Option, Some, None}
 use Rattle.lv_series.specs.Places.{IsEndReachedIn, IsFirstIndexIn, IsLastIndexIn, IsPlaceOfBestIn, IsPlaceOfGreatestIn, IsPlaceOfLeastIn, IsStartReachedIn}
 use Rattle.lv_series.specs.Series.{Held, keeps_kind, range_refused, with_kind}
 use Rattle.lv_series.specs.declared.places.LongPlaced.{LongPlaced}

@@ -150,13 +150,10 @@ fn find_in(series: &Series, wanted: Wanted, lo: u64, hi: u64) -> SeriesFound
 fn find_held<H: HasSeries>(held: &mut H, wanted: Wanted, lo: u64, hi: u64) -> SeriesFound
     ensures { (state : Long) × (held.new ≡ H.with_series state held.old) × FindsSeries wanted lo hi result (H.series_of held.old) state }
 {
-    if let Some(refusal) = held.series().range_refusal(lo, hi) {
-        return not_found(refusal_answer(refusal));
+    match held.prepare_for(sought_by(wanted), lo, hi) {
+        Err(refusal) => not_found(refusal_answer(refusal)),
+        Ok(()) => find_in(held.series(), wanted, lo, hi),
     }
-    if let Err(refusal) = held.prepare(sought_by(wanted)) {
-        return not_found(refusal_answer(refusal));
-    }
-    find_in(held.series(), wanted, lo, hi)
 }
 
 // The same of an object.
