@@ -39,8 +39,8 @@ typedef struct livevec_window {
 /* Puts new samples into an empty slot: none yet. Refusals: NULL, IN_USE, NO_MEMORY. Who calls owes a livevec_free_samples. */
 LIVEVEC_MUST_USE uint32_t livevec_samples_new(livevec_samples *slot);
 
-/* Frees samples and empties their slot, also while they are loaded. Of a slot that holds something else it frees nothing.
- * Refusals: NULL, NO_HANDLE. */
+/* Frees samples and empties their slot, also while they are loaded; livevec_free_series at `&samples.values` does the same. Of a slot that
+ * holds neither samples nor a series it frees nothing. Refusals: NULL, NO_HANDLE. */
 uint32_t livevec_free_samples(livevec_samples *slot);
 
 /* Puts a sample at the end. `place` is its index. O(1) amortised, and O(1) joins for each kind that has a tree. Of EARLIER, `value` is the

@@ -83,7 +83,8 @@ typedef struct livevec_series_scanned {
 /* Puts a new series without elements into an empty slot. Refusals: NULL, IN_USE, NO_MEMORY. Who calls owes a livevec_free_series. */
 LIVEVEC_MUST_USE uint32_t livevec_series_new(livevec_series *slot);
 
-/* Frees a series and empties its slot. Of a slot that holds something else it frees nothing. Refusals: NULL, NO_HANDLE. */
+/* Frees a series and empties its slot, also while it is loaded; and samples, at `&samples.values`. Of a slot that holds something else it frees
+ * nothing. Refusals: NULL, NO_HANDLE. */
 uint32_t livevec_free_series(livevec_series *slot);
 
 /* Puts an element at the end. `place` is its index. O(1) amortised. Refusals: NULL, NO_HANDLE, WORN, FULL, NO_MEMORY. */

@@ -50,8 +50,8 @@ livevec_series_many livevec_samples_push_many(livevec_samples *slot, const int64
     if (!enter(&slot->values.busy_))
         return (livevec_series_many){.refusal = LIVEVEC_BUSY};
     LEAVES(left, (&slot->values));
-    series_counts counts = livevec_proved_series_counts(&slot->values);
-    livevec_series_many answer = {.refusal = counts.refusal, .edit = counts.edits};
+    livevec_window none = livevec_proved_samples_last(&slot->values, 0);
+    livevec_series_many answer = {.refusal = none.refusal, .edit = none.edit};
     for (; !answer.refusal && answer.done < length; answer.done++) {
         livevec_series_edited pushed = livevec_proved_samples_push(&slot->values, times[answer.done], values[answer.done]);
         if (pushed.refusal) {

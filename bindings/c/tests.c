@@ -269,6 +269,8 @@ static void words(void)
     IS(strcmp(livevec_refusal_text(LIVEVEC_EMPTY), "there is nothing to pop"), 0);
     IS(strcmp(livevec_refusal_text(LIVEVEC_BUSY), "another call is under way at the slot"), 0);
     IS(strcmp(livevec_refusal_text(LIVEVEC_BAD_KIND), "a number that is no kind, or a kind that the vector is not of"), 0);
+    IS(strcmp(livevec_refusal_text(LIVEVEC_EARLIER), "a time before that of the last sample"), 0);
+    IS(strcmp(livevec_refusal_text(LIVEVEC_NOT_SAVED), "bytes that are no saved series, or no saved samples"), 0);
     IS(strcmp(livevec_refusal_text(99), "unknown"), 0);
 }
 
@@ -294,6 +296,9 @@ int main(void)
     boards();
     series();
     series_kinds();
+    series_places();
+    samples();
+    saved();
     transcripts();
     printf("%d checks, %d failed\n", checks, failures);
     return failures ? EXIT_FAILURE : EXIT_SUCCESS;

@@ -46,6 +46,15 @@ void misuse_of_series(void);
 /* The tests of questions at a series by one kind, and of its columns. */
 void series_kinds(void);
 
+/* The tests of where in a range of a series something stands, or of the values of samples. */
+void series_places(void);
+
+/* The tests of samples and windows of time. */
+void samples(void);
+
+/* The tests of series and samples as bytes. */
+void saved(void);
+
 /* The tests of standing queries. */
 void queries(void);
 

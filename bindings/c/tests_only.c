@@ -1,5 +1,6 @@
 /* A vector of one kind: what it answers beside one of all six, and what it refuses. */
 #include "tests.h"
+#include "tests_places.h"
 #include "tests_plain.h"
 
 #include <string.h>
@@ -29,17 +30,12 @@ static livevec_scanned scan(livevec_vector *v, uint32_t kind, bool inclusive, ui
     }
 }
 
-/* The searches, each with the kind by which it is made. */
-static livevec_found search(livevec_vector *v, int which, uint32_t lo, uint32_t hi)
-{
-    switch (which) {
-    case 0: return livevec_where_least(v, lo, hi);
-    case 1: return livevec_where_greatest(v, lo, hi);
-    case 2: return livevec_where_best(v, lo, hi);
-    default: return livevec_where_reaches(v, lo, hi, 700);
-    }
-}
-static const uint32_t sought[] = {LIVEVEC_LEAST, LIVEVEC_GREATEST, LIVEVEC_BEST, LIVEVEC_BEST};
+/* The kinds by which the searches are made. */
+static const uint32_t sought[SEARCHES] = {
+    [LEAST] = LIVEVEC_LEAST,       [GREATEST] = LIVEVEC_GREATEST,      [BEST] = LIVEVEC_BEST,
+    [REACHES] = LIVEVEC_BEST,      [REACHES_BACK] = LIVEVEC_BEST,      [FIRST_AT_LEAST] = LIVEVEC_GREATEST,
+    [FIRST_AT_MOST] = LIVEVEC_LEAST, [LAST_AT_LEAST] = LIVEVEC_GREATEST, [LAST_AT_MOST] = LIVEVEC_LEAST,
+};
 
 /* What is asked of one kind and of all six alike, over a range. */
 static void answer_alike(livevec_vector *one, livevec_vector *six, uint32_t kind, uint32_t lo, uint32_t hi)
@@ -57,9 +53,9 @@ static void answer_alike(livevec_vector *one, livevec_vector *six, uint32_t kind
         IS(memcmp(&s, &t, sizeof s), 0);
         IS(memcmp(columns[0], columns[1], MOST * widths[kind]), 0);
     }
-    for (int which = 0; which < 4; which++) {
-        livevec_found f = search(one, which, lo, hi), g = search(six, which, lo, hi);
-        if (sought[which] != kind) {
+    for (wanted what = LEAST; what < SEARCHES; what++) {
+        livevec_found f = SEARCHED(livevec_where_, one, what, lo, hi, 700), g = SEARCHED(livevec_where_, six, what, lo, hi, 700);
+        if (sought[what] != kind) {
             IS(f.refusal, LIVEVEC_BAD_KIND);
             IS(f.detail + f.edit + f.lo + f.hi + f.found, 0);
             continue;
