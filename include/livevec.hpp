@@ -1,7 +1,7 @@
 /* livevec for C++17: livevec.h by move-only classes that free what they own. What a call refuses is thrown as livevec::refused, and nothing
  * has changed then. Header only; link what livevec.h links. The board and its seats stand in livevec_board.hpp, summaries that travel in
- * livevec_summary.hpp, cells of columns in livevec_columns.hpp, refresh and jobs in livevec_jobs.hpp, the series in livevec_series.hpp, standing
- * queries in livevec_queries.hpp, a vector that threads share in livevec_shared.hpp, transcripts in livevec_transcripts.hpp, and what all
+ * livevec_summary.hpp, cells of columns in livevec_columns.hpp, refresh and jobs in livevec_jobs.hpp, the series in livevec_series.hpp, samples in
+ * livevec_samples.hpp, how both are loaded in livevec_loading.hpp, standing queries in livevec_queries.hpp, a vector that threads share in livevec_shared.hpp, transcripts in livevec_transcripts.hpp, and what all
  * classes share in livevec_base.hpp; this header brings them all.
  *
  * An object serves one call at a time: a call beside another at the same object is refused with LIVEVEC_BUSY. Put a mutex round it where
@@ -22,6 +22,7 @@
 #include "livevec_columns.hpp"
 #include "livevec_jobs.hpp"
 #include "livevec_places.hpp"
+#include "livevec_samples.hpp"
 #include "livevec_series.hpp"
 #include "livevec_summary.hpp"
 
@@ -202,25 +203,48 @@ class vector : public inner::with_jobs {
     }
 
     /* Where in a range the first of the least elements stands, and the first of the greatest. */
-    [[nodiscard]] std::optional<placed> where_least(std::uint32_t lo, std::uint32_t hi) const { return inner::element(livevec_where_least(slot(), lo, hi)); }
+    [[nodiscard]] std::optional<placed> where_least(std::uint32_t lo, std::uint32_t hi) const
+    {
+        return inner::element<placed>(inner::checked(livevec_where_least(slot(), lo, hi)));
+    }
     [[nodiscard]] std::optional<placed> where_greatest(std::uint32_t lo, std::uint32_t hi) const
     {
-        return inner::element(livevec_where_greatest(slot(), lo, hi));
+        return inner::element<placed>(inner::checked(livevec_where_greatest(slot(), lo, hi)));
     }
 
     /* Where the best run stands: of several the one that ends first, and of those the shortest. */
     [[nodiscard]] std::optional<best_run> where_best(std::uint32_t lo, std::uint32_t hi) const
     {
-        const livevec_found told = inner::checked(livevec_where_best(slot(), lo, hi));
-        const int128 sum = int128(told.sum_high) * (int128(1) << 64) + told.sum_low;
-        return told.found ? std::optional<best_run>(best_run{told.lo, told.hi, sum}) : std::nullopt;
+        return inner::run<best_run>(inner::checked(livevec_where_best(slot(), lo, hi)));
     }
 
-    /* The least end, from lo to hi, up to which the elements from lo on add up to `sum` or more. No sum wraps. */
+    /* The least end, from lo to hi, up to which the elements from lo on add up to `sum` or more; the greatest start from which on those up
+     * to hi do. No sum wraps. */
     [[nodiscard]] std::optional<std::uint32_t> where_reaches(std::uint32_t lo, std::uint32_t hi, std::int64_t sum) const
     {
-        const livevec_found told = inner::checked(livevec_where_reaches(slot(), lo, hi, sum));
-        return told.found ? std::optional<std::uint32_t>(told.hi) : std::nullopt;
+        return inner::one_end(inner::checked(livevec_where_reaches(slot(), lo, hi, sum)), &livevec_found::hi);
+    }
+    [[nodiscard]] std::optional<std::uint32_t> where_reaches_back(std::uint32_t lo, std::uint32_t hi, std::int64_t sum) const
+    {
+        return inner::one_end(inner::checked(livevec_where_reaches_back(slot(), lo, hi, sum)), &livevec_found::lo);
+    }
+
+    /* The index of the first element of a range, and of the last, that is at least, or at most, a bound. */
+    [[nodiscard]] std::optional<std::uint32_t> where_first_at_least(std::uint32_t lo, std::uint32_t hi, std::int64_t bound) const
+    {
+        return inner::one_end(inner::checked(livevec_where_first_at_least(slot(), lo, hi, bound)), &livevec_found::lo);
+    }
+    [[nodiscard]] std::optional<std::uint32_t> where_first_at_most(std::uint32_t lo, std::uint32_t hi, std::int64_t bound) const
+    {
+        return inner::one_end(inner::checked(livevec_where_first_at_most(slot(), lo, hi, bound)), &livevec_found::lo);
+    }
+    [[nodiscard]] std::optional<std::uint32_t> where_last_at_least(std::uint32_t lo, std::uint32_t hi, std::int64_t bound) const
+    {
+        return inner::one_end(inner::checked(livevec_where_last_at_least(slot(), lo, hi, bound)), &livevec_found::lo);
+    }
+    [[nodiscard]] std::optional<std::uint32_t> where_last_at_most(std::uint32_t lo, std::uint32_t hi, std::int64_t bound) const
+    {
+        return inner::one_end(inner::checked(livevec_where_last_at_most(slot(), lo, hi, bound)), &livevec_found::lo);
     }
 
     /* The summary of a range, which holds nothing of the vector and may travel. */

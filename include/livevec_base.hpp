@@ -45,7 +45,8 @@ class stopped : public refused {
     std::uint32_t pushed_;
 };
 
-/* Why many writes or questions were refused: which one it was, counted from 0. None was made, so that `done` is 0. */
+/* Why many writes or questions were refused: which one it was, counted from 0. None was made, so that `done` is 0; of samples that are pushed,
+ * `done` were. */
 class refused_at : public refused {
   public:
     explicit refused_at(const livevec_many &many) : refused(many.refusal, many.detail), place_(many.place), done_(many.done) {}

@@ -38,13 +38,13 @@ using series_range_view = view<const livevec_series_range>;
 
 namespace inner {
 
-/* The edit of many writes or questions, none of which was refused. */
+/* The edit of many writes, pushes of samples or questions, none of which was refused. */
 inline std::uint64_t each_of_series(const livevec_series_many &many)
 {
     if (many.refusal == LIVEVEC_OUT_OF_RANGE)
         throw not_kept_at(many);
     if (many.refusal)
-        throw refused_at(livevec_many{many.refusal, 0, 0, 0, many.place});
+        throw refused_at(livevec_many{many.refusal, 0, 0, many.done, many.place});
     return many.edit;
 }
 

@@ -23,7 +23,8 @@ template <class Owner> constexpr bool is_moved_alone =
     !std::is_copy_constructible_v<Owner> && !std::is_copy_assignable_v<Owner> && std::is_nothrow_move_constructible_v<Owner> &&
     std::is_nothrow_move_assignable_v<Owner>;
 static_assert(is_moved_alone<livevec::vector> && is_moved_alone<livevec::job> && is_moved_alone<livevec::outcome>);
-static_assert(is_moved_alone<livevec::queries> && is_moved_alone<livevec::series>);
+static_assert(is_moved_alone<livevec::queries> && is_moved_alone<livevec::series> && is_moved_alone<livevec::samples>);
+static_assert(is_moved_alone<livevec::loading<livevec::series>> && is_moved_alone<livevec::loading<livevec::samples>>);
 static_assert(is_moved_alone<livevec::board> && is_moved_alone<livevec::seat> && is_moved_alone<livevec::closed>);
 
 static void goes_in_and_comes_out()
@@ -209,6 +210,8 @@ int main()
     queries();
     series();
     series_kinds();
+    places();
+    samples();
     transcripts();
     boards();
 

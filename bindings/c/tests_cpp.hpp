@@ -45,6 +45,8 @@ template <class Call> void until(Call is_so)
 void boards();
 void series();
 void series_kinds();
+void places();
+void samples();
 void transcripts();
 void queries();
 void nothing_is_lost();
