@@ -5,6 +5,7 @@
 //!
 //! A [`Vector`] is one thread's at a time. A [`Board`] is for several at once, without a lock, of elements of 16 bits.
 //! A [`Series`] goes on: its elements and edits are bounded by memory alone, and its front may expire.
+//! [`Samples`] are such values with times, for windows of time.
 //! [`Queries`] are names for questions, and tell which answers have changed.
 //! A [`Shared`] vector is for several threads, by a lock; it has workers, and subscribers to such answers.
 //! A [`Summary`] is what a list comes to, as bytes that travel between processes and machines, and are joined there.
@@ -40,10 +41,13 @@ mod questions;
 #[allow(unsafe_code)]
 mod raw;
 mod refusal;
+mod samples;
 mod scans;
 pub mod series;
 mod series_edits;
 mod series_kinds;
+mod series_places;
+mod series_saved;
 mod series_scans;
 mod shared;
 mod shared_lock;
@@ -70,6 +74,7 @@ pub use limits::Limits;
 pub use places::{BestRun, Placed};
 pub use queries::{Answered, Note, Queries};
 pub use refusal::Refusal;
+pub use samples::{Sample, Samples};
 pub use scans::{Beginnings, Scan};
 pub use series::Series;
 pub use shared::Shared;

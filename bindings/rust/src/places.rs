@@ -3,8 +3,9 @@
 use std::ops::Range;
 
 use crate::indices::Indices;
+use crate::raw::Sought;
 use crate::values::ends;
-use crate::{Refusal, Vector, raw};
+use crate::{Refusal, Vector};
 
 /// An element, and the index at which it stands.
 #[derive(Debug, Clone, Copy, PartialEq, Eq, Hash)]
@@ -38,23 +39,22 @@ impl Vector {
     /// ```
     pub fn where_least(&self, range: impl Indices) -> Result<Option<Placed>, Refusal> {
         let (lo, hi) = ends(range, || self.len());
-        Ok(self.raw.where_least(lo, hi)?.map(|found| Placed { index: found.lo, value: found.value }))
+        Ok(self.raw.find(Sought::Least, lo, hi)?.map(|found| Placed { index: found.lo, value: found.value }))
     }
 
     /// The first of the greatest elements, and where it stands; none of an empty range. Keeps what it computes and is refused as
     /// [`value`](Vector::value).
     pub fn where_greatest(&self, range: impl Indices) -> Result<Option<Placed>, Refusal> {
         let (lo, hi) = ends(range, || self.len());
-        Ok(self.raw.where_greatest(lo, hi)?.map(|found| Placed { index: found.lo, value: found.value }))
+        Ok(self.raw.find(Sought::Greatest, lo, hi)?.map(|found| Placed { index: found.lo, value: found.value }))
     }
 
     /// Where the best run stands: of several the one that ends first, and of those the shortest. There is none of an empty range. Keeps
     /// what it computes and is refused as [`value`](Vector::value).
     pub fn where_best(&self, range: impl Indices) -> Result<Option<BestRun>, Refusal> {
         let (lo, hi) = ends(range, || self.len());
-        let told = self.raw.where_best(lo, hi)?;
-        let sum = |found: &raw::Found| (i128::from(found.sum_high) << 64) + i128::from(found.sum_low);
-        Ok(told.map(|found| BestRun { range: found.lo..found.hi, sum: sum(&found) }))
+        let told = self.raw.find(Sought::Best, lo, hi)?;
+        Ok(told.map(|found| BestRun { range: found.lo..found.hi, sum: total(found.sum_high, found.sum_low) }))
     }
 
     /// The least end up to which the elements of a range, from its start on, add up to `sum` or more; none where the whole range doesn't
@@ -69,6 +69,59 @@ impl Vector {
     /// ```
     pub fn where_reaches(&self, range: impl Indices, sum: i64) -> Result<Option<u32>, Refusal> {
         let (lo, hi) = ends(range, || self.len());
-        Ok(self.raw.where_reaches(lo, hi, sum)?.map(|found| found.hi))
+        Ok(self.raw.find(Sought::Reaches(sum), lo, hi)?.map(|found| found.hi))
     }
+
+    /// The greatest start from which on the elements of a range, up to its end, add up to `sum` or more; none where they do from no start.
+    /// Else as [`where_reaches`](Vector::where_reaches).
+    ///
+    /// ```
+    /// # fn main() -> Result<(), livevec::Refusal> {
+    /// let filled = livevec::Vector::try_from(&[30, 10, 50, 20][..])?;
+    /// assert_eq!(filled.where_reaches_back(.., 41)?, Some(2));
+    /// # Ok(())
+    /// # }
+    /// ```
+    pub fn where_reaches_back(&self, range: impl Indices, sum: i64) -> Result<Option<u32>, Refusal> {
+        self.index_of(Sought::ReachesBack(sum), range)
+    }
+
+    /// The index of the first element of a range that is at least `bound`; none where no element is. Keeps what it computes and is refused as
+    /// [`value`](Vector::value).
+    ///
+    /// ```
+    /// # fn main() -> Result<(), livevec::Refusal> {
+    /// let prices = livevec::Vector::try_from(&[300, 120, 500, 120][..])?;
+    /// assert_eq!((prices.where_first_at_least(1.., 200)?, prices.where_last_at_most(.., 200)?), (Some(2), Some(3)));
+    /// # Ok(())
+    /// # }
+    /// ```
+    pub fn where_first_at_least(&self, range: impl Indices, bound: i64) -> Result<Option<u32>, Refusal> {
+        self.index_of(Sought::FirstAtLeast(bound), range)
+    }
+
+    /// The same of the first element that is at most `bound`.
+    pub fn where_first_at_most(&self, range: impl Indices, bound: i64) -> Result<Option<u32>, Refusal> {
+        self.index_of(Sought::FirstAtMost(bound), range)
+    }
+
+    /// The same of the last element that is at least `bound`.
+    pub fn where_last_at_least(&self, range: impl Indices, bound: i64) -> Result<Option<u32>, Refusal> {
+        self.index_of(Sought::LastAtLeast(bound), range)
+    }
+
+    /// The same of the last element that is at most `bound`.
+    pub fn where_last_at_most(&self, range: impl Indices, bound: i64) -> Result<Option<u32>, Refusal> {
+        self.index_of(Sought::LastAtMost(bound), range)
+    }
+
+    fn index_of(&self, what: Sought, range: impl Indices) -> Result<Option<u32>, Refusal> {
+        let (lo, hi) = ends(range, || self.len());
+        Ok(self.raw.find(what, lo, hi)?.map(|found| found.lo))
+    }
+}
+
+/// The sum of a run, of its two halves.
+pub(crate) fn total(high: i64, low: u64) -> i128 {
+    (i128::from(high) << 64) + i128::from(low)
 }

@@ -72,6 +72,13 @@ pub enum Refusal {
         /// The number of that edit.
         edit: u32,
     },
+    /// 21: a sample's time is before that of the last sample.
+    Earlier {
+        /// The time of the last sample.
+        newest: i64,
+    },
+    /// 22: bytes that no saved series, or samples, have: they were changed, or are too few or too many.
+    NotSaved,
     /// 103: a buffer shorter than what it should take, or not as many values as there are indices.
     ShortBuffer {
         /// How many values it should take, or there should be.
@@ -126,6 +133,7 @@ impl Refusal {
             16 => Refusal::TooWide,
             17 => Refusal::Contended { edit: detail },
             18 => Refusal::Overtaken { edit: detail },
+            22 => Refusal::NotSaved,
             103 => Refusal::ShortBuffer { wanted: detail },
             105 => Refusal::NoSeat,
             106 => Refusal::SeatsOut,
@@ -161,6 +169,8 @@ impl Refusal {
             Refusal::TooWide => 16,
             Refusal::Contended { .. } => 17,
             Refusal::Overtaken { .. } => 18,
+            Refusal::Earlier { .. } => 21,
+            Refusal::NotSaved => 22,
             Refusal::ShortBuffer { .. } => 103,
             Refusal::NoSeat => 105,
             Refusal::SeatsOut => 106,
@@ -217,6 +227,8 @@ impl fmt::Display for Refusal {
             Refusal::TooWide => f.write_str("an element of a board outside -32768 to 32767"),
             Refusal::Contended { edit } => write!(f, "contended: edit {edit} came first"),
             Refusal::Overtaken { edit } => write!(f, "overtaken: edit {edit} wrote there"),
+            Refusal::Earlier { newest } => write!(f, "earlier than the last sample, whose time is {newest}"),
+            Refusal::NotSaved => f.write_str("bytes that are no saved series, or no saved samples"),
             Refusal::NoSeat => f.write_str("no seat is left"),
             Refusal::SeatsOut => f.write_str("seats are out"),
             Refusal::Busy => f.write_str("another call is under way"),

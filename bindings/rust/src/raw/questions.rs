@@ -28,12 +28,18 @@ pub(crate) struct Found {
     found: bool,
 }
 
-impl Found {
-    /// What there is, where it wasn't refused.
-    fn answered(self) -> Result<Option<Found>, Refusal> {
-        let (refusal, detail) = (self.refusal, self.detail);
-        answered(refusal, detail, self.found.then_some(self))
-    }
+/// What a search looks for, with the number that it compares with.
+#[derive(Clone, Copy)]
+pub(crate) enum Sought {
+    Least,
+    Greatest,
+    Best,
+    Reaches(i64),
+    ReachesBack(i64),
+    FirstAtLeast(i64),
+    FirstAtMost(i64),
+    LastAtLeast(i64),
+    LastAtMost(i64),
 }
 
 unsafe extern "C" {
@@ -43,6 +49,11 @@ unsafe extern "C" {
     fn livevec_where_greatest(slot: *mut Slot, lo: u32, hi: u32) -> Found;
     fn livevec_where_best(slot: *mut Slot, lo: u32, hi: u32) -> Found;
     fn livevec_where_reaches(slot: *mut Slot, lo: u32, hi: u32, sum: i64) -> Found;
+    fn livevec_where_reaches_back(slot: *mut Slot, lo: u32, hi: u32, sum: i64) -> Found;
+    fn livevec_where_first_at_least(slot: *mut Slot, lo: u32, hi: u32, bound: i64) -> Found;
+    fn livevec_where_first_at_most(slot: *mut Slot, lo: u32, hi: u32, bound: i64) -> Found;
+    fn livevec_where_last_at_least(slot: *mut Slot, lo: u32, hi: u32, bound: i64) -> Found;
+    fn livevec_where_last_at_most(slot: *mut Slot, lo: u32, hi: u32, bound: i64) -> Found;
     fn livevec_value(slot: *mut Slot, kind: u32, lo: u32, hi: u32) -> Reduced;
     fn livevec_value_many(slot: *mut Slot, kind: u32, ranges: *const Ends, answers: *mut SixValues, length: usize) -> Many;
     fn livevec_summary_of(slot: *mut Slot, lo: u32, hi: u32) -> Summarised;
@@ -67,24 +78,24 @@ impl Vector {
         answered(did.refusal, did.detail, did)
     }
 
-    pub(crate) fn where_least(&self, lo: u32, hi: u32) -> Result<Option<Found>, Refusal> {
+    /// Where something stands in a range, if it does.
+    pub(crate) fn find(&self, what: Sought, lo: u32, hi: u32) -> Result<Option<Found>, Refusal> {
+        let slot = self.slot.get();
         // SAFETY: see above.
-        unsafe { livevec_where_least(self.slot.get(), lo, hi) }.answered()
-    }
-
-    pub(crate) fn where_greatest(&self, lo: u32, hi: u32) -> Result<Option<Found>, Refusal> {
-        // SAFETY: see above.
-        unsafe { livevec_where_greatest(self.slot.get(), lo, hi) }.answered()
-    }
-
-    pub(crate) fn where_best(&self, lo: u32, hi: u32) -> Result<Option<Found>, Refusal> {
-        // SAFETY: see above.
-        unsafe { livevec_where_best(self.slot.get(), lo, hi) }.answered()
-    }
-
-    pub(crate) fn where_reaches(&self, lo: u32, hi: u32, sum: i64) -> Result<Option<Found>, Refusal> {
-        // SAFETY: see above.
-        unsafe { livevec_where_reaches(self.slot.get(), lo, hi, sum) }.answered()
+        let told = unsafe {
+            match what {
+                Sought::Least => livevec_where_least(slot, lo, hi),
+                Sought::Greatest => livevec_where_greatest(slot, lo, hi),
+                Sought::Best => livevec_where_best(slot, lo, hi),
+                Sought::Reaches(sum) => livevec_where_reaches(slot, lo, hi, sum),
+                Sought::ReachesBack(sum) => livevec_where_reaches_back(slot, lo, hi, sum),
+                Sought::FirstAtLeast(bound) => livevec_where_first_at_least(slot, lo, hi, bound),
+                Sought::FirstAtMost(bound) => livevec_where_first_at_most(slot, lo, hi, bound),
+                Sought::LastAtLeast(bound) => livevec_where_last_at_least(slot, lo, hi, bound),
+                Sought::LastAtMost(bound) => livevec_where_last_at_most(slot, lo, hi, bound),
+            }
+        };
+        answered(told.refusal, told.detail, told.found.then_some(told))
     }
 
     /// The values of each range by a kind.

@@ -1,12 +1,17 @@
 //! The C calls of a series, and a handle over them. What C asks of who calls is kept as `raw.rs` says.
 
 mod kinds;
+mod places;
+mod samples;
+mod saved;
 
 use std::cell::UnsafeCell;
 
 use super::{SixValues, Slot, boxed};
 use crate::Refusal;
 pub(crate) use kinds::Ends;
+pub(crate) use places::Found;
+pub(crate) use saved::Loading;
 
 #[repr(C)]
 pub(crate) struct Edited {

@@ -15,17 +15,17 @@ pub(crate) struct Ends {
 }
 
 #[repr(C)]
-struct Many {
-    refusal: u32,
+pub(super) struct Many {
+    pub(super) refusal: u32,
     first: u64,
     size: u64,
     edit: u64,
-    done: usize,
-    place: usize,
+    pub(super) done: usize,
+    pub(super) place: usize,
 }
 
 impl Many {
-    fn answered(self) -> Result<u64, RefusedAt> {
+    pub(super) fn answered(self) -> Result<u64, RefusedAt> {
         let Many { refusal, first, size, edit, done, place } = self;
         answered(refusal, first, size, edit).map_err(|refusal| RefusedAt { place, done, refusal })
     }
