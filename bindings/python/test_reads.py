@@ -74,33 +74,6 @@ class Reads(unittest.TestCase):
         most, least = 2**63 - 1, -(2**63)
         self.assertEqual((Vector([most, most, least]).best(), Vector([least, least]).best()), (2 * most, least))
 
-    def test_where_something_stands_is_as_plain_loops_find_it(self):
-        draw, v, xs = random.Random(5), Vector(), []
-        for at in range(150):
-            xs.append(draw.randrange(-4, 5))
-            v.push(xs[-1])
-            changed = draw.randrange(len(xs))
-            xs[changed] = draw.randrange(-4, 5)
-            v[changed] = xs[changed]
-            for _ in range(6):
-                lo, hi = sorted((draw.randrange(at + 2), draw.randrange(at + 2)))
-                wanted = draw.randrange(-3, 30)
-                runs = [(sum(xs[start:end]), -end, start) for start in range(lo, hi) for end in range(start + 1, hi + 1)]
-                total, end, start = max(runs, default=(0, 0, 0))
-                self.assertEqual(v.where_least(lo, hi), min(((i, xs[i]) for i in range(lo, hi)), key=lambda it: it[1], default=None))
-                self.assertEqual(v.where_greatest(lo, hi), max(((i, xs[i]) for i in range(lo, hi)), key=lambda it: it[1], default=None))
-                self.assertEqual(v.where_best(lo, hi), (start, -end, total) if runs else None)
-                self.assertEqual(v.where_reaches(wanted, lo, hi), next((end for end in range(lo, hi + 1) if sum(xs[lo:end]) >= wanted), None))
-
-    def test_where_a_sum_is_reached_is_exact_past_64_bits(self):
-        most, least = 2**63 - 1, -(2**63)
-        v = Vector([most, most, least])
-        self.assertEqual((v.where_best(), v.where_reaches(most), v.where_reaches(least, 2), v.where_reaches(1, 2)), ((0, 2, 2 * most), 1, 2, None))
-        self.assertRaises(OverflowError, v.where_reaches, 2**63)
-        for call in (v.where_least, v.where_greatest, v.where_best, lambda lo, hi: v.where_reaches(0, lo, hi)):
-            self.assertRaises(livevec.OutOfRange, call, 0, 4)
-            self.assertRaises(livevec.BadRange, call, 2, 1)
-
     def test_sums_are_exact_within_64_bits_and_wrap_past_them(self):
         most, least = 2**63 - 1, -(2**63)
         for elements, wanted in [([most, 1], least), ([least, -1], most), ([most, most], -2), ([most, 1, -1], most), ([least, least], 0)]:

@@ -7,7 +7,7 @@ from array import array
 from typing import Optional, Union
 
 from livevec import Answered, Board, Column, Delivered, Finished, Job, Kind, LongReduced, NotKept, Note, Outrun, Queries, Receipt, Reduced
-from livevec import Refusal, Scan, Seat, Series, SharedVector, Subscriber, Summary, Values, Vector
+from livevec import BestRun, Placed, Refusal, Sample, Samples, Scan, Seat, Series, SharedVector, Subscriber, Summary, Values, Vector, Window
 
 
 class Prices(Vector):
@@ -85,6 +85,37 @@ def series_by_one_kind(readings: Series, room: array[int]) -> int:
     took: int = readings.scan_inclusive_into("least", room, at=7) + readings.scan_exclusive_into("least", room, 1, 2)
     print(one, many, cells)
     return column.edit + took
+
+
+def places(prices: Vector, readings: Series) -> Optional[int]:
+    least: Optional[Placed] = readings.where_least(2)
+    run: Optional[BestRun] = readings.where_best(0, 9)
+    found: Optional[int] = readings.where_first_at_least(7) or prices.where_last_at_most(7, 0, 9)
+    readings.where_reaches()  # type: ignore[call-arg]
+    prices.where_reaches_back("7")  # type: ignore[arg-type]
+    print(least, run)
+    return found or readings.where_reaches_back(7, 0, 9)
+
+
+class Load(Samples):
+    pass
+
+
+def samples(saved: bytes, every: array[int]) -> Load:
+    back: Load = Load.load(saved)
+    window: Window = back.between(0, 60)
+    total: int = back.sum(*window) + back.push(60, 7) + back.times_into(every)
+    one: Sample = back.sample(window.lo)
+    value: Union[int, None, tuple[int, ...]] = back.value_of_last("greatest", one.time)
+    back.push_many(back.times(), every)
+    again: bytes = Load.load_pieces([saved[:8], bytearray(saved[8:])]).save()
+    took: int = back.save_into(bytearray(64), 8) + back.saved_length
+    back.push(60)  # type: ignore[call-arg]
+    back.between("0", 60)  # type: ignore[arg-type]
+    back.extend([7])  # type: ignore[attr-defined]
+    Series.load("livevec:")  # type: ignore[arg-type]
+    print(total, value, again, took)
+    return back
 
 
 def wrong_series_by_one_kind(readings: Series) -> None:

@@ -26,17 +26,19 @@ from __future__ import annotations
 
 from ._blocks import Batch, Subtree, Taken
 from ._board import Board, Finished, Refreshed, Seat, Told
+from ._by_index import LongReduced
 from ._jobs import Became, Delivered, Job, Node, Outcome
 from ._kinds import Kind
 from ._limits import MOST_BOARD_BUCKETS, MOST_BUCKETS, MOST_EDITS, MOST_QUERIES, MOST_SEATS, SUMMARY_BYTES
 from ._queries import Answered, Note, Queries
 from ._refusals import (
-    BadKind, BadLimits, BadName, BadRange, BadTable, Busy, Closed, Contended, Damaged, Empty, Full, NameTaken, NoFront, NoMemory, NoSeat, NoSuchName,
-    NotInOrder, NotKept, OtherTable, OtherVersion, OutOfRange, Outrun, Overtaken, Refusal, SeatsOut, ShortBuffer, Stranger, TooLarge, TooLong,
-    TooMany, TooWide, Worn,
+    BadKind, BadLimits, BadName, BadRange, BadTable, Busy, Closed, Contended, Damaged, Earlier, Empty, Full, NameTaken, NoFront, NoMemory, NoSeat,
+    NoSuchName, NotInOrder, NotKept, NotSaved, OtherTable, OtherVersion, OutOfRange, Outrun, Overtaken, Refusal, SeatsOut, ShortBuffer, Stranger,
+    TooLarge, TooLong, TooMany, TooWide, Worn,
 )
+from ._samples import Sample, Samples, Window
 from ._scans import Column, Scan
-from ._series import LongReduced, Series
+from ._series import Series
 from ._shared import SharedVector
 from ._shared_edits import Receipt
 from ._subscribers import Subscriber
@@ -52,7 +54,7 @@ __all__ = [
     "SharedVector", "Subscriber", "Receipt",
     "Refusal", "Worn", "Empty", "OutOfRange", "TooLarge", "Full", "NoMemory", "BadRange", "BadLimits", "BadTable", "Stranger", "Closed",
     "ShortBuffer", "TooWide", "Outrun", "Contended", "Overtaken", "NoSeat", "SeatsOut", "Busy", "OtherVersion", "Damaged", "OtherTable", "TooLong",
-    "Series", "LongReduced", "NotKept",
+    "Series", "LongReduced", "NotKept", "Samples", "Sample", "Window", "Earlier", "NotSaved",
     "BadKind", "NameTaken", "NoSuchName", "TooMany", "BadName",
     "journal", "transcript", "audit", "audit_front", "restore", "JournalEdit", "Recorded", "Verdict", "NotInOrder", "NoFront",
     "MOST_BUCKETS", "MOST_EDITS", "MOST_BOARD_BUCKETS", "MOST_SEATS", "SUMMARY_BYTES", "MOST_QUERIES",

@@ -11,4 +11,4 @@ SUMMARY_BYTES = 184
 MOST_QUERIES = 64
 """So many standing queries has a set at most."""
 
-_LEAST_I64, _MOST_I64, _MOST_U32 = -(1 << 63), (1 << 63) - 1, (1 << 32) - 1
+_LEAST_I64, _MOST_I64, _MOST_U32, _MOST_U64 = -(1 << 63), (1 << 63) - 1, (1 << 32) - 1, (1 << 64) - 1

@@ -3,7 +3,7 @@ from __future__ import annotations
 
 import operator
 
-from ._limits import _LEAST_I64, _MOST_I64, _MOST_U32
+from ._limits import _LEAST_I64, _MOST_I64, _MOST_U32, _MOST_U64
 
 
 def _as_u32(number: int, what: str) -> int:
@@ -14,12 +14,20 @@ def _as_u32(number: int, what: str) -> int:
     return number
 
 
-def _as_i64(value: int) -> int:
-    """An element that C can be given as an int64_t."""
+def _as_i64(value: int, what: str = "the element") -> int:
+    """An element, or what it is, that C can be given as an int64_t."""
     value = operator.index(value)
     if not _LEAST_I64 <= value <= _MOST_I64:
-        raise OverflowError(f"the element {value} does not fit 64 bits")
+        raise OverflowError(f"{what} {value} does not fit 64 bits")
     return value
+
+
+def _as_u64(number: int, what: str) -> int:
+    """A number that C can be given as a uint64_t."""
+    number = operator.index(number)
+    if not 0 <= number <= _MOST_U64:
+        raise OverflowError(f"{what} {number} is outside 0 to {_MOST_U64}")
+    return number
 
 
 def _as_short(value: int) -> int:

@@ -5,7 +5,10 @@ import ctypes
 from typing import Callable, Iterable, Optional, Sequence, Union
 
 from ._buffers import _address
-from ._calls import _ask, _reduce, _summary_of, _value, _value_many, _where_best, _where_greatest, _where_least, _where_reaches
+from ._calls import (
+    _ask, _reduce, _summary_of, _value, _value_many, _where_best, _where_first_at_least, _where_first_at_most, _where_greatest, _where_last_at_least,
+    _where_last_at_most, _where_least, _where_reaches, _where_reaches_back,
+)
 from ._elements import _Elements
 from ._kinds import Kind, _kind_of
 from ._numbers import _as_i64
@@ -98,8 +101,31 @@ class _Questions(_Elements):
         """The least end, from `lo` to `hi`, up to which the elements from `lo` on add up to `sum` or more; None where at no end they do.
 
         Elements may be negative, and no sum wraps. Raises BadRange, then OutOfRange; OverflowError of a sum that doesn't fit 64 bits."""
-        found = self._located(_where_reaches, *self._range(lo, hi), _as_i64(sum))
+        found = self._located(_where_reaches, *self._range(lo, hi), _as_i64(sum, "the sum"))
         return found.hi if found else None
+
+    def where_reaches_back(self, sum: int, lo: int = 0, hi: Optional[int] = None) -> Optional[int]:
+        """The greatest start, from `hi` down to `lo`, from which on the elements up to `hi` do; None where from no start they do. Else as
+        `where_reaches`."""
+        return self._index_of(_where_reaches_back, sum, lo, hi)
+
+    def where_first_at_least(self, bound: int, lo: int = 0, hi: Optional[int] = None) -> Optional[int]:
+        """The index of the first element of a range that is at least `bound`; None where no element is.
+
+        Raises BadRange, then OutOfRange; OverflowError of a bound that doesn't fit 64 bits."""
+        return self._index_of(_where_first_at_least, bound, lo, hi)
+
+    def where_first_at_most(self, bound: int, lo: int = 0, hi: Optional[int] = None) -> Optional[int]:
+        """The same of the first element that is at most `bound`."""
+        return self._index_of(_where_first_at_most, bound, lo, hi)
+
+    def where_last_at_least(self, bound: int, lo: int = 0, hi: Optional[int] = None) -> Optional[int]:
+        """The same of the last element that is at least `bound`."""
+        return self._index_of(_where_last_at_least, bound, lo, hi)
+
+    def where_last_at_most(self, bound: int, lo: int = 0, hi: Optional[int] = None) -> Optional[int]:
+        """The same of the last element that is at most `bound`."""
+        return self._index_of(_where_last_at_most, bound, lo, hi)
 
     def summary(self, lo: int = 0, hi: Optional[int] = None) -> Summary:
         """What the elements of a range come to after the last edit, as bytes that travel. Raises BadRange, then OutOfRange."""
@@ -112,6 +138,10 @@ class _Questions(_Elements):
         if did.refusal:
             raise _refuse(did.refusal, did.detail)
         return did.values
+
+    def _index_of(self, call: Callable[..., _Found], number: int, lo: int, hi: Optional[int]) -> Optional[int]:
+        found = self._located(call, *self._range(lo, hi), _as_i64(number, "the number"))
+        return found.lo if found else None
 
     def _located(self, call: Callable[..., _Found], *arguments: int) -> Optional[_Found]:
         did = call(self._at, *arguments)

@@ -12,8 +12,8 @@ class Refusal(Exception):
 
     `number` is the number that the library's rules give it. `detail` is the size of an OutOfRange, the limit of a TooLarge, the wanted length
     of a ShortBuffer and the other edit of an Outrun, else 0.
-    `pushed` is how many elements were taken by the `extend`, or written by the `write_many`, that was refused: none. `place` is which of
-    many writes or questions was refused, counted from 0.
+    `pushed` is how many elements were taken by the `extend`, or written by the `write_many`, that was refused: none; or how many samples by the
+    `push_many`. `place` is which of many writes, pushes or questions was refused, counted from 0.
     """
 
     number: int = 0
@@ -109,6 +109,12 @@ class Overtaken(Outrun):
     """A later edit wrote where the call read. `detail` is its number."""
 
     number, says = 18, "overtaken: edit {detail} wrote there"
+
+
+class NotSaved(Refusal, ValueError):
+    """Bytes that no saved series, or samples, have: they were changed, or are too few or too many."""
+
+    number, says = 22, "bytes that are no saved series, or no saved samples"
 
 
 class Closed(Refusal, ValueError):
@@ -225,9 +231,23 @@ class NotKept(Refusal, IndexError):
         return type(self), (self.first, self.size, self.place)
 
 
+class Earlier(Refusal, ValueError):
+    """A sample's time is before that of the last sample, which is `newest`."""
+
+    number, says = 21, "earlier than the last sample"
+
+    def __init__(self, newest: int = 0, pushed: int = 0, place: int = 0) -> None:
+        super().__init__(0, pushed, place)
+        self.args = (f"earlier than the last sample, whose time is {newest}",)
+        self.newest = newest
+
+    def __reduce__(self) -> tuple[Any, ...]:
+        return type(self), (self.newest, self.pushed, self.place)
+
+
 _REFUSALS = {it.number: it for it in (Worn, Empty, OutOfRange, TooLarge, Full, NoMemory, BadRange, BadLimits, BadTable, Stranger, TooWide, Contended,
                                       Overtaken, Closed, ShortBuffer, NoSeat, SeatsOut, Busy, OtherVersion, Damaged, OtherTable, TooLong, BadKind,
-                                      NameTaken, NoSuchName, TooMany, BadName, NotInOrder, NoFront)}
+                                      NameTaken, NoSuchName, TooMany, BadName, NotInOrder, NoFront, NotSaved)}
 
 
 def _refuse(number: int, detail: int = 0, pushed: int = 0, place: int = 0) -> Refusal:

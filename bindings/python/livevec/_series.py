@@ -1,40 +1,24 @@
-"""The series: a vector that goes on. The package's `Series` and `LongReduced` stand here."""
+"""The series: a vector that goes on. The package's `Series` stands here."""
 from __future__ import annotations
 
 import ctypes
-from array import array
-from typing import TYPE_CHECKING, Callable, Iterable, Iterator, NamedTuple, Optional, TypeVar, Union
+from typing import Iterable, TypeVar
 
-from ._buffers import _address, _as_buffer, _as_room
-from ._elements import _AT_ONCE
-from ._kinds import Kind
+from ._buffers import _address, _as_buffer
+from ._by_index import _ByIndex
+from ._library import _call, _u32
 from ._numbers import _as_i64
-from ._refusals import Busy, Closed, _refuse
-from ._scans import Scan
-from ._series_calls import (
-    _ask, _counted, _edits, _expire, _free, _get, _kept, _new, _pop, _push, _push_many, _read, _reduce, _scan_exclusive, _scan_inclusive, _SeriesEdited,
-    _SeriesReduced, _SeriesScanned, _SeriesSlot, _swap, _truncate, _write,
-)
-from ._series_kinds import _all_kept, _SeriesKinds, _write_many
-from ._structures import _Values
-from ._values import Values, _values_of
+from ._refusals import _refuse
+from ._series_calls import _new, _push, _push_many, _SeriesSlot, _slot, _swap
+from ._series_kinds import _all_kept, _write_many
 
-if TYPE_CHECKING:
-    from _typeshed import WriteableBuffer
-
-    from ._buffers import _NumpyArray
+_begin = _call("livevec_series_begin_load", _u32, _slot)
+_end = _call("livevec_series_end_load", _u32, _slot)
 
 _SomeSeries = TypeVar("_SomeSeries", bound="Series")
 
 
-class LongReduced(NamedTuple):
-    """The answer of a reduction of a series: the values of the range after the edit."""
-
-    edit: int
-    values: Values
-
-
-class Series(_SeriesKinds):
+class Series(_ByIndex):
     """A vector that goes on: its elements and edits are bounded by memory alone, and elements at its front may expire.
 
     Indices count from the first element that was ever pushed, and an element keeps its index for as long as it is kept: kept are those from `first`
@@ -46,12 +30,13 @@ class Series(_SeriesKinds):
     without `hi`; where no `lo` is given they start at `first`, and where no `hi` is given they go up to `size`. No index counts from the end. An answer
     equals the plain left fold of the range after the last edit, by all six kinds.
 
-    `elements` are pushed at the start. Raises NoMemory. The memory is given back by `close`, at the end of a `with`, or with the object. Threads are
-    as with a `Vector`; scans release the interpreter's lock.
+    `elements` are pushed at the start; `save` gives it as bytes, of which `Series.load` makes one again. Raises NoMemory. The memory is given back by
+    `close`, at the end of a `with`, or with the object. Threads are as with a `Vector`; scans, `save` and `load` release the interpreter's lock.
     """
 
-    __slots__ = ("_changes",)
-    _made_of = _SeriesSlot
+    __slots__ = ()
+    _made_of, _name = _SeriesSlot, "Series"
+    _begin_load, _end_load = _begin, _end
 
     def __init__(self, elements: Iterable[int] = ()) -> None:
         self._changes = 0
@@ -101,152 +86,6 @@ class Series(_SeriesKinds):
         self._changes += did.done
         _all_kept(did)
 
-    def pop(self) -> int:
-        """Drops the last element, and gives it. Raises Worn, Empty."""
-        return self._edited(_pop(self._at)).value
-
-    def write(self, index: int, value: int) -> int:
-        """Overwrites an element, and gives the one before. Raises Worn, NotKept."""
-        return self._edited(_write(self._at, self._index(index), _as_i64(value))).value
-
-    def __setitem__(self, index: int, value: int) -> None:
-        self.write(index, value)
-
     def swap(self, first: int, second: int) -> int:
         """Exchanges the elements under two indices, and gives the one under the first now. Raises Worn, NotKept."""
         return self._edited(_swap(self._at, self._index(first), self._index(second))).value
-
-    def truncate(self, size: int) -> int:
-        """Drops the elements from an index on, which is `size` then, and gives how many they were. Raises Worn, NotKept."""
-        return self._edited(_truncate(self._at, self._index(size))).place
-
-    def expire(self, index: int) -> int:
-        """Drops the elements before an index, which is `first` then, and gives how many they were. The others keep their indices. It takes no
-        memory, and gives memory back. Raises Worn, NotKept."""
-        return self._edited(_expire(self._at, self._index(index))).place
-
-    # Elements and counts.
-
-    @property
-    def edits(self) -> int:
-        """The number of the last edit, which is how many were accepted."""
-        return _counted(_edits(self._at))
-
-    def __len__(self) -> int:
-        return self.size - self.first
-
-    def __getitem__(self, index: int) -> int:
-        return _kept(_get(self._at, self._index(index))).value
-
-    def to_array(self, lo: Optional[int] = None, hi: Optional[int] = None) -> array[int]:
-        """The elements of a range as an `array.array('q')`. Raises BadRange, NotKept."""
-        lo, hi = self._range(lo, hi)
-        read = array("q", bytes(8 * self._room(lo, hi)))
-        self.read_into(read, lo, hi)
-        return read
-
-    def read_into(self, buffer: Union[WriteableBuffer, _NumpyArray], lo: Optional[int] = None, hi: Optional[int] = None) -> int:
-        """Fills a buffer with the elements of a range, from its start on, as many as it takes, and gives how many they are: the next piece starts
-        behind them. The buffer is as `Vector.read_into` wants it. Raises BadRange, NotKept."""
-        view = _as_room(buffer)
-        lo, hi = self._range(lo, hi)
-        return _kept(_read(self._at, lo, hi, ctypes.byref(_address(view)) if len(view) else None, len(view))).length
-
-    def __iter__(self) -> Iterator[int]:
-        """The elements in order. Raises RuntimeError if the series is edited meanwhile."""
-        first, size = self.first, self.size
-        return self._through(self._changes, ((lo, min(lo + _AT_ONCE, size)) for lo in range(first, size, _AT_ONCE)), iter)
-
-    def __reversed__(self) -> Iterator[int]:
-        """The elements from the last one on. Raises RuntimeError if the series is edited meanwhile."""
-        first, size = self.first, self.size
-        return self._through(self._changes, ((max(hi - _AT_ONCE, first), hi) for hi in range(size, first, -_AT_ONCE)), reversed)
-
-    def _through(self, changes: int, parts: Iterable[tuple[int, int]], order: Callable[[array[int]], Iterator[int]]) -> Iterator[int]:
-        for lo, hi in parts:
-            if self._changes != changes:
-                break
-            for value in order(self.to_array(lo, hi)):
-                if self._changes != changes:
-                    break
-                yield value
-        if self._changes != changes:
-            raise RuntimeError("the series was edited while its elements were gone through")
-
-    def __repr__(self) -> str:
-        try:
-            return f"<livevec.Series of {self.first} to {self.size} at edit {self.edits}>"
-        except (Closed, Busy) as refusal:
-            return f"<livevec.Series, {type(refusal).__name__.lower()}>"
-
-    # Reductions and scans.
-
-    def reduce(self, lo: Optional[int] = None, hi: Optional[int] = None) -> LongReduced:
-        """All six values of a range: it goes over the range by each kind that has no tree. Raises BadRange, NotKept."""
-        return self._reduced(_reduce, lo, hi)
-
-    def ask(self, lo: Optional[int] = None, hi: Optional[int] = None) -> LongReduced:
-        """The same, making the tree of each kind first, where there is none. Raises BadRange, NotKept, NoMemory."""
-        return self._reduced(_ask, lo, hi)
-
-    def sum(self, lo: Optional[int] = None, hi: Optional[int] = None) -> int:
-        """The sum, as `Values` has it. It and the next three are by one kind, as `value`, and raise what that raises."""
-        return self._by_kind(Kind.SUM, lo, hi).sum
-
-    def least(self, lo: Optional[int] = None, hi: Optional[int] = None) -> Optional[int]:
-        """The least element; None of nothing."""
-        return self._by_kind(Kind.LEAST, lo, hi).least
-
-    def greatest(self, lo: Optional[int] = None, hi: Optional[int] = None) -> Optional[int]:
-        """The greatest element; None of nothing."""
-        return self._by_kind(Kind.GREATEST, lo, hi).greatest
-
-    def best(self, lo: Optional[int] = None, hi: Optional[int] = None) -> Optional[int]:
-        """The greatest total of one or more neighbours, which is exact; None of nothing."""
-        return self._by_kind(Kind.BEST, lo, hi).best
-
-    def scan_inclusive(self, lo: Optional[int] = None, hi: Optional[int] = None, *, at: Optional[int] = None, most: Optional[int] = None) -> Scan:
-        """The values of the elements from the range's start up to each of them, that one included.
-
-        In pieces: `at` is where the piece starts, `most` how many values it has at most. So `s.scan_inclusive(lo, hi, at=lo, most=1000)` is the
-        first piece, and the next one starts at `lo + len(piece)`. A piece costs a reduction of what lies before it, and one step for each
-        value: if there are many pieces, `ask` first, so that each kind has a tree. Raises BadRange, NotKept.
-        """
-        return self._scan(_scan_inclusive, lo, hi, at, most)
-
-    def scan_exclusive(self, lo: Optional[int] = None, hi: Optional[int] = None, *, at: Optional[int] = None, most: Optional[int] = None) -> Scan:
-        """The same, that one excluded."""
-        return self._scan(_scan_exclusive, lo, hi, at, most)
-
-    # The end.
-
-    def close(self) -> None:
-        """Gives the memory back. Every later call raises Closed; to close again does nothing. Raises Busy beside a call of another thread."""
-        if _free(self._at) == Busy.number:
-            raise _refuse(Busy.number)
-
-    def __enter__(self: _SomeSeries) -> _SomeSeries:
-        return self
-
-    def __exit__(self, *_: object) -> None:
-        self.close()
-
-    def __del__(self, _free: Callable[..., int] = _free) -> None:
-        _free(self._at)
-
-    # Within.
-
-    def _edited(self, told: _SeriesEdited) -> _SeriesEdited:
-        _kept(told)
-        self._changes += 1
-        return told
-
-    def _reduced(self, call: Callable[..., _SeriesReduced], lo: Optional[int], hi: Optional[int]) -> LongReduced:
-        did = _kept(call(self._at, *self._range(lo, hi)))
-        return LongReduced(did.edit, _values_of(did.values))
-
-    def _scan(self, call: Callable[..., _SeriesScanned], lo: Optional[int], hi: Optional[int], at: Optional[int], most: Optional[int]) -> Scan:
-        lo, at, hi, length = self._piece(lo, hi, at, most)
-        room = bytearray(max(length, 1) * ctypes.sizeof(_Values))
-        did = _kept(call(self._at, lo, at, hi, ctypes.byref(_address(room)), length))
-        return Scan(did.edit, room, did.length)

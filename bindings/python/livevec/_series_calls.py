@@ -2,7 +2,7 @@
 from __future__ import annotations
 
 import ctypes
-from typing import TypeVar
+from typing import Protocol, TypeVar
 
 from ._library import _call, _i64, _pointer, _released, _size, _u32
 from ._refusals import NotKept, _refuse
@@ -84,7 +84,16 @@ _read = _call("livevec_series_read", _SeriesScanned, _slot, _u64, _u64, _pointer
 _scan_inclusive = _call("livevec_series_scan_inclusive", _SeriesScanned, _slot, _u64, _u64, _u64, _pointer, _size, by=_released)
 _scan_exclusive = _call("livevec_series_scan_exclusive", _SeriesScanned, _slot, _u64, _u64, _u64, _pointer, _size, by=_released)
 
-_Told = TypeVar("_Told", _SeriesEdited, _SeriesElement, _SeriesReduced, _SeriesScanned)
+
+class _Answer(Protocol):
+    """What tells whether it was refused, and what is kept."""
+
+    refusal: int
+    first: int
+    size: int
+
+
+_Told = TypeVar("_Told", bound=_Answer)
 
 
 def _kept(told: _Told) -> _Told:

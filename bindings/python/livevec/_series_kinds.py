@@ -49,7 +49,7 @@ def _all_kept(told: _SeriesMany) -> None:
 
 
 class _SeriesKinds(_SeriesRanges):
-    """The part of `Series` that answers by one kind, by that kind's tree."""
+    """The part of `Series` and `Samples` that answers by one kind, by that kind's tree."""
 
     __slots__ = ()
 

@@ -7,15 +7,14 @@ from typing import Iterable, Optional, Sequence
 
 from ._buffers import _as_buffer
 from ._handle import _Handle
+from ._limits import _MOST_U64
 from ._ranges import _as_rows
 from ._refusals import BadRange, NotKept
 from ._series_calls import _count_size, _counted, _first
 
-_MOST_U64 = (1 << 64) - 1
-
 
 class _SeriesRanges(_Handle):
-    """The part of `Series` that tells which indices are kept."""
+    """The part of `Series` and `Samples` that tells which indices are kept."""
 
     __slots__ = ()
 

@@ -1,0 +1,103 @@
+"""Series and samples as bytes, beside bytes that are laid out here as docs/formats.md of the repository says.
+
+usage: python3 -m unittest test_saved
+"""
+import random
+import struct
+import unittest
+from array import array
+
+import livevec
+from livevec import BadRange, Earlier, NotSaved, Samples, Series
+
+
+def laid_out(first, edits, values, times=None):
+    states = bytes((2 * state + rest) % 8 for rest in range(4) for state in range(8))
+    head = struct.pack("<5Q", 1, 1 if times is None else 2, first, edits, len(values))
+    numbers = [*values, *(times or ())]
+    saved, checksum = b"livevec:" + head + states + struct.pack(f"<{len(numbers)}q", *numbers), 0xcbf29ce484222325
+    for byte in saved:
+        checksum = (checksum ^ byte) * 0x100000001b3 % 2**64
+    return saved + struct.pack("<Q", checksum)
+
+
+class Saved(unittest.TestCase):
+    def both(self, count, gone):
+        """A series and samples whose first elements are gone, each with the bytes that it should have."""
+        drawn = random.Random(13)
+        values = [drawn.choice((2**63 - 1, -2**63, *range(-9, 10))) for _ in range(count)]
+        times = sorted(drawn.randint(-50, 50) for _ in range(count))
+        series, samples = Series(values), Samples(times, values)
+        for some in (series, samples):
+            some.expire(gone)
+            self.addCleanup(some.close)
+        values, times = values[gone:], times[gone:]
+        return (series, laid_out(gone, count + 1, values)), (samples, laid_out(gone, count + 1, values, times))
+
+    def test_bytes_are_as_they_are_laid_out(self):
+        for count, gone in ((0, 0), (1, 0), (1, 1), (9, 3), (300, 41)):
+            for some, saved in self.both(count, gone):
+                self.assertEqual((some.save(), some.saved_length), (saved, len(saved)))
+                for length in (8, 13, 96):
+                    room, pieces = bytearray(length), b""
+                    while many := some.save_into(room, len(pieces)):
+                        pieces += room[:many]
+                    self.assertEqual(pieces, saved)
+
+    def test_what_is_loaded_goes_on(self):
+        for some, saved in self.both(70, 12):
+            of = type(some)
+            for back in (of.load(saved), of.load(bytearray(saved)), of.load(memoryview(saved)), of.load(array("q", saved)),
+                         of.load_pieces(saved[at : at + 7] for at in range(0, len(saved), 7)), of.load_pieces([saved, b""])):
+                self.assertIs(type(back), of)
+                self.assertEqual((list(back), back.first, back.size, back.edits), (list(some), 12, 70, 71))
+                self.assertEqual((back.sum(), back.where_least(), back.save()), (some.sum(), some.where_least(), saved))
+                if of is Series:
+                    self.assertEqual((back.push(5), back.edits), (70, 72))
+                else:
+                    self.assertEqual(back.times(), some.times())
+                    self.assertRaises(Earlier, back.push, back.times()[-1] - 1, 5)
+                    self.assertEqual((back.push(2**63 - 1, 5), back.edits), (70, 72))
+                back.close()
+
+    def test_a_class_of_ones_own_is_loaded(self):
+        class Readings(Series):
+            pass
+
+        self.assertIs(type(Readings.load(Series([1]).save())), Readings)
+
+    def test_other_bytes_are_refused(self):
+        (_, of_series), (_, of_samples) = self.both(9, 2)
+        for of, saved in ((Series, of_series), (Samples, of_samples)):
+            for at in range(len(saved)):
+                wrong = bytearray(saved)
+                wrong[at] ^= 1 << at % 8
+                self.assertRaises(NotSaved, of.load, wrong)
+                self.assertRaises(NotSaved, of.load, saved[:at])
+            self.assertRaises(NotSaved, of.load, saved + b"\0")
+        with self.assertRaises(NotSaved) as caught:
+            Series.load(of_samples)
+        self.assertEqual((caught.exception.number, str(caught.exception)), (22, "bytes that are no saved series, or no saved samples"))
+        self.assertIsInstance(caught.exception, ValueError)
+        self.assertRaises(NotSaved, Samples.load, of_series)
+        self.assertRaises(NotSaved, Samples.load_pieces, [])
+        self.assertRaises(TypeError, Series.load, "livevec:")
+        self.assertRaises(TypeError, Series.load_pieces, [of_series, 7])
+
+    def test_places_and_buffers_that_are_refused(self):
+        series = Series([1, 2])
+        self.assertRaises(BadRange, series.save_into, bytearray(8), 4)
+        self.assertRaises(OverflowError, series.save_into, bytearray(8), -8)
+        self.assertEqual((series.save_into(bytearray(8), 104), series.save_into(bytearray(8), 2**64 - 8), series.save_into(bytearray(7))), (0, 0, 0))
+        self.assertEqual(series.save_into(bytearray()), 0)
+        for wrong in (bytes(8), memoryview(bytearray(16))[::2], [0] * 8):
+            self.assertRaises(TypeError, series.save_into, wrong)
+        numbers = array("q", bytes(8 * 13))
+        self.assertEqual((series.save_into(numbers), numbers.tobytes()), (104, series.save()))
+        series.close()
+        for call in (series.save, lambda: series.saved_length, lambda: series.save_into(bytearray(8))):
+            self.assertRaises(livevec.Closed, call)
+
+
+if __name__ == "__main__":
+    unittest.main()
