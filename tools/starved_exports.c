@@ -20,6 +20,8 @@ static livevec_note notes[2];
 static livevec_series_pushed series_pushed;
 static livevec_series_many series_written;
 static livevec_series_reduced series_told;
+static livevec_series_found series_found;
+static livevec_series_scanned series_saved;
 
 static uint32_t made(livevec_edited answer)
 {
@@ -84,6 +86,16 @@ static uint32_t series_write_many(void)
     return (series_written = livevec_series_write_many(&series, indices, ones, 100)).refusal;
 }
 
+static uint32_t series_where(void) { return (series_found = livevec_series_where_best(&series, 0, 100)).refusal; }
+static uint32_t series_save(void) { return (series_saved = livevec_series_save(&series, 0, saved, sizeof saved)).refusal; }
+static uint32_t begin_load(void) { return livevec_series_begin_load(&series); }
+static uint32_t load(void) { return livevec_series_load(&series, saved, sizeof saved); }
+static uint32_t new_samples(void) { return livevec_samples_new(&samples); }
+static uint32_t samples_push(void) { return series_made(livevec_samples_push(&samples, SAMPLES + 1, 1)); }
+static uint32_t samples_push_many(void) { return (series_written = livevec_samples_push_many(&samples, ones, ones, 1)).refusal; }
+static uint32_t samples_expire(void) { return series_made(livevec_samples_expire_before(&samples, 100)); }
+static uint32_t samples_value(void) { return (series_told = livevec_samples_value(&samples, LIVEVEC_SUM, 1, SAMPLES)).refusal; }
+
 static uint32_t new_by_table(void)
 {
     static const livevec_table table;
@@ -110,6 +122,16 @@ static bool is_series_expired(void) { return series_edited.edit == MANY + 1 && l
 static bool is_series_written_many(void) { return series_written.done == 100 && series_written.edit == 108 && seen().series_sum == 8; }
 static bool is_series_told(void) { return series_told.values.sum == 100 && series_told.edit == 100; }
 static bool is_series_prepared(void) { return livevec_series_value(&series, LIVEVEC_BEST, 0, 100).values.best_low == 100; }
+
+static bool is_series_found(void) { return series_found.lo == 0 && series_found.hi == 100 && series_found.sum_low == 100; }
+static bool is_series_saved(void) { return series_saved.length == sizeof saved && series_saved.edit == 8 && saved[0] == 'l'; }
+static bool is_loaded(void) { return livevec_series_end_load(&series) == LIVEVEC_OK && seen().series_edits == 8 && seen().series_sum == 8; }
+static bool is_begun(void) { return load() == LIVEVEC_OK && livevec_series_end_load(&series) == LIVEVEC_NOT_SAVED; }
+static bool is_samples(void) { return seen().has_samples && seen().samples_edits == 0; }
+static bool is_sampled(void) { return series_edited.edit == SAMPLES + 1 && series_edited.place == SAMPLES && seen().samples_sum == SAMPLES + 1; }
+static bool is_sampled_first(void) { return series_written.done == 1 && series_written.edit == 1 && seen().samples_size == 1; }
+static bool is_samples_expired(void) { return series_edited.place == 99 && series_edited.edit == SAMPLES + 1 && seen().samples_size == SAMPLES; }
+static bool is_samples_told(void) { return series_told.values.sum == SAMPLES - 1 && series_told.edit == SAMPLES; }
 
 /* So many elements 1 were pushed, and the series has so many. */
 static bool has_pushed(uint64_t many, uint64_t all)
@@ -168,6 +190,16 @@ static const struct {
     {"livevec_series_prepare", treeless, series_prepare, is_series_prepared},
     {"livevec_series_value, the first", treeless, series_value, is_series_told},
     {"livevec_series_ask, the first", treeless, series_ask, is_series_told},
+    {"livevec_series_where_best, the first", treeless, series_where, is_series_found},
+    {"livevec_series_save", eight_in_series, series_save, is_series_saved},
+    {"livevec_series_begin_load", nothing, begin_load, is_begun},
+    {"livevec_series_load", with_loader, load, is_loaded},
+    {"livevec_samples_new", nothing, new_samples, is_samples},
+    {"livevec_samples_push_many of the first", with_samples, samples_push_many, is_sampled_first},
+    {"livevec_samples_push", some_samples, samples_push, is_sampled},
+    {"livevec_samples_push over trees", samples_with_trees, samples_push, is_sampled},
+    {"livevec_samples_expire_before", samples_with_trees, samples_expire, is_samples_expired},
+    {"livevec_samples_value, the first", some_samples, samples_value, is_samples_told},
     {"livevec_queries_new", nothing, new_queries, is_queries},
     {"livevec_watch", with_queries, watch, is_watched},
     {"livevec_unwatch", watched, unwatch, is_unwatched},

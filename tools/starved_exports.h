@@ -15,20 +15,22 @@ static livevec_batch batch;
 static livevec_board board;
 static livevec_seat seat;
 static livevec_series series;
+static livevec_samples samples;
 static livevec_queries queries;
 
-/* Elements 1, how many there are; how many of them a subtree has; and the names that a set of queries is asked for. */
-enum { MANY = 32761, SUBTREE = 4096, NAMES = 2 };
+/* Elements 1, how many there are; how many of them a subtree has; how many samples fill their room; and the names that a set of queries is asked for. */
+enum { MANY = 32761, SUBTREE = 4096, SAMPLES = 128, NAMES = 2 };
 static const char *const names[NAMES] = {"all", "new"};
 static int64_t ones[MANY];
 
-/* What a vector, a series and a set of queries show, all zeros where there is none, and whether the other slots are full. */
+/* What a vector, a series, samples and a set of queries show, all zeros where there is none, and whether the other slots are full. */
 typedef struct {
     uint32_t size, capacity, edits, cells, summaries;
     uint64_t sum, series_first, series_size, series_edits, series_sum;
+    uint64_t samples_size, samples_edits, samples_sum;
     uint32_t query_refusal[NAMES];
     uint64_t query_sum[NAMES];
-    bool has_vector, has_board_closed, has_seat, has_series;
+    bool has_vector, has_board_closed, has_seat, has_series, has_samples;
 } shown;
 
 static void see_series(shown *now)
@@ -40,6 +42,16 @@ static void see_series(shown *now)
     now->series_size = livevec_series_size(&series).value;
     now->series_edits = livevec_series_edits(&series).value;
     now->series_sum = livevec_series_reduce(&series, now->series_first, now->series_size).values.sum;
+}
+
+static void see_samples(shown *now)
+{
+    now->has_samples = livevec_series_size(&samples.values).refusal == LIVEVEC_OK;
+    if (!now->has_samples)
+        return;
+    now->samples_size = livevec_series_size(&samples.values).value;
+    now->samples_edits = livevec_series_edits(&samples.values).value;
+    now->samples_sum = livevec_series_reduce(&samples.values, livevec_series_first(&samples.values).value, now->samples_size).values.sum;
 }
 
 static void see_queries(shown *now)
@@ -66,6 +78,7 @@ static shown seen(void)
     now.has_board_closed = livevec_closed_size(&board).refusal == LIVEVEC_OK;
     now.has_seat = livevec_seat_size(&seat).refusal == LIVEVEC_OK;
     see_series(&now);
+    see_samples(&now);
     see_queries(&now);
     return now;
 }
@@ -155,6 +168,33 @@ static void many_with_trees(void)
     with_series();
     livevec_series_push_many(&series, ones, MANY);
     livevec_series_ask(&series, 0, MANY);
+}
+
+static void with_samples(void) { livevec_samples_new(&samples); }
+
+/* Samples 1 at the times from 1 on, of which no kind has a tree; and as many of which each has. */
+static void some_samples(void)
+{
+    with_samples();
+    for (int64_t time = 1; time <= SAMPLES; time++)
+        livevec_samples_push(&samples, time, 1);
+}
+
+static void samples_with_trees(void)
+{
+    some_samples();
+    livevec_series_ask(&samples.values, 0, SAMPLES);
+}
+
+/* A series of eight elements 1 as bytes; and a slot that is loaded, to which no byte was given. */
+static uint8_t saved[88 + 8 * 8];
+
+static void with_loader(void)
+{
+    eight_in_series();
+    livevec_series_save(&series, 0, saved, sizeof saved);
+    livevec_free_series(&series);
+    livevec_series_begin_load(&series);
 }
 
 /* A vector of eight elements, and a set of one query, of their sum. */
