@@ -1,7 +1,8 @@
 /* livevec: a growable vector of 64-bit numbers whose ranges are reduced at once, and a board of 16-bit numbers that threads
  * edit and reduce together without a lock. For C11 and C++17.
  *
- * Slots. A vector, a set of queries, a job, an outcome, a board and a seat each lie behind a slot. Who calls owes three things, which nobody checks:
+ * Slots. A vector, a series, samples, a set of queries, a job, an outcome, a board and a seat each lie behind a slot. Who calls owes three
+ * things, which nobody checks:
  *   - a slot starts as zeros (`livevec_vector v = {0};`), which is 'empty';
  *   - a slot is never copied, and nothing but these functions writes it;
  *   - a slot is freed, or its memory given back, only when no call at it is under way or to come.

@@ -256,6 +256,31 @@ static void pushes_at_once(void)
     IS(livevec_free_samples(&s), 0);
 }
 
+/* Many at once where a request for memory fails: those before it are pushed, and the others go on. */
+static void pushes_where_one_fails(void)
+{
+    livevec_samples s = {0};
+    start(&s);
+    IS(livevec_series_ask(&s.values, 0, 0).refusal, 0);
+    for (uint64_t i = 0; i < 3000; i++) {
+        times[i] = (int64_t)i / 7;
+        all[i] = draw_element(&state);
+    }
+    for (int nth = 1; size < 3000; nth = 1 + nth % 5) {
+        until_failure = nth;
+        livevec_series_many did = livevec_samples_push_many(&s, times + size, all + size, 3000 - size);
+        until_failure = 0;
+        size += did.done;
+        edits += did.done;
+        IS(did.refusal, size < 3000 ? LIVEVEC_NO_MEMORY : 0);
+        IS(did.place, size < 3000 ? did.done : 0);
+        IS(did.edit, edits);
+        counts_are(&s);
+        windows_are(&s);
+    }
+    IS(livevec_free_samples(&s), 0);
+}
+
 /* Times in pieces; what the buffer has behind them stays, and all of it where the call is refused. */
 static void times_in_pieces(void)
 {
@@ -415,6 +440,7 @@ void samples(void)
     far_times();
     random_edits();
     pushes_at_once();
+    pushes_where_one_fails();
     times_in_pieces();
     want_of_memory();
 }

@@ -11,14 +11,32 @@ import livevec
 from livevec import BadRange, Earlier, NotSaved, Samples, Series
 
 
-def laid_out(first, edits, values, times=None):
-    states = bytes((2 * state + rest) % 8 for rest in range(4) for state in range(8))
+USUAL = bytes((2 * state + rest) % 8 for rest in range(4) for state in range(8))
+
+
+def laid_out(first, edits, values, times=None, states=USUAL):
     head = struct.pack("<5Q", 1, 1 if times is None else 2, first, edits, len(values))
     numbers = [*values, *(times or ())]
-    saved, checksum = b"livevec:" + head + states + struct.pack(f"<{len(numbers)}q", *numbers), 0xcbf29ce484222325
+    return sealed(b"livevec:" + head + states + struct.pack(f"<{len(numbers)}q", *numbers))
+
+
+def sealed(saved):
+    """Bytes with their checksum behind them."""
+    checksum = 0xcbf29ce484222325
     for byte in saved:
         checksum = (checksum ^ byte) * 0x100000001b3 % 2**64
-    return saved + struct.pack("<Q", checksum)
+    return bytes(saved) + struct.pack("<Q", checksum)
+
+
+def are_saved(saved, is_timed):
+    """Whether bytes with a right checksum are those of a series, or of samples."""
+    if len(saved) < 88 or len(saved) % 8:
+        return False
+    text, version, what, first, _, count = struct.unpack_from("<8s5Q", saved)
+    if (text, version, what) != (b"livevec:", 1, 2 if is_timed else 1) or len(saved) != 88 + (16 if is_timed else 8) * count or first + count > 2**62:
+        return False
+    times = list(struct.unpack_from(f"<{count}q", saved, 80 + 8 * count)) if is_timed else []
+    return max(saved[48:80]) <= 7 and times == sorted(times)
 
 
 class Saved(unittest.TestCase):
@@ -83,6 +101,44 @@ class Saved(unittest.TestCase):
         self.assertRaises(NotSaved, Samples.load_pieces, [])
         self.assertRaises(TypeError, Series.load, "livevec:")
         self.assertRaises(TypeError, Series.load_pieces, [of_series, 7])
+
+    def test_forged_bytes_are_loaded_where_they_are_those_of_some(self):
+        drawn, loaded = random.Random(17), [0, 0]
+        for turn in range(6000):
+            count, is_timed = drawn.randrange(5), turn % 2
+            times = sorted(drawn.randrange(4) for _ in range(count))
+            saved = bytearray(laid_out(drawn.choice((0, 3, 2**62 - count)), drawn.randrange(9), [7] * count, times if is_timed else None)[:-8])
+            for _ in range(drawn.randrange(3)):
+                number = drawn.choice((0, 1, 2, 3, count, 2**62, 2**62 - count + 1, 2**63, 2**64 - 1, drawn.getrandbits(64), 0x0706050403020100))
+                struct.pack_into("<Q", saved, 8 * drawn.randrange(len(saved) // 8), number)
+            if drawn.randrange(6) == 0:
+                saved += bytes(drawn.randrange(20))
+            forged, of = sealed(saved), Samples if is_timed else Series
+            if not are_saved(forged, is_timed):
+                self.assertRaises(NotSaved, of.load, forged)
+                continue
+            loaded[is_timed] += 1
+            with of.load(forged) as back:
+                first, edits = struct.unpack_from("<2Q", forged, 24)
+                values = struct.unpack_from(f"<{len(back)}q", forged, 80)
+                self.assertEqual((back.first, back.edits, tuple(back), back.save()), (first, edits, values, forged))
+        self.assertGreater(min(loaded), 500)
+
+    def test_other_automata_and_the_last_indices(self):
+        states = bytes(range(7, -1, -1)) + bytes(8) + bytes([3] * 8) + bytes(range(8))
+        back = Series.load(laid_out(0, 3, [4, 8, 11], states=states))
+        self.assertEqual(back.value("automaton"), tuple(range(8)))
+        self.assertEqual((back.value("automaton", 0, 1), back.push(1), back.value("automaton")), (tuple(range(7, -1, -1)), 3, (0,) * 8))
+        back.extend([2] * 30)
+        back.write(5, 3)
+        self.assertEqual((back.value("automaton"), back.ask(0, 3).values.automaton), ((3,) * 8, tuple(range(8))))
+        for of, times in ((Series, None), (Samples, [5, 5])):
+            back = of.load(laid_out(2**62 - 2, 2**64 - 2, [1, 2], times))
+            self.assertRaises(livevec.Full, back.push, *([7] if times is None else [7, 7]))
+            self.assertEqual((back.size, back.pop(), back.edits), (2**62, 2, 2**64 - 1))
+            for call in (back.pop, lambda: back.write(2**62 - 2, 1), lambda: back.expire(2**62 - 1), lambda: back.push(*([7] if times is None else [7, 7]))):
+                self.assertRaises(livevec.Worn, call)
+            self.assertEqual((list(back), of.load(back.save()).edits), ([1], 2**64 - 1))
 
     def test_places_and_buffers_that_are_refused(self):
         series = Series([1, 2])
