@@ -139,8 +139,8 @@ LIVEVEC_MUST_USE livevec_series_reduced livevec_series_reduce(livevec_series *sl
  * changes, though trees of some kinds may have been made. Refusals: NULL, NO_HANDLE, BAD_RANGE, OUT_OF_RANGE, NO_MEMORY. */
 LIVEVEC_MUST_USE livevec_series_reduced livevec_series_ask(livevec_series *slot, uint64_t lo, uint64_t hi);
 
-/* The elements of a range from its start on, as many as a buffer of `length` takes; what it has behind them stays. The next piece
- * starts at `lo` and as many as were put. Where it was refused the buffer is as it was.
+/* A copy of the elements of a range from its start on, as many as a buffer of `length` takes; what it has behind them stays. The next piece
+ * starts at `lo` and as many as were put. No pointer to the elements is lent. Where it was refused the buffer is as it was.
  * Refusals: NULL, NO_HANDLE, BAD_RANGE, OUT_OF_RANGE. */
 LIVEVEC_MUST_USE livevec_series_scanned livevec_series_read(livevec_series *slot, uint64_t lo, uint64_t hi, int64_t *buffer, size_t length);
 

@@ -10,6 +10,7 @@
 enum { THREADS = 4, CALLS = 20000, WRITES = 200000, PLACES = 8 };
 
 static livevec_vector shared;
+static livevec_samples shared_samples;
 
 /* What one thread was answered. */
 struct told {
@@ -41,6 +42,30 @@ static void *ask_all(void *at)
     struct told *told = at;
     for (int i = 0; i < CALLS; i++)
         count(told, livevec_ask(&shared, 0, 0).refusal);
+    return NULL;
+}
+
+/* Of samples: pushes of one and of many, searches of the values, windows, and bytes. */
+static void *push_samples(void *at)
+{
+    static const int64_t ones[] = {1, 1};
+    struct told *told = at;
+    for (int i = 0; i < CALLS; i++)
+        count(told, i % 2 ? livevec_samples_push(&shared_samples, 1, 1).refusal : livevec_samples_push_many(&shared_samples, ones, ones, 2).refusal);
+    return NULL;
+}
+
+static void *ask_samples(void *at)
+{
+    struct told *told = at;
+    uint8_t bytes[88];
+    for (int i = 0; i < CALLS; i++)
+        switch (i % 4) {
+        case 0: count(told, livevec_series_where_best(&shared_samples.values, 0, 9).refusal); break;
+        case 1: count(told, livevec_samples_value_of_last(&shared_samples, LIVEVEC_SUM, 1).refusal); break;
+        case 2: count(told, livevec_samples_between(&shared_samples, 0, 9).refusal); break;
+        default: count(told, livevec_series_save(&shared_samples.values, 0, bytes, sizeof bytes).refusal);
+        }
     return NULL;
 }
 
@@ -124,6 +149,19 @@ static void struck(void)
     IS(livevec_free(&shared), 0);
 }
 
+static void beside_at_samples(void)
+{
+    IS(livevec_samples_new(&shared_samples), 0);
+    run(push_samples);
+    uint64_t size = livevec_series_size(&shared_samples.values).value;
+    IS(size >= CALLS / 2, true);
+    IS(livevec_series_edits(&shared_samples.values).value, size);
+    IS(livevec_samples_value(&shared_samples, LIVEVEC_SUM, 1, 2).values.sum, size);
+    run(ask_samples);
+    IS(livevec_series_edits(&shared_samples.values).value, size);
+    IS(livevec_free_samples(&shared_samples), 0);
+}
+
 void beside(void)
 {
     /* this process has begun no thread so far: its slots are marked otherwise until then */
@@ -147,5 +185,6 @@ void beside(void)
     shared.busy_ = 0;
     IS(livevec_edits(&shared).value, pushed);
     IS(livevec_free(&shared), 0);
+    beside_at_samples();
     struck();
 }
