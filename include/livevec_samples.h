@@ -52,8 +52,8 @@ LIVEVEC_MUST_USE livevec_series_edited livevec_samples_push(livevec_samples *slo
 LIVEVEC_MUST_USE livevec_series_many livevec_samples_push_many(livevec_samples *slot, const int64_t *times, const int64_t *values,
                                                                size_t length);
 
-/* Drops the samples that were taken before a time. `place` is how many were dropped. Takes no memory, and gives memory back as
- * livevec_series_expire does. Refusals: NULL, NO_HANDLE, WORN. */
+/* Drops the samples that were taken before a time. `place` is how many were dropped. Gives memory back as livevec_series_expire
+ * does. Refusals: NULL, NO_HANDLE, WORN. */
 LIVEVEC_MUST_USE livevec_series_edited livevec_samples_expire_before(livevec_samples *slot, int64_t time);
 
 /* The sample under an index. Refusals: NULL, NO_HANDLE, OUT_OF_RANGE. */

@@ -117,7 +117,8 @@ LIVEVEC_MUST_USE livevec_series_edited livevec_series_swap(livevec_series *slot,
 LIVEVEC_MUST_USE livevec_series_edited livevec_series_truncate(livevec_series *slot, uint64_t size);
 
 /* Drops the elements before an index, which is `first` then; the others keep their indices. `place` is how many were dropped. O(1)
- * amortised. Takes no memory, and gives memory back: there is some for at most twice the elements that are kept, and 64, then.
+ * amortised. Gives memory back: there is some for at most twice the elements that are kept, and 64, then, and the trees are made anew
+ * over these. It is never refused for memory: a tree for which there is none stays as it is.
  * Refusals: NULL, NO_HANDLE, WORN, OUT_OF_RANGE. */
 LIVEVEC_MUST_USE livevec_series_edited livevec_series_expire(livevec_series *slot, uint64_t index);
 

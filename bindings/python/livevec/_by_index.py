@@ -58,8 +58,8 @@ class _ByIndex(_SeriesSaved):
         return self._edited(_truncate(self._at, self._index(size))).place
 
     def expire(self, index: int) -> int:
-        """Drops the elements before an index, which is `first` then, and gives how many they were. The others keep their indices. It takes no
-        memory, and gives memory back. Raises Worn, NotKept."""
+        """Drops the elements before an index, which is `first` then, and gives how many they were. The others keep their indices. It gives
+        memory back, and never raises NoMemory. Raises Worn, NotKept."""
         return self._edited(_expire(self._at, self._index(index))).place
 
     # Elements and counts.

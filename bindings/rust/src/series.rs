@@ -94,8 +94,8 @@ impl Series {
         self.raw.truncate(size).map(|did| Dropped { edit: did.edit, dropped: did.place })
     }
 
-    /// Drops the elements before an index, which is [`first`](Series::first) then. The others keep their indices. It takes no memory, and
-    /// gives memory back. Refused with `Worn`, `NotKept`, in this order.
+    /// Drops the elements before an index, which is [`first`](Series::first) then. The others keep their indices. It gives memory back,
+    /// and is never refused for memory. Refused with `Worn`, `NotKept`, in this order.
     pub fn expire(&mut self, index: u64) -> Result<Dropped, Refusal> {
         self.raw.expire(index).map(|did| Dropped { edit: did.edit, dropped: did.place })
     }

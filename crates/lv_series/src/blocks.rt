@@ -93,8 +93,8 @@ pub fn cut(elements: &mut Vec<i64>, trees: &mut Trees, base: u64, first: u64, ke
 }
 
 /// Drops the elements before an index, and the leaves of their blocks. Where those that are gone are a quarter of those that are left, whole
-/// blocks of them are removed, so that each that expires pays for four that move; and memory is given back where more than half of it
-/// would be idle. Tells which block is first in memory then.
+/// blocks of them are removed, so that each that expires pays for four that move; and memory is given back, also that of the trees, where
+/// more than half of the elements' would be idle. Tells which block is first in memory then.
 pub fn forget(elements: &mut Vec<i64>, trees: &mut Trees, base: u64, first: u64, to: u64) -> u64
     requires window { IsWindow base first elements.old.items }
     requires over { AreOver base first elements.old.items trees.old }
@@ -113,6 +113,8 @@ pub fn forget(elements: &mut Vec<i64>, trees: &mut Trees, base: u64, first: u64,
         return base;
     }
     let whole = gone / BLOCK;
+    let start = base + whole as u64;
     remove_and_shrink(elements, BLOCK * whole, wide);
-    base + whole as u64
+    trees.shrink(elements, start, to, wide);
+    start
 }

@@ -149,8 +149,9 @@ impl Series {
         })
     }
 
-    /// Drops the elements before an index, and returns how many they were; the others keep their indices. O(1) amortised. There is memory
-    /// for at most twice the elements that are left, and 64, then. Refused with `Worn`, then `OutOfRange`. Takes no memory.
+    /// Drops the elements before an index, and returns how many they were; the others keep their indices. O(1) amortised, and O(1) joins
+    /// for each tree. There is memory for at most twice the elements that are left, and 64, then: where the array gives memory back the
+    /// trees are made anew, and those for which there is no memory stay. Refused with `Worn`, then `OutOfRange`, and never for memory.
     pub fn expire(&mut self, index: u64) -> Result<LongReceipt, LongRefusal>
         ensures { Answers self.old (asked.Expire index) result self.new }
     {

@@ -131,9 +131,18 @@ impl<B: LongBody> Layer<B> {
         ensures over { IsOver (B.operations self.old.body) base first elements.now.items self.new }
         ensures body { self.new.body ≡ self.old.body }
     {
-        if self.kept {
-            return true;
-        }
+        self.kept || self.make_anew(elements, base, first)
+    }
+
+    // The same, whether there is a tree or not: the new one has no memory for blocks that are gone.
+    fn make_anew(&mut self, elements: &Vec<i64>, base: u64, first: u64) -> bool
+        requires window { IsWindow base first elements.now.items }
+        requires over { IsOver (B.operations self.old.body) base first elements.now.items self.old }
+        ensures made { result ≡ true → self.new.kept ≡ true }
+        ensures same { result ≡ false → self.new ≡ self.old }
+        ensures over { IsOver (B.operations self.old.body) base first elements.now.items self.new }
+        ensures body { self.new.body ≡ self.old.body }
+    {
         let body = self.tree.body();
         match grown_over(
             *elements.allocator(),
@@ -148,6 +157,19 @@ impl<B: LongBody> Layer<B> {
                 self.kept = true;
                 true
             }
+        }
+    }
+
+    /// Gives the memory of blocks that are gone back, where the tree is kept: it is made anew. It stays where there is no memory for that.
+    pub fn shrink(&mut self, elements: &Vec<i64>, base: u64, first: u64)
+        requires window { IsWindow base first elements.now.items }
+        requires over { IsOver (B.operations self.old.body) base first elements.now.items self.old }
+        ensures over { IsOver (B.operations self.old.body) base first elements.now.items self.new }
+        ensures body { self.new.body ≡ self.old.body }
+        ensures kept { self.new.kept ≡ self.old.kept }
+    {
+        if self.kept {
+            let _made = self.make_anew(elements, base, first);
         }
     }
 

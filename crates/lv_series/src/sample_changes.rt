@@ -100,7 +100,7 @@ impl Samples {
     }
 
     /// Drops the samples before an index, and returns how many they were; the others keep their indices. O(1) amortised. Refused as
-    /// `Series::expire` is, with `Worn`, then `OutOfRange`. Takes no memory.
+    /// `Series::expire` is, with `Worn`, then `OutOfRange`, and gives memory back as that does.
     pub fn expire(&mut self, index: u64) -> Result<LongReceipt, SampleRefusal>
         ensures { AnswersSample self.old (asked.Expire index) result self.new }
     {
@@ -116,7 +116,7 @@ impl Samples {
     }
 
     /// Drops the samples that were taken before a time, and returns how many they were; the others keep their indices. O(log n), and O(1)
-    /// amortised. Refused with `Worn`. Takes no memory.
+    /// amortised. Refused with `Worn`. Gives memory back as `Series::expire` does.
     pub fn expire_before(&mut self, time: i64) -> Result<LongReceipt, SampleRefusal>
         ensures { AnswersSample self.old (asked.Expire (self.old.series.held.first + count_before time self.old.times)) result self.new }
     {

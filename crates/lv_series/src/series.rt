@@ -16,7 +16,8 @@ pub const MOST: u64 = 1 << 62;
 /// A list of `i64` that goes on: its elements and edits are bounded by memory only, and elements at its front may expire. Elements are
 /// kept under the indices from `first` up to `size`. An element takes 8 bytes of memory, and at most 16 where the array has just grown. A
 /// tree takes 2 bytes an element more (of the best run 16), and at most 6 (45) where it has grown or its window slides. Expired elements
-/// give their memory back, and their part of a tree serves the elements to come.
+/// give their memory back: where more than half of the array would be idle it shrinks, and each tree is made anew over the elements that
+/// are left, if there is memory for that.
 #[derive(Drop)]
 pub struct Series {
     // The block that is first in memory.

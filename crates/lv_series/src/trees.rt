@@ -4,7 +4,7 @@ ghost use Rattle.std.specs.List.{slice_range};
 ghost use Rattle.lv_bodies.specs.Automata.{table_of};
 ghost use Rattle.lv_series.specs.Blocks.{IsOver, IsWindow};
 ghost use Rattle.lv_series.specs.Plain.{keeps_kind, no_kinds, with_kind};
-ghost use Rattle.lv_series.specs.Trees.{AreOver, CanCutAll, CanGrowAll, CanRenewAll, all_grown, before_blocks, from_blocks, grown_in, kinds_in, table_in, taken_back, with_leaves, with_leaves_at};
+ghost use Rattle.lv_series.specs.Trees.{AreOver, CanCutAll, CanGrowAll, CanRenewAll, KeepsKinds, all_grown, before_blocks, from_blocks, grown_in, kinds_in, table_in, taken_back, with_leaves, with_leaves_at};
 ghost use Rattle.lv_tree.specs.KindSummaries.{summary_by};
 
 use crate::layers::Layer;
@@ -154,6 +154,26 @@ impl Trees {
         self.best.expire(block);
         self.maps.expire(block);
         self.states.expire(block);
+    }
+
+    /// Gives memory back where `wide` says that there is too much of it: each tree that is kept is made anew over the elements that are left,
+    /// where there is memory for that. O(n) then.
+    #[inline(never)]
+    pub fn shrink(&mut self, elements: &Vec<i64>, base: u64, first: u64, wide: bool)
+        requires window { IsWindow base first elements.now.items }
+        requires over { AreOver base first elements.now.items self.old }
+        ensures over { AreOver base first elements.now.items self.new }
+        ensures kinds { KeepsKinds self.old self.new }
+    {
+        if !wide {
+            return;
+        }
+        self.sums.shrink(elements, base, first);
+        self.least.shrink(elements, base, first);
+        self.greatest.shrink(elements, base, first);
+        self.best.shrink(elements, base, first);
+        self.maps.shrink(elements, base, first);
+        self.states.shrink(elements, base, first);
     }
 
     /// Makes the tree of a kind, where there is none. O(n). Where there is no memory nothing has changed, and it says so.

@@ -17,8 +17,8 @@ pub returns-clause-window : goal.returns-clause-window
 returns-clause-window c =
     window_expired c.args.base c.args.first c.args.elements.now.items c.remove_and_shrink.new.elements.items c.requires.window c.args.to ((c.args.to - 8 * c.args.base) / 8) c.requires.low c.requires.high (omega arith) c.remove_and_shrink.ensures
 
-pub returns-clause-over : goal.returns-clause-over
-returns-clause-over c =
+pub shrink-requires-clause-over : goal.shrink-requires-clause-over
+shrink-requires-clause-over c =
     let xs = c.args.elements.now.items in
     let whole = (c.args.to - 8 * c.args.base) / 8 in
     subst (λ ys. AreOver (c.args.base + whole) c.args.to ys c.expire.new.self) (sym c.remove_and_shrink.ensures)
