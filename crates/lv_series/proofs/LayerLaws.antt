@@ -23,13 +23,9 @@ over_if o base first xs true t u is h = λ _. h refl
 over_if o base first xs false t u is h = λ kept. absurd (false≢true (sym is ∙ kept))
 
 -- is kept where it was, by the same body
-pub kept_if : {B S : Type 0} (k : Bool) (t u : Layered B S) → u.kept ≡ t.kept → (if k then u else t).kept ≡ t.kept
-kept_if true t u is = is
-kept_if false t u is = refl
-
-pub body_if : {B S : Type 0} (k : Bool) (t u : Layered B S) → u.body ≡ t.body → (if k then u else t).body ≡ t.body
-body_if true t u is = is
-body_if false t u is = refl
+pub same_if : {B S : Type 0} (k : Bool) (t u : Layered B S) → u.kept ≡ t.kept → u.body ≡ t.body → ((if k then u else t).kept ≡ t.kept) × ((if k then u else t).body ≡ t.body)
+same_if true t u kept body = (kept, body)
+same_if false t u kept body = (refl, refl)
 
 -- a leaf that was added, and the last one taken away again
 back_if : {B S : Type 0} (k : Bool) (body : B) (first : ℕ) (sums : List S) (s : S) → without_last (with_leaf s (record { body = body; kept = k; first = first; sums = sums })) ≡ record { body = body; kept = k; first = first; sums = sums }

@@ -2,7 +2,6 @@
 pub mod AskLaws
 pub mod BatchLaws
 pub mod BlockLaws
-pub mod CutLaws
 pub mod FreeLaws
 pub mod KeptLaws
 pub mod LayerLaws

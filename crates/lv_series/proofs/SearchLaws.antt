@@ -1,9 +1,8 @@
 -- The elements from the block of a tree's first leaf on: what they are to the elements in memory, and these to what a series keeps.
-use Rattle.std.proofs.Common.{◌≡◌, ℕ, ℤ, ◌+◌, ◌-◌, ◌*◌, ◌/◌, ◌<◌, ◌≤◌, true, Some, List, [], length, map, take, drop, slice_index_or, slice_range, refl, sym, ap, ◌∙◌, subst, arith, drop-drop, length-drop}
-use Rattle.std.proofs.lemmas.List.{get_or-map, take_all}
-use Rattle.lv_bodies.specs.Body.{Operations, fold_of}
-use Rattle.lv_series.specs.Blocks.{CoversBlocks, IsOver, IsWindow, Layered}
-use Rattle.lv_tree.specs.BlockLaws.{blocks_of, blocks_of-at, blocks_of-length}
+use Rattle.std.proofs.Common.{◌≡◌, ℕ, ℤ, ◌+◌, ◌-◌, ◌*◌, ◌/◌, ◌<◌, ◌≤◌, true, Some, List, length, take, drop, slice_range, refl, sym, ap, ◌∙◌, subst, arith, drop-drop, length-drop}
+use Rattle.std.proofs.lemmas.List.{take_all}
+use Rattle.lv_bodies.specs.Body.{Operations}
+use Rattle.lv_series.specs.Blocks.{IsOver, IsWindow, Layered}
 use Rattle.lv_tree.specs.Blocks.{AreLeaves}
 use Rattle.lv_tree.specs.Searches.{FindsEnd, IsFirstEnd, IsLastStart}
 use Rattle.lv_tree.specs.Sought.{Misses}
@@ -20,25 +19,10 @@ rest_is : (gone : ℕ) (xs items : List ℤ) → items ≡ slice_range xs gone (
 rest_is gone xs items is = is ∙ take_all (length xs - gone) (drop gone xs) (omega (arith, length-drop gone xs))
 
 -- the leaves of a tree that is kept are those of the elements from its first leaf's block on
-leaves_from : {B S : Type 0} (o : Operations S) (base first : ℕ) (xs : List ℤ) → IsWindow base first xs → (t : Layered B S) → CoversBlocks o base first xs t → AreLeaves o (drop (8 * (first / 8 - base)) xs) t.sums
-leaves_from o base first xs w t h =
-    let gone = 8 * (first / 8 - base) in
-    let n = length t.sums in
-    let ys = drop gone xs in
-    let place : 8 * (t.first - base) ≡ gone = omega (arith, h.start) in
-    let sums : t.sums ≡ map (fold_of o) (blocks_of n ys) = h.sums ∙ ap (λ k. map (fold_of o) (blocks_of n (drop k xs))) place in
-    record {
-      within = omega (arith, length-drop gone xs, h.whole, h.start, w.low);
-      sums_are = λ b inside.
-          ap (λ l. slice_index_or l b o.identity) sums
-          ∙ get_or-map (fold_of o) (blocks_of n ys) b [] o.identity (omega (arith, inside, blocks_of-length n ys))
-          ∙ ap (fold_of o) (blocks_of-at n b ys inside);
-    }
-
 pub leaves_are : {B S : Type 0} (ops : B → Operations S) (base first : ℕ) (xs : List ℤ) → IsWindow base first xs → (l t : Layered B S) → t ≡ l → IsOver (ops l.body) base first xs l → l.kept ≡ true → (gone : ℕ) (items : List ℤ) → gone ≡ 8 * (first / 8 - base) → items ≡ slice_range xs gone (length xs) → AreLeaves (ops t.body) items t.sums
 leaves_are {B = B} {S = S} ops base first xs w l t view over kept gone items at is =
     subst (λ (u : Layered B S). AreLeaves (ops u.body) items u.sums) (sym view)
-    (subst (λ ys. AreLeaves (ops l.body) ys l.sums) (sym (rest_is gone xs items is ∙ ap (λ n. drop n xs) at)) (leaves_from (ops l.body) base first xs w l (over kept)))
+    (subst (λ ys. AreLeaves (ops l.body) ys l.sums) (sym (rest_is gone xs items is ∙ ap (λ n. drop n xs) at)) (over kept).sums)
 
 -- an end at which something comes to be there is one in another list, where the elements before it are the same
 pub end_there : (sought : Sought) (xs ys : List ℤ) (a b c d end place : ℕ) → c < place → place ≤ d → slice_range xs a end ≡ slice_range ys c place → slice_range xs a (end - 1) ≡ slice_range ys c (place - 1) → IsFirstEnd sought xs a b end → IsFirstEnd sought ys c d place

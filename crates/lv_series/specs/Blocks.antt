@@ -1,8 +1,8 @@
 -- The elements of a series as they lie in memory, and the trees over their blocks of eight.
-use Rattle.std.specs.Prelude.{◌≡◌, ℕ, ℤ, ◌+◌, ◌-◌, ◌*◌, ◌/◌, ◌^◌, ◌<◌, ◌≤◌, Bool, true, if◌then◌else◌, List, [], ◌∷◌, ◌++◌, length, map, take, drop, slice_set, All}
+use Rattle.std.specs.Prelude.{◌≡◌, ℕ, ℤ, ◌+◌, ◌-◌, ◌*◌, ◌/◌, ◌^◌, ◌<◌, ◌≤◌, Bool, true, if◌then◌else◌, List, [], ◌∷◌, ◌++◌, length, take, drop, slice_set, All}
 use Rattle.lv_geometry.specs.Elements.{IsElement}
 use Rattle.lv_bodies.specs.Body.{Operations, fold_of}
-use Rattle.lv_tree.specs.BlockLaws.{blocks_of}
+use Rattle.lv_tree.specs.Blocks.{AreLeaves}
 use Rattle.lv_tree.specs.Folds.{AreFolds}
 
 -- a tree over blocks, where it is kept: the body, the number of the first block that has a leaf, and the summary of each in order
@@ -20,11 +20,19 @@ pub record IsWindow (base first : ℕ) (elements : List ℤ) : Type 0 where
   pub few : length elements ≤ 2 ^ 59
   pub numbered : 8 * base + length elements ≤ 2 ^ 62
 
--- a tree that is kept has a leaf for each block that is whole, from that of `first` on, and the leaf is the block's fold
-pub record CoversBlocks {B S : Type 0} (o : Operations S) (base first : ℕ) (elements : List ℤ) (layer : Layered B S) : Type 0 where
+-- the elements in memory from the block of `first` on
+abbrev pub from_first : ℕ → ℕ → List ℤ → List ℤ
+from_first base first elements = drop (8 * (first / 8 - base)) elements
+
+-- a tree has a leaf for each of the blocks in memory before one of them, from that of `first` on, and the leaf is the block's fold
+pub record CoversTo {B S : Type 0} (o : Operations S) (base first place : ℕ) (elements : List ℤ) (layer : Layered B S) : Type 0 where
   pub start : layer.first ≡ first / 8
-  pub whole : layer.first + length layer.sums ≡ base + length elements / 8
-  pub sums : layer.sums ≡ map (fold_of o) (blocks_of (length layer.sums) (drop (8 * (layer.first - base)) elements))
+  pub whole : layer.first + length layer.sums ≡ base + place
+  pub sums : AreLeaves o (from_first base first elements) layer.sums
+
+-- a tree that is kept has one for each block that is whole
+abbrev pub CoversBlocks : {B S : Type 0} → Operations S → ℕ → ℕ → List ℤ → Layered B S → Type 0
+CoversBlocks o base first elements layer = CoversTo o base first (length elements / 8) elements layer
 
 -- a tree is kept so, or it isn't kept
 abbrev pub IsOver : {B S : Type 0} → Operations S → ℕ → ℕ → List ℤ → Layered B S → Type 0

@@ -2,7 +2,7 @@
 use Rattle.std.specs.Prelude.{◌≡◌, ℕ, ℤ, true, if◌then◌else◌, List}
 use Rattle.lv_bodies.specs.AffineMaps.{affine_operations}
 use Rattle.lv_bodies.specs.Automata.{table_of}
-use Rattle.lv_bodies.specs.Body.{fold_of}
+use Rattle.lv_bodies.specs.Body.{Operations, fold_of}
 use Rattle.lv_bodies.specs.Extremes.{highest_operations, lowest_operations}
 use Rattle.lv_bodies.specs.RunTotals.{runs_operations}
 use Rattle.lv_bodies.specs.Sums.{sum_operations}
@@ -37,14 +37,42 @@ table_in t = table_of t.states.body
 abbrev pub kinds_in : TreesState → KeptKinds
 kinds_in t = record { sum = t.sums.kept; least = t.least.kept; greatest = t.greatest.kept; best = t.best.kept; affine = t.maps.kept; automaton = t.states.kept }
 
+-- something that holds of a tree by a body's operations, and a change of it
+abbrev pub Law : Type 1
+Law = (B S : Type 0) → Operations S → Layered B S → Type 0
+
+abbrev pub Change : Type 1
+Change = (B S : Type 0) → Operations S → Layered B S → Layered B S
+
+-- it holds of each tree
+pub record OfEach (P : Law) (t : TreesState) : Type 0 where
+  pub sums : P Sum ℕ sum_operations t.sums
+  pub least : P (BareExtreme Upward) ℤ lowest_operations t.least
+  pub greatest : P (BareExtreme Downward) ℤ highest_operations t.greatest
+  pub best : P Runs RunTotals runs_operations t.best
+  pub maps : P Affine AffineMap affine_operations t.maps
+  pub states : P Automaton (List ℕ) (automaton_operations (table_in t)) t.states
+
+-- some of the trees after a change, and all of them
+abbrev pub some_changed : Grown → Change → TreesState → TreesState
+some_changed g f t = record {
+  sums = if g.sums then f Sum ℕ sum_operations t.sums else t.sums;
+  least = if g.least then f (BareExtreme Upward) ℤ lowest_operations t.least else t.least;
+  greatest = if g.greatest then f (BareExtreme Downward) ℤ highest_operations t.greatest else t.greatest;
+  best = if g.best then f Runs RunTotals runs_operations t.best else t.best;
+  maps = if g.maps then f Affine AffineMap affine_operations t.maps else t.maps;
+  states = if g.states then f Automaton (List ℕ) (automaton_operations (table_in t)) t.states else t.states;
+}
+
+abbrev pub all_grown : Grown
+all_grown = record { sums = true; least = true; greatest = true; best = true; maps = true; states = true }
+
+abbrev pub each : Change → TreesState → TreesState
+each f t = some_changed all_grown f t
+
 -- each tree that is kept has the leaves of the blocks in memory
-pub record AreOver (base first : ℕ) (elements : List ℤ) (t : TreesState) : Type 0 where
-  pub sums : IsOver sum_operations base first elements t.sums
-  pub least : IsOver lowest_operations base first elements t.least
-  pub greatest : IsOver highest_operations base first elements t.greatest
-  pub best : IsOver runs_operations base first elements t.best
-  pub maps : IsOver affine_operations base first elements t.maps
-  pub states : IsOver (automaton_operations (table_in t)) base first elements t.states
+abbrev pub AreOver : ℕ → ℕ → List ℤ → TreesState → Type 0
+AreOver base first elements t = OfEach (λ B S o layer. IsOver o base first elements layer) t
 
 -- the same kinds have a tree, and the automaton is the same
 pub record KeepsKinds (old new : TreesState) : Type 0 where
@@ -53,98 +81,31 @@ pub record KeepsKinds (old new : TreesState) : Type 0 where
 
 -- each tree that is kept with one leaf more, that of a block; or with that of a block renewed
 abbrev pub with_leaves : List ℤ → TreesState → TreesState
-with_leaves block t = record {
-  sums = with_leaf (fold_of sum_operations block) t.sums;
-  least = with_leaf (fold_of lowest_operations block) t.least;
-  greatest = with_leaf (fold_of highest_operations block) t.greatest;
-  best = with_leaf (fold_of runs_operations block) t.best;
-  maps = with_leaf (fold_of affine_operations block) t.maps;
-  states = with_leaf (fold_of (automaton_operations (table_in t)) block) t.states;
-}
+with_leaves block t = each (λ B S o layer. with_leaf (fold_of o block) layer) t
 
 abbrev pub with_leaves_at : ℕ → List ℤ → TreesState → TreesState
-with_leaves_at block elements t = record {
-  sums = with_leaf_at block (fold_of sum_operations elements) t.sums;
-  least = with_leaf_at block (fold_of lowest_operations elements) t.least;
-  greatest = with_leaf_at block (fold_of highest_operations elements) t.greatest;
-  best = with_leaf_at block (fold_of runs_operations elements) t.best;
-  maps = with_leaf_at block (fold_of affine_operations elements) t.maps;
-  states = with_leaf_at block (fold_of (automaton_operations (table_in t)) elements) t.states;
-}
+with_leaves_at block elements t = each (λ B S o layer. with_leaf_at block (fold_of o elements) layer) t
 
 -- each without its leaves from a block on, or without those before it
 abbrev pub before_blocks : ℕ → TreesState → TreesState
-before_blocks block t = record {
-  sums = before_block block t.sums;
-  least = before_block block t.least;
-  greatest = before_block block t.greatest;
-  best = before_block block t.best;
-  maps = before_block block t.maps;
-  states = before_block block t.states;
-}
+before_blocks block t = each (λ B S o layer. before_block block layer) t
 
 abbrev pub from_blocks : ℕ → TreesState → TreesState
-from_blocks block t = record {
-  sums = from_block block t.sums;
-  least = from_block block t.least;
-  greatest = from_block block t.greatest;
-  best = from_block block t.best;
-  maps = from_block block t.maps;
-  states = from_block block t.states;
-}
+from_blocks block t = each (λ B S o layer. from_block block layer) t
 
 -- some of them with one leaf more, and without their last leaf
-abbrev pub all_grown : Grown
-all_grown = record {
-  sums = true;
-  least = true;
-  greatest = true;
-  best = true;
-  maps = true;
-  states = true;
-}
-
 abbrev pub grown_in : Grown → List ℤ → TreesState → TreesState
-grown_in g block t = record {
-  sums = if g.sums then with_leaf (fold_of sum_operations block) t.sums else t.sums;
-  least = if g.least then with_leaf (fold_of lowest_operations block) t.least else t.least;
-  greatest = if g.greatest then with_leaf (fold_of highest_operations block) t.greatest else t.greatest;
-  best = if g.best then with_leaf (fold_of runs_operations block) t.best else t.best;
-  maps = if g.maps then with_leaf (fold_of affine_operations block) t.maps else t.maps;
-  states = if g.states then with_leaf (fold_of (automaton_operations (table_in t)) block) t.states else t.states;
-}
+grown_in g block t = some_changed g (λ B S o layer. with_leaf (fold_of o block) layer) t
 
 abbrev pub taken_back : Grown → TreesState → TreesState
-taken_back g t = record {
-  sums = if g.sums then without_last t.sums else t.sums;
-  least = if g.least then without_last t.least else t.least;
-  greatest = if g.greatest then without_last t.greatest else t.greatest;
-  best = if g.best then without_last t.best else t.best;
-  maps = if g.maps then without_last t.maps else t.maps;
-  states = if g.states then without_last t.states else t.states;
-}
+taken_back g t = some_changed g (λ B S o layer. without_last layer) t
 
 -- each tree that is kept can be changed so
-pub record CanGrowAll (block : List ℤ) (t : TreesState) : Type 0 where
-  pub sums : CanGrow sum_operations block t.sums
-  pub least : CanGrow lowest_operations block t.least
-  pub greatest : CanGrow highest_operations block t.greatest
-  pub best : CanGrow runs_operations block t.best
-  pub maps : CanGrow affine_operations block t.maps
-  pub states : CanGrow (automaton_operations (table_in t)) block t.states
+abbrev pub CanGrowAll : List ℤ → TreesState → Type 0
+CanGrowAll block t = OfEach (λ B S o layer. CanGrow o block layer) t
 
-pub record CanRenewAll (block : ℕ) (elements : List ℤ) (t : TreesState) : Type 0 where
-  pub sums : CanRenew sum_operations block elements t.sums
-  pub least : CanRenew lowest_operations block elements t.least
-  pub greatest : CanRenew highest_operations block elements t.greatest
-  pub best : CanRenew runs_operations block elements t.best
-  pub maps : CanRenew affine_operations block elements t.maps
-  pub states : CanRenew (automaton_operations (table_in t)) block elements t.states
+abbrev pub CanRenewAll : ℕ → List ℤ → TreesState → Type 0
+CanRenewAll block elements t = OfEach (λ B S o layer. CanRenew o block elements layer) t
 
-pub record CanCutAll (block : ℕ) (t : TreesState) : Type 0 where
-  pub sums : CanCut block t.sums
-  pub least : CanCut block t.least
-  pub greatest : CanCut block t.greatest
-  pub best : CanCut block t.best
-  pub maps : CanCut block t.maps
-  pub states : CanCut block t.states
+abbrev pub CanCutAll : ℕ → TreesState → Type 0
+CanCutAll block t = OfEach (λ B S o layer. CanCut block layer) t
