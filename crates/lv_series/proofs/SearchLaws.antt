@@ -1,10 +1,10 @@
 -- The elements from the block of a tree's first leaf on: what they are to the elements in memory, and these to what a series keeps.
-use Rattle.std.proofs.Common.{◌≡◌, ℕ, ℤ, ◌+◌, ◌-◌, ◌*◌, ◌/◌, ◌<◌, ◌≤◌, true, Some, List, length, take, drop, slice_range, refl, sym, ap, ◌∙◌, subst, arith, drop-drop, length-drop}
+use Rattle.std.proofs.Common.{◌≡◌, ℕ, ℤ, ◌+◌, ◌-◌, ◌*◌, ◌/◌, ◌<◌, ◌≤◌, Bool, true, false, Some, None, List, length, take, drop, slice_range, refl, sym, ap, ◌∙◌, subst, arith, drop-drop, length-drop}
 use Rattle.std.proofs.lemmas.List.{take_all}
 use Rattle.lv_bodies.specs.Body.{Operations}
 use Rattle.lv_series.specs.Blocks.{IsOver, IsWindow, Layered}
+use Rattle.lv_series.specs.Places.{Finds}
 use Rattle.lv_tree.specs.Blocks.{AreLeaves}
-use Rattle.lv_tree.specs.Searches.{FindsEnd, IsFirstEnd, IsLastStart}
 use Rattle.lv_tree.specs.Sought.{Misses}
 use Rattle.lv_tree.specs.declared.sought.Sought.{Sought}
 
@@ -24,35 +24,40 @@ leaves_are {B = B} {S = S} ops base first xs w l t view over kept gone items at 
     subst (λ (u : Layered B S). AreLeaves (ops u.body) items u.sums) (sym view)
     (subst (λ ys. AreLeaves (ops l.body) ys l.sums) (sym (rest_is gone xs items is ∙ ap (λ n. drop n xs) at)) (over kept).sums)
 
--- an end at which something comes to be there is one in another list, where the elements before it are the same
-pub end_there : (sought : Sought) (xs ys : List ℤ) (a b c d end place : ℕ) → c < place → place ≤ d → slice_range xs a end ≡ slice_range ys c place → slice_range xs a (end - 1) ≡ slice_range ys c (place - 1) → IsFirstEnd sought xs a b end → IsFirstEnd sought ys c d place
-end_there sought xs ys a b c d end place after inside same less f = record {
-  after = after;
-  inside = inside;
-  met = λ misses. f.met (subst (Misses sought) (sym same) misses);
-  missed = subst (Misses sought) less f.missed;
-}
+-- what is found is not before the range
+pub found_from : (sought : Sought) (xs : List ℤ) (a b k : ℕ) (back : Bool) → Finds back sought xs a b (Some k) → a ≤ k
+found_from sought xs a b k false f = omega (arith, f.after)
+found_from sought xs a b k true f = f.inside
 
-pub start_there : (sought : Sought) (xs ys : List ℤ) (a b c d start place : ℕ) → c ≤ place → place < d → slice_range xs start b ≡ slice_range ys place d → slice_range xs (start + 1) b ≡ slice_range ys (place + 1) d → IsLastStart sought xs a b start → IsLastStart sought ys c d place
-start_there sought xs ys a b c d start place inside before same less f = record {
-  inside = inside;
-  before = before;
-  met = λ misses. f.met (subst (Misses sought) (sym same) misses);
-  missed = subst (Misses sought) less f.missed;
-}
+-- what is found in one list is found in another, some places further on, where their slices are the same
+module _ (sought : Sought) (xs ys : List ℤ) (p q : ℕ) (same : (i j k l : ℕ) → p ≤ i → p ≤ j → k + p ≡ i + q → l + p ≡ j + q → slice_range xs i j ≡ slice_range ys k l) (a b c d : ℕ) (low : p ≤ a) (order : a ≤ b) (from : c + p ≡ a + q) (to : d + p ≡ b + q) where
+  pub found_there : (back : Bool) (k l : ℕ) → l + p ≡ k + q → Finds back sought xs a b (Some k) → Finds back sought ys c d (Some l)
+  found_there false k l at f = record {
+    after = omega (arith, f.after, low, from, at);
+    inside = omega (arith, f.inside, to, at);
+    met = λ misses. f.met (subst (Misses sought) (sym (same a k c l low (omega (arith, low, f.after)) from at)) misses);
+    missed = subst (Misses sought) (same a (k - 1) c (l - 1) low (omega (arith, low, f.after)) from (omega (arith, f.after, low, at))) f.missed;
+  }
+  found_there true k l at f = record {
+    inside = omega (arith, f.inside, from, at);
+    before = omega (arith, f.before, to, at);
+    met = λ misses. f.met (subst (Misses sought) (sym (same k b l d (omega (arith, low, f.inside)) (omega (arith, low, order)) at to)) misses);
+    missed = subst (Misses sought) (same (k + 1) b (l + 1) d (omega (arith, low, f.inside)) (omega (arith, low, order)) (omega (arith, at)) to) f.missed;
+  }
+
+  pub none_there : (back : Bool) → Finds back sought xs a b None → Finds back sought ys c d None
+  none_there false misses = subst (Misses sought) (same a b c d low (omega (arith, low, order)) from to) misses
+  none_there true misses = subst (Misses sought) (same a b c d low (omega (arith, low, order)) from to) misses
 
 -- what is found in the elements from a place on is found in the whole list
-module _ (sought : Sought) (gone : ℕ) (xs items : List ℤ) (is : items ≡ slice_range xs gone (length xs)) (from to : ℕ) (low : gone ≤ from) (order : from ≤ to) where
-  -- slices of them
-  same : (a b c d : ℕ) → c ≡ gone + a → d ≡ gone + b → slice_range items a b ≡ slice_range xs c d
-  same a b c d at end = ap (λ ys. slice_range ys a b) (rest_is gone xs items is) ∙ slice_of_rest gone xs a b c d at end
+module _ (sought : Sought) (gone : ℕ) (xs items : List ℤ) (is : items ≡ slice_range xs gone (length xs)) (from to : ℕ) (low : gone ≤ from) (order : from ≤ to) (back : Bool) where
+  same_slices : (i j k l : ℕ) → 0 ≤ i → 0 ≤ j → k + 0 ≡ i + gone → l + 0 ≡ j + gone → slice_range items i j ≡ slice_range xs k l
+  same_slices i j k l _ _ at end = ap (λ ys. slice_range ys i j) (rest_is gone xs items is) ∙ slice_of_rest gone xs i j k l (omega (arith, at)) (omega (arith, end))
 
-  pub end_in_all : (end : ℕ) → FindsEnd sought items (from - gone) (to - gone) (Some end) → FindsEnd sought xs from to (Some (gone + end))
-  end_in_all end f =
-      end_there sought items xs (from - gone) (to - gone) from to end (gone + end) (omega (arith, f.after, low)) (omega (arith, f.inside, f.after, low, order))
-      (same (from - gone) end from (gone + end) (omega (arith, low)) refl)
-      (same (from - gone) (end - 1) from (gone + end - 1) (omega (arith, low)) (omega (arith, f.after)))
-      f
+  pub found_in_all : (place : ℕ) → Finds back sought items (from - gone) (to - gone) (Some place) → Finds back sought xs from to (Some (gone + place))
+  found_in_all place f =
+      found_there sought items xs 0 gone same_slices (from - gone) (to - gone) from to (omega arith) (omega (arith, low, order)) (omega (arith, low)) (omega (arith, low, order)) back place (gone + place) (omega arith) f
 
-  pub none_in_all : Misses sought (slice_range items (from - gone) (to - gone)) → Misses sought (slice_range xs from to)
-  none_in_all f = subst (Misses sought) (same (from - gone) (to - gone) from to (omega (arith, low)) (omega (arith, low, order))) f
+  pub none_in_all : Finds back sought items (from - gone) (to - gone) None → Finds back sought xs from to None
+  none_in_all f =
+      none_there sought items xs 0 gone same_slices (from - gone) (to - gone) from to (omega arith) (omega (arith, low, order)) (omega (arith, low)) (omega (arith, low, order)) back f

@@ -1,6 +1,6 @@
 -- Where in a range of a series something stands, and what a search for it answers. Indices are those under which the series keeps its
 -- elements, and the end of a range is excluded.
-use Rattle.std.specs.Prelude.{◌≡◌, ℕ, ℤ, ◌-◌, ◌≤◌, true, Option, Some, None, Result, Ok, Err}
+use Rattle.std.specs.Prelude.{◌≡◌, ℕ, ℤ, ◌-◌, ◌≤◌, Bool, true, false, Option, Some, None, Result, Ok, Err, List}
 use Rattle.lv_bodies.specs.declared.kinds.Kind.{Kind}
 use Rattle.lv_tree.specs.Searches.{FindsEnd, FindsStart}
 use Rattle.lv_tree.specs.Where.{IsBestRun, IsEndReached, IsFirstGreatest, IsFirstIndex, IsFirstLeast, IsLastIndex, IsStartReached}
@@ -44,12 +44,14 @@ abbrev pub IsPlaceOfBestIn : Held → ℕ → ℕ → Option LongRun → Type 0
 IsPlaceOfBestIn h lo hi None = lo ≡ hi
 IsPlaceOfBestIn h lo hi (Some r) = (h.first ≤ r.from) × IsBestRun h.elements (lo - h.first) (hi - h.first) (r.from - h.first) (r.to - h.first) r.sum
 
--- the end, or the start, at which a range comes to have what is sought; none where all of it has nothing of that
-abbrev pub FindsEndIn : Sought → Held → ℕ → ℕ → Option ℕ → Type 0
-FindsEndIn sought h lo hi end = IsAtIndex h (FindsEnd sought h.elements (lo - h.first) (hi - h.first)) end
+-- the end at which a range comes to have what is sought, or the start where it is looked for from the end back; none where all of it has
+-- nothing of that
+abbrev pub Finds : Bool → Sought → List ℤ → ℕ → ℕ → Option ℕ → Type 0
+Finds false sought xs lo hi place = FindsEnd sought xs lo hi place
+Finds true sought xs lo hi place = FindsStart sought xs lo hi place
 
-abbrev pub FindsStartIn : Sought → Held → ℕ → ℕ → Option ℕ → Type 0
-FindsStartIn sought h lo hi start = IsAtIndex h (FindsStart sought h.elements (lo - h.first) (hi - h.first)) start
+abbrev pub FindsIn : Bool → Sought → Held → ℕ → ℕ → Option ℕ → Type 0
+FindsIn back sought h lo hi place = IsAtIndex h (Finds back sought h.elements (lo - h.first) (hi - h.first)) place
 
 -- a range can be searched by a kind: nothing refuses it, and the kind has a tree
 pub record IsSearchable (s : SeriesState) (k : Kind) (lo hi : ℕ) : Type 0 where

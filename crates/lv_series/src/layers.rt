@@ -3,7 +3,8 @@ ghost use Rattle.std.specs.Prelude.{◌≡◌, ◌+◌, ◌-◌, ◌*◌, ◌/�
 ghost use Rattle.std.specs.List.{slice_range};
 ghost use Rattle.lv_bodies.specs.Body.{fold_of};
 ghost use Rattle.lv_series.specs.Blocks.{CanCut, CanGrow, CanRenew, CoversBlocks, IsOver, IsWindow, before_block, from_block, with_leaf, with_leaf_at, without_last};
-ghost use Rattle.lv_tree.specs.Searches.{FindsEnd, FindsStart};
+ghost use Rattle.lv_series.specs.Places.{Finds};
+ghost use Rattle.lv_tree.specs.Blocks.{AreLeaves};
 
 use crate::blocks::BLOCK;
 use lv_bodies::{LongBody, fold_long};
@@ -192,8 +193,9 @@ impl<B: LongBody> Layer<B> {
         fold_range(&self.tree, &items, from - gone, to - gone)
     }
 
-    /// The end at which the range from a place on comes to have what a test seeks, at most `to`, or none, by the tree.
-    pub fn find_end<T: TestFor<B>>(
+    /// The end at which the range from a place on comes to have what a test seeks, at most `to`, or none, by the tree. Looking `back` it is
+    /// the start at which the range up to a place does, at least `from`.
+    pub fn find<T: TestFor<B>>(
         &self,
         elements: &[i64],
         base: u64,
@@ -201,6 +203,7 @@ impl<B: LongBody> Layer<B> {
         test: &T,
         from: usize,
         to: usize,
+        back: bool,
     ) -> Option<usize>
         requires window { IsWindow base first elements.now }
         requires over { IsOver (B.operations self.now.body) base first elements.now self.now }
@@ -208,41 +211,37 @@ impl<B: LongBody> Layer<B> {
         requires low { first ≤ 8 * base + from }
         requires order { from ≤ to }
         requires high { to ≤ length elements.now }
-        ensures { FindsEnd (T.seeks test.now) elements.now from to result }
+        ensures { Finds back (T.seeks test.now) elements.now from to result }
     {
         let gone = gone_before(base, first);
         let items = Items::new(&elements[gone..]);
-        match find_sought_end(&self.tree, &items, test, from - gone, to - gone) {
-            Some(end) => Some(gone + end),
+        match find_sought(&self.tree, &items, test, from - gone, to - gone, back) {
+            Some(place) => Some(gone + place),
             None => None,
         }
     }
+}
 
-    /// The start at which the range up to a place comes to have what a test seeks, at least `from`, or none, by the tree.
-    pub fn find_start<T: TestFor<B>>(
-        &self,
-        elements: &[i64],
-        base: u64,
-        first: u64,
-        test: &T,
-        from: usize,
-        to: usize,
-    ) -> Option<usize>
-        requires window { IsWindow base first elements.now }
-        requires over { IsOver (B.operations self.now.body) base first elements.now self.now }
-        requires kept { self.now.kept ≡ true }
-        requires low { first ≤ 8 * base + from }
-        requires order { from ≤ to }
-        requires high { to ≤ length elements.now }
-        ensures { FindsStart (T.seeks test.now) elements.now from to result }
-    {
-        let gone = gone_before(base, first);
-        let items = Items::new(&elements[gone..]);
-        match find_sought_start(&self.tree, &items, test, from - gone, to - gone) {
-            Some(start) => Some(gone + start),
-            None => None,
-        }
+// What a test seeks in elements, by a tree over their blocks: from a place on, or back from another.
+#[inline(always)]
+fn find_sought<B: LongBody, T: TestFor<B>>(
+    tree: &FoldTree<B>,
+    items: &Items,
+    test: &T,
+    lo: usize,
+    hi: usize,
+    back: bool,
+) -> Option<usize>
+    requires order { lo ≤ hi }
+    requires inside { hi ≤ length items.now }
+    requires leaves { AreLeaves (B.operations tree.now.body) items.now tree.now.sums }
+    requires blocks { hi / 8 ≤ length tree.now.sums }
+    ensures { Finds back (T.seeks test.now) items.now lo hi result }
+{
+    if back {
+        return find_sought_start(tree, items, test, lo, hi);
     }
+    find_sought_end(tree, items, test, lo, hi)
 }
 
 // How many elements in memory are before the block of the first that is kept, which is that of a tree's first leaf.

@@ -67,7 +67,7 @@ impl Series {
         requires { IsSearchable self.now (kind_within bound) lo hi }
         ensures { IsFirstIndexIn bound self.now.held lo hi result }
     {
-        match self.find_end(bound.sought(), lo, hi) {
+        match self.find(bound.sought(), lo, hi, false) {
             Some(end) => Some(end - 1),
             None => None,
         }
@@ -89,7 +89,7 @@ impl Series {
         requires { IsSearchable self.now (kind_within bound) lo hi }
         ensures { IsLastIndexIn bound self.now.held lo hi result }
     {
-        self.find_start(bound.sought(), lo, hi)
+        self.find(bound.sought(), lo, hi, true)
     }
 
     /// The least end, from `lo` to `hi`, up to which the elements from index `lo` on add up to `sum` at least, or none. Elements may be
@@ -112,7 +112,7 @@ impl Series {
         if sum <= 0 {
             return Some(lo);
         }
-        self.find_end(Sought::Beginning(sum), lo, hi)
+        self.find(Sought::Beginning(sum), lo, hi, false)
     }
 
     /// The greatest start, from `hi` down to `lo`, from which on the elements up to `hi` add up to `sum` at least, or none. It is `hi` itself
@@ -135,7 +135,7 @@ impl Series {
         if sum <= 0 {
             return Some(hi);
         }
-        self.find_start(Sought::Ending(sum), lo, hi)
+        self.find(Sought::Ending(sum), lo, hi, true)
     }
 
     /// The first of the least elements from index `lo` up to `hi`, and where it stands; none where there are no elements. It is asked of the
@@ -158,7 +158,7 @@ impl Series {
         let Some(least) = least_of(self.summary(Kind::Least, lo, hi)) else {
             return None;
         };
-        match self.find_end(Sought::AtMost(least), lo, hi) {
+        match self.find(Sought::AtMost(least), lo, hi, false) {
             Some(end) => Some(LongPlaced::before(end, least)),
             None => unreachable!(),
         }
@@ -184,7 +184,7 @@ impl Series {
         let Some(greatest) = greatest_of(self.summary(Kind::Greatest, lo, hi)) else {
             return None;
         };
-        match self.find_end(Sought::AtLeast(greatest), lo, hi) {
+        match self.find(Sought::AtLeast(greatest), lo, hi, false) {
             Some(end) => Some(LongPlaced::before(end, greatest)),
             None => unreachable!(),
         }
@@ -212,8 +212,8 @@ impl Series {
             return None;
         };
         let sum = totals.best;
-        match self.find_end(Sought::Run(sum), lo, hi) {
-            Some(to) => match self.find_start(Sought::Run(sum), lo, to) {
+        match self.find(Sought::Run(sum), lo, hi, false) {
+            Some(to) => match self.find(Sought::Run(sum), lo, to, true) {
                 Some(from) => Some(LongRun { from, to, sum }),
                 None => unreachable!(),
             },

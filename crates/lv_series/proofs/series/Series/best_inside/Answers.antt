@@ -30,4 +30,4 @@ returns c =
     let fits : FitsSigned w128 c.in-Some.totals.best = search rules in
     let told = best_told c.args.self.now.table (slice_of h c.args.lo c.args.hi) c.summary.result (Some c.in-Some.totals) (sym c.in-Some.is ∙ c.best_of.ensures) c.summary.ensures in
     let is = subst (λ best. IsPlainBest (slice_of h c.args.lo c.args.hi) (Some best)) (sym (to_z-of_z w128 c.in-Some.totals.best fits)) told in
-    best_in_range h c.args.lo c.args.hi c.requires.granted sum is c.in-Some-find_end.to c.in-Some-find_end.ensures c.in-Some-find_start.from c.in-Some-find_start.ensures
+    best_in_range h c.args.lo c.args.hi c.requires.granted sum is c.in-Some-find.to c.in-Some-find.ensures c.in-Some-find-2.from c.in-Some-find-2.ensures

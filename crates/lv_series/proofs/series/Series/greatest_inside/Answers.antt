@@ -29,5 +29,5 @@ returns c =
     let fits : FitsSigned w64 c.in-Some.greatest = search rules in
     let told = ap Some (to_z-of_z w64 c.in-Some.greatest fits) ∙ sym c.in-Some.is ∙ c.greatest_of.ensures in
     let is = greatest_told c.args.self.now.table (slice_of h c.args.lo c.args.hi) c.summary.result (Some value) told c.summary.ensures in
-    subst (λ p. IsPlaceOfGreatestIn h c.args.lo c.args.hi (Some p)) (sym c.before-in-Some-find_end.ensures)
-    (greatest_in_range h c.args.lo c.args.hi c.requires.granted value is c.in-Some-find_end.end c.in-Some-find_end.ensures)
+    subst (λ p. IsPlaceOfGreatestIn h c.args.lo c.args.hi (Some p)) (sym c.before-in-Some-find.ensures)
+    (greatest_in_range h c.args.lo c.args.hi c.requires.granted value is c.in-Some-find.end c.in-Some-find.ensures)
