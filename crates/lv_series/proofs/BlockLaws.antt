@@ -1,5 +1,5 @@
 -- A tree over the blocks of some elements, after these have changed.
-use Rattle.std.proofs.Common.{◌≡◌, ℕ, ℤ, ◌+◌, ◌-◌, ◌*◌, ◌/◌, ◌%◌, ◌<◌, ◌≤◌, List, [], ◌∷◌, ◌++◌, length, take, drop, slice_set, All, refl, sym, ap, ◌∙◌, subst, arith, drop-drop}
+use Rattle.std.proofs.Common.{◌≡◌, ℕ, ℤ, ◌+◌, ◌-◌, ◌*◌, ◌/◌, ◌%◌, ◌<◌, ◌≤◌, List, [], ◌∷◌, ◌++◌, length, take, drop, slice_set, refl, sym, ap, ◌∙◌, subst, arith, drop-drop}
 use Rattle.std.proofs.lemmas.List.{drop-append-le, drop-set-add, drop-take, length-drop, length-take, length-set, length_push, set_past}
 use Rattle.std.proofs.lemmas.List.Elements.{All-drop}
 use Rattle.lv_geometry.specs.Elements.{IsElement}

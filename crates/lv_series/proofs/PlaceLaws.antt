@@ -1,9 +1,9 @@
 -- What a search finds among the elements in memory, said of the indices of a series, and what that says of the elements of a range.
-use Rattle.std.proofs.Common.{◌≡◌, ℕ, ℤ, pos, ◌+◌, ◌-◌, ◌*◌, ◌<◌, ◌≤◌, ◌<ℤ◌, Bool, true, false, Option, Some, None, List, [], length, drop, slice_range, sym, ap, ◌∙◌, subst, arith}
+use Rattle.std.proofs.Common.{◌≡◌, ℕ, ℤ, pos, ◌+◌, ◌-◌, ◌*◌, ◌≤◌, ◌<ℤ◌, Bool, true, false, Option, Some, None, List, [], length, drop, slice_range, sym, subst, arith}
 use Rattle.lv_bodies.specs.Plain.{IsPlainBest, IsPlainGreatest, IsPlainLeast}
 use Rattle.lv_tree.specs.PlaceLaws.{best_is_met, best_stands, empty_range, end_found, first_found, greatest_is_met, greatest_stands, last_found, least_is_met, least_stands, start_found}
 use Rattle.lv_tree.specs.Searches.{FindsEnd, FindsStart}
-use Rattle.lv_tree.specs.Sought.{Misses, sought_within}
+use Rattle.lv_tree.specs.Sought.{sought_within}
 use Rattle.lv_tree.specs.Where.{IsFirstGreatest, IsFirstIndex, IsFirstLeast}
 use Rattle.lv_tree.specs.declared.places.Bound.{Bound}
 use Rattle.lv_tree.specs.declared.sought.Sought.{Sought}

@@ -1,5 +1,5 @@
 -- The elements from the block of a tree's first leaf on: what they are to the elements in memory, and these to what a series keeps.
-use Rattle.std.proofs.Common.{◌≡◌, ℕ, ℤ, ◌+◌, ◌-◌, ◌*◌, ◌/◌, ◌<◌, ◌≤◌, Bool, true, false, Some, None, List, length, take, drop, slice_range, refl, sym, ap, ◌∙◌, subst, arith, drop-drop, length-drop}
+use Rattle.std.proofs.Common.{◌≡◌, ℕ, ℤ, ◌+◌, ◌-◌, ◌*◌, ◌/◌, ◌≤◌, Bool, true, false, Some, None, List, length, take, drop, slice_range, sym, ap, ◌∙◌, subst, arith, drop-drop, length-drop}
 use Rattle.std.proofs.lemmas.List.{take_all}
 use Rattle.lv_bodies.specs.Body.{Operations}
 use Rattle.lv_series.specs.Blocks.{IsOver, IsWindow, Layered}

@@ -1,5 +1,5 @@
 -- Proof of `grown_over`: a tree with a leaf for each block.
-use Rattle.std.proofs.Common.{◌≡◌, ◌+◌, ◌-◌, ◌*◌, ◌≤◌, ◌++◌, ◌∷◌, [], length, sym, ap, ◌∙◌, subst, arith, rules, true}
+use Rattle.std.proofs.Common.{◌≡◌, ◌+◌, ◌-◌, ◌*◌, ◌++◌, ◌∷◌, [], sym, ap, ◌∙◌, subst, arith, rules, true}
 use Rattle.lv_bodies.specs.Body.{fold_of}
 use Rattle.lv_tree.specs.Folds.{AreFolds}
 use Rattle.lv_tree.specs.Parts.{run_of}
