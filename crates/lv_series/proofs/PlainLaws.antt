@@ -58,12 +58,3 @@ run_is_plain o table calls s run =
         values = is.values ∙ ap (λ h. running_folds inclusive o before (slice_of h lo (lo + scan.count)) ++ drop scan.count old) alike.held;
       };
     }
-
--- what a call answers is such a step
-pub answers_are_steps : (old new : SeriesState) (edit : LongEdit) (answer : Result LongReceipt LongRefusal) → Answers old edit answer new → Step old (edited (edit ∷ []) (is_ok answer)) new
-answers_are_steps old new edit (Ok receipt) answers = answers.after
-answers_are_steps old new edit (Err refusal) answers = answers.same
-
-pub batches_are_steps : (old new : SeriesState) (edits : List LongEdit) (answer : Result ℕ LongRefusal) → AnswersEdits old edits answer new → Step old (edited edits (is_ok answer)) new
-batches_are_steps old new edits (Ok edit) answers = answers.after
-batches_are_steps old new edits (Err refusal) answers = answers.same

@@ -23,6 +23,7 @@ impl Series {
     }
 
     /// Why pushes, one after another, would be refused, except for memory; none where all would be accepted.
+    #[tactic(auto, using(crate::proofs::BatchLaws::full_or_none, crate::proofs::BatchLaws::worn_or_none, crate::proofs::KeptLaws::size_in))]
     pub fn verdict_of_pushes(&self, values: &[i64]) -> Option<LongRefusal>
         ensures { result ≡ verdict_of_edits self.now (pushes_of values.now) }
     {
@@ -48,6 +49,7 @@ impl Series {
         }
     }
     /// Why writes, one after another, would be refused; none where all would be accepted.
+    #[tactic(auto, using(crate::proofs::WriteLaws::judged_more, crate::proofs::WriteLaws::judged_none, crate::proofs::WriteLaws::judged_out, crate::proofs::WriteLaws::judged_worn, crate::proofs::WriteLaws::verdict_judged))]
     pub fn verdict_of_writes(&self, indices: &[u64], values: &[i64]) -> Option<LongRefusal>
         requires paired { length indices.now ≡ length values.now }
         ensures { result ≡ verdict_of_edits self.now (writes_at indices.now values.now) }
@@ -65,6 +67,7 @@ impl Series {
     }
 
     // Puts elements at the end, where nothing refuses that. Where memory runs out nothing has changed.
+    #[tactic(auto, using(crate::proofs::BatchLaws::free_pushes, crate::proofs::KeptLaws::size_in))]
     fn make_pushes(&mut self, values: &[i64]) -> Result<u64, LongRefusal>
         requires { verdict_of_edits self.old (pushes_of values.now) ≡ None }
         ensures { AnswersEdits self.old (pushes_of values.now) result self.new }
@@ -137,6 +140,7 @@ fn push_each(
 }
 
 // Overwrites the elements under indices that are kept, one after another.
+#[tactic(auto, using(crate::proofs::KeptLaws::kept_inside, crate::proofs::KeptLaws::write_in, crate::proofs::SeriesLaws::kept_twice, crate::proofs::WriteLaws::writes_more))]
 fn write_each(
     elements: &mut [i64],
     trees: &mut Trees,

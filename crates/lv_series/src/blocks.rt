@@ -12,6 +12,7 @@ pub const BLOCK: usize = 8;
 
 /// Adds an element at the end, and the leaf of its block where that is whole now. Where there is no memory nothing has changed, and it
 /// says so.
+#[tactic(auto, using(crate::proofs::WindowLaws::window_more))]
 #[inline(always)]
 pub fn push_into(elements: &mut Vec<i64>, trees: &mut Trees, base: u64, first: u64, x: i64) -> bool
     requires window { IsWindow base first elements.old.items }
@@ -38,6 +39,7 @@ pub fn push_into(elements: &mut Vec<i64>, trees: &mut Trees, base: u64, first: u
 }
 
 /// Overwrites the element at a place, and renews the leaf of its block.
+#[tactic(auto, using(crate::proofs::WindowLaws::window_written))]
 #[inline(always)]
 pub fn write_into(elements: &mut [i64], trees: &mut Trees, base: u64, first: u64, at: usize, x: i64)
     requires window { IsWindow base first elements.old }
@@ -95,6 +97,7 @@ pub fn cut(elements: &mut Vec<i64>, trees: &mut Trees, base: u64, first: u64, ke
 /// Drops the elements before an index, and the leaves of their blocks. Where those that are gone are a quarter of those that are left, whole
 /// blocks of them are removed, so that each that expires pays for four that move; and memory is given back, also that of the trees, where
 /// more than half of the elements' would be idle. Tells which block is first in memory then.
+#[tactic(auto, using(crate::proofs::WindowLaws::window_expired))]
 pub fn forget(elements: &mut Vec<i64>, trees: &mut Trees, base: u64, first: u64, to: u64) -> u64
     requires window { IsWindow base first elements.old.items }
     requires over { AreOver base first elements.old.items trees.old }

@@ -26,6 +26,7 @@ impl Series {
 
     /// Puts an element at the end, and returns its index. O(1) amortised, and O(1) joins for each tree. Refused with `Worn`, `Full`, then
     /// `NoMemory`.
+    #[tactic(auto, using(crate::proofs::KeptLaws::push_in, crate::proofs::SeriesLaws::accepted))]
     #[inline(always)]
     pub fn push(&mut self, value: i64) -> Result<LongReceipt, LongRefusal>
         ensures { Answers self.old (asked.Push value) result self.new }
@@ -51,6 +52,7 @@ impl Series {
     }
 
     /// Drops the last element, and returns it. O(1). Refused with `Worn`, then `Empty`. Takes no memory.
+    #[tactic(auto, using(crate::proofs::KeptLaws::pop_in, crate::proofs::FreeLaws::free_pop, crate::proofs::FreeLaws::free_edit, crate::proofs::SeriesLaws::accepted))]
     pub fn pop(&mut self) -> Result<LongReceipt, LongRefusal>
         ensures { Answers self.old asked.Pop result self.new }
     {
@@ -127,6 +129,7 @@ impl Series {
     }
 
     /// Drops the elements from an index on, and returns how many they were. O(1). Refused with `Worn`, then `OutOfRange`. Takes no memory.
+    #[tactic(auto, using(crate::proofs::KeptLaws::truncate_in, crate::proofs::FreeLaws::free_truncate, crate::proofs::FreeLaws::free_edit, crate::proofs::SeriesLaws::accepted))]
     pub fn truncate(&mut self, size: u64) -> Result<LongReceipt, LongRefusal>
         ensures { Answers self.old (asked.Truncate size) result self.new }
     {
@@ -152,6 +155,7 @@ impl Series {
     /// Drops the elements before an index, and returns how many they were; the others keep their indices. O(1) amortised, and O(1) joins
     /// for each tree. There is memory for at most twice the elements that are left, and 64, then: where the array gives memory back the
     /// trees are made anew, and those for which there is no memory stay. Refused with `Worn`, then `OutOfRange`, and never for memory.
+    #[tactic(auto, using(crate::proofs::KeptLaws::expire_in, crate::proofs::FreeLaws::free_expire, crate::proofs::FreeLaws::free_edit, crate::proofs::SeriesLaws::accepted))]
     pub fn expire(&mut self, index: u64) -> Result<LongReceipt, LongRefusal>
         ensures { Answers self.old (asked.Expire index) result self.new }
     {

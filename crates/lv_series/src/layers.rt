@@ -175,6 +175,7 @@ impl<B: LongBody> Layer<B> {
     }
 
     /// The fold of the elements from a place up to another: by the tree, where it is kept, or else over the range.
+    #[tactic(auto, using(crate::proofs::SearchLaws::leaves_are))]
     #[inline(always)]
     pub fn fold(&self, elements: &[i64], base: u64, first: u64, from: usize, to: usize) -> B::S
         requires window { IsWindow base first elements.now }
@@ -195,6 +196,7 @@ impl<B: LongBody> Layer<B> {
 
     /// The end at which the range from a place on comes to have what a test seeks, at most `to`, or none, by the tree. Looking `back` it is
     /// the start at which the range up to a place does, at least `from`.
+    #[tactic(auto, using(crate::proofs::SearchLaws::leaves_are, crate::proofs::SearchLaws::found_in_all, crate::proofs::SearchLaws::none_in_all))]
     pub fn find<T: TestFor<B>>(
         &self,
         elements: &[i64],

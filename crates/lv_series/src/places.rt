@@ -104,6 +104,7 @@ impl Series {
     }
 
     /// The same of a range that `prepare_for` the kind let pass. Takes no memory, changes nothing.
+    #[tactic(auto, using(crate::proofs::PlaceLaws::end_reached_in))]
     #[inline(always)]
     pub fn end_inside(&self, lo: u64, hi: u64, sum: i128) -> Option<u64>
         requires { IsSearchable self.now kind.Best lo hi }
@@ -127,6 +128,7 @@ impl Series {
     }
 
     /// The same of a range that `prepare_for` the kind let pass. Takes no memory, changes nothing.
+    #[tactic(auto, using(crate::proofs::PlaceLaws::start_reached_in))]
     #[inline(always)]
     pub fn start_inside(&self, lo: u64, hi: u64, sum: i128) -> Option<u64>
         requires { IsSearchable self.now kind.Best lo hi }

@@ -8,6 +8,7 @@ ghost use Rattle.lv_series.specs.declared.sample_edits.SampleRefusal.{SampleRefu
 /// Whatever the calls on new samples, and whatever each was answered, out of memory included, the times, the values and each value over a
 /// window of time at the end are what the accepted edits alone make. Which kinds have a tree changes no answer. What each edit of samples
 /// ensures is a step of such a run.
+#[tactic(auto, using(crate::proofs::SamplePlainLaws::run_is_plain))]
 pub fn every_sample_answer_is_plain()
     ensures plain { (table : List (List ℕ)) (calls : List SampleCalled) (s : SamplesState) → SampleRun (plain_samples table []) calls s → IsPlainSamples table calls s }
     ensures steps { (old new : SamplesState) (edit : SampleEdit) (answer : Result LongReceipt SampleRefusal) → AnswersSample old edit answer new → SampleStep old (edited edit (is_ok answer)) new }

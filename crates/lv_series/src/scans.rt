@@ -41,6 +41,7 @@ impl Series {
         self.scan(body, false, before, lo, hi, into)
     }
     // The running folds of a range, each with its own element or without it.
+    #[tactic(auto, using(crate::proofs::KeptLaws::slice_long, crate::proofs::KeptLaws::slice_start, crate::proofs::FreeLaws::free_range))]
     fn scan<B: LongBody>(
         &self,
         body: &B,

@@ -59,6 +59,7 @@ impl Trees {
 impl Series {
     // The end at which the range from index `lo` on comes to have what is sought, at most `hi`, or none. Looking `back` it is the start at
     // which the range up to index `hi` does, at least `lo`.
+    #[tactic(auto, using(crate::proofs::PlaceLaws::found_in, crate::proofs::PlaceLaws::none_found_in, crate::proofs::FreeLaws::free_range))]
     pub(crate) fn find(&self, sought: Sought, lo: u64, hi: u64, back: bool) -> Option<u64>
         requires { IsSearchable self.now (kind_for sought) lo hi }
         ensures { FindsIn back sought self.now.held lo hi result }

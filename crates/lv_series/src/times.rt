@@ -6,6 +6,7 @@ use crate::windows::{is_wide, remove_and_shrink};
 
 /// How many times are before another. They are in front of the others, so this is the place of the first one that isn't before it, or the
 /// end. O(log n).
+#[tactic(auto, using(crate::proofs::TimeLaws::sought_first, crate::proofs::TimeLaws::all_behind))]
 pub fn place_of(times: &[i64], time: i128) -> usize
     requires { IsRising times.now }
     ensures within { result ≤ length times.now }

@@ -61,6 +61,7 @@ impl Trees {
     }
 
     /// Adds the leaf of a block to each tree that is kept, behind the others. Where there is no memory nothing has changed, and it says so.
+    #[tactic(auto, using(crate::proofs::TreeLaws::are_back))]
     #[inline(never)]
     pub fn grow(&mut self, block: &[i64]) -> bool
         requires eight { length block.now ≡ 8 }

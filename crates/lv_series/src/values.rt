@@ -26,6 +26,7 @@ impl Series {
 
     /// The summary by a kind of the elements from index `lo` up to `hi`, with the number of the last edit. By the kind's tree it takes
     /// O(log n) joins; without one it goes over the range. Refused with `BadRange`, then `OutOfRange`. Takes no memory.
+    #[tactic(auto, using(crate::proofs::KeptLaws::range_in, crate::proofs::FreeLaws::free_range))]
     #[inline(always)]
     pub fn value(
         &self,
@@ -56,6 +57,7 @@ impl Series {
 
     /// The same, and makes the kind's tree first, where there is none. Refused as `value` is, then with `NoMemory`: nothing has changed
     /// then.
+    #[tactic(auto, using(crate::proofs::AskLaws::asks_after))]
     #[inline(always)]
     pub fn ask(
         &mut self,
@@ -105,6 +107,7 @@ impl Series {
     }
 
     /// The elements from index `lo` up to `hi`, as they are side by side in memory. O(1). Refused with `BadRange`, then `OutOfRange`.
+    #[tactic(auto, using(crate::proofs::KeptLaws::range_in, crate::proofs::FreeLaws::free_range))]
     pub fn elements(&self, lo: u64, hi: u64) -> Result<&[i64], LongRefusal>
         ensures ok { IfOk result (λ elements. (range_refused self.now.held lo hi ≡ None) × (elements.now ≡ slice_of self.now.held lo hi)) }
         ensures err { IfErr result (λ refusal. range_refused self.now.held lo hi ≡ Some refusal) }

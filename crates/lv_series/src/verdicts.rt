@@ -86,6 +86,7 @@ impl Series {
     }
 
     // The element under an index that is kept.
+    #[tactic(auto, using(crate::proofs::KeptLaws::element_in, crate::proofs::KeptLaws::kept_inside))]
     #[inline(always)]
     pub(crate) fn read(&self, index: u64) -> i64
         requires { is_kept self.now.held index ≡ true }

@@ -13,10 +13,6 @@ returns-then-gone-len-clause-over c =
     (subst (λ k. AreOver k c.args.to xs (from_blocks (c.args.to / 8) c.args.trees.now)) none
     (all_expired c.args.base c.args.first xs c.requires.window c.args.trees.now c.requires.over c.args.to c.requires.low c.requires.high 0 (omega arith)))
 
-pub returns-clause-window : goal.returns-clause-window
-returns-clause-window c =
-    window_expired c.args.base c.args.first c.args.elements.now.items c.remove_and_shrink.new.elements.items c.requires.window c.args.to ((c.args.to - 8 * c.args.base) / 8) c.requires.low c.requires.high (omega arith) c.remove_and_shrink.ensures
-
 pub shrink-requires-clause-over : goal.shrink-requires-clause-over
 shrink-requires-clause-over c =
     let xs = c.args.elements.now.items in

@@ -33,13 +33,6 @@ grow-requires-clause-can c =
     let last = last_block ys c.as_slice.result.now c.len-len.result c.as_slice.ensures.value size full (omega (arith, ap length more, length_push xs x)) in
     can_grow_all c.args.base c.args.first xs c.requires.window c.args.trees.now c.requires.over ys v x more (run_of c.as_slice.result.now (c.len-len.result - 8) (c.len-len.result - (c.len-len.result - 8))) full last
 
-pub returns-then-grow-clause-window : goal.returns-then-grow-clause-window
-returns-then-grow-clause-window c =
-    let xs = c.args.elements.now.items in
-    let x = to_z w64 (of_z w64 c.args.x) in
-    let fits : IsElement x = subst IsElement (sym (to_z-of_z w64 c.args.x c.ranges.x)) c.ranges.x in
-    window_more c.args.base c.args.first xs c.add_element.new.elements.items c.requires.window x (c.if-not-add_element.ensures.added refl) fits c.add_element.ensures.few c.requires.numbered
-
 pub returns-then-grow-clause-over : goal.returns-then-grow-clause-over
 returns-then-grow-clause-over c =
     let xs = c.args.elements.now.items in

@@ -21,13 +21,6 @@ renew-requires-clause-can c =
     can_renew_all c.args.base c.args.first xs c.requires.window c.args.trees.now c.requires.over c.args.at x c.requires.low (run_of ys (8 * b) (8 * b + 8 - 8 * b)) inside (ap (run_of ys (8 * b)) count)
     (window_written c.args.base c.args.first xs ys c.requires.window c.args.at x refl fits)
 
-pub returns-then-block-elements-clause-window : goal.returns-then-block-elements-clause-window
-returns-then-block-elements-clause-window c =
-    let xs = c.args.elements.now in
-    let x = to_z w64 (of_z w64 c.args.x) in
-    let fits : IsElement x = subst IsElement (sym (to_z-of_z w64 c.args.x c.ranges.x)) c.ranges.x in
-    window_written c.args.base c.args.first xs (slice_set xs c.args.at x) c.requires.window c.args.at x refl fits
-
 pub returns-then-block-elements-clause-over : goal.returns-then-block-elements-clause-over
 returns-then-block-elements-clause-over c =
     let xs = c.args.elements.now in

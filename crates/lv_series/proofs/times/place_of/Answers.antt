@@ -5,12 +5,6 @@ use Rattle.std.specs.Int.{w128}
 use Rattle.lv_series.proofs.TimeLaws.{all_before, all_behind, sought_above, sought_below, sought_first, time_at}
 use Rattle.lv_series.proofs.times.place_of.Goals as goal
 
-pub loop-low-init : goal.loop-low-init
-loop-low-init c = sought_first c.args.times.now _
-
-pub bounds-times-mid : goal.bounds-times-mid
-bounds-times-mid c = omega (arith, c.loop-low.invariant.within)
-
 pub loop-low-preserved-then-from-time : goal.loop-low-preserved-then-from-time
 loop-low-preserved-then-from-time c =
     let mid = c.loop-low.low + (c.loop-low.high - c.loop-low.low) / 2 in
@@ -32,9 +26,3 @@ returns-clause-before c =
     let time = to_z-of_z w128 c.args.time c.ranges.time in
     let sought = rw time at c.loop-low.invariant in
     all_before c.args.times.now c.args.time c.loop-low.low c.loop-low.high sought
-
-pub returns-clause-behind : goal.returns-clause-behind
-returns-clause-behind c =
-    let time = to_z-of_z w128 c.args.time c.ranges.time in
-    let sought = rw time at c.loop-low.invariant in
-    all_behind c.args.times.now c.args.time c.loop-low.low c.loop-low.high sought (omega arith)

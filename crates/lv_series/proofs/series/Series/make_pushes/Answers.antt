@@ -7,28 +7,6 @@ use Rattle.lv_series.proofs.KeptLaws.{more_in, size_in}
 use Rattle.lv_series.proofs.SeriesLaws.{with_trees}
 use Rattle.lv_series.proofs.series.Series.make_pushes.Goals as goal
 
-pub push_each-requires-clause-numbered : goal.push_each-requires-clause-numbered
-push_each-requires-clause-numbered c =
-    let s = c.self.inside in
-    let els = s.elements.items in
-    let window = c.self.invariant.0 in
-    let st = with_trees s.trees (held_in s.base s.first els) s.edits in
-    let free : verdict_of_edits st (pushes_of c.args.values.now) ≡ None = rw (← c.self.view_is) at c.requires in
-    let size = size_in s.base s.first els window in
-    let room = free_pushes st c.args.values.now (omega arith) (omega (arith, size, window.numbered)) free in
-    omega (arith, room.1, size)
-
-pub overflow_add-self : goal.overflow_add-self
-overflow_add-self c =
-    let s = c.self.inside in
-    let els = s.elements.items in
-    let window = c.self.invariant.0 in
-    let st = with_trees s.trees (held_in s.base s.first els) s.edits in
-    let free : verdict_of_edits st (pushes_of c.args.values.now) ≡ None = rw (← c.self.view_is) at c.requires in
-    let size = size_in s.base s.first els window in
-    let room = free_pushes st c.args.values.now (omega arith) (omega (arith, size, window.numbered)) free in
-    omega (arith, room.0)
-
 pub returns : goal.returns
 returns c =
     let s = c.self.inside in
