@@ -1,10 +1,9 @@
 -- Proof of `ask_six`: a reduction of a vector by all six kinds, each by its own tree.
-use Rattle.std.proofs.Common.{refl, sym, ap, subst, ◌∙◌}
+use Rattle.std.proofs.Common.{refl, ap, ◌∙◌}
 use Rattle.lv_bodies.specs.Automata.{table_of}
 use Rattle.lv_bodies.specs.Body.{fold_of}
 use Rattle.lv_bodies.specs.Six.{six_operations_by}
-use Rattle.lv_edits.specs.Ranges.{range_refusal, slice_of}
-use Rattle.lv_tree.specs.KindSummaries.{summary_by}
+use Rattle.lv_edits.specs.Ranges.{slice_of}
 use Rattle.livevec_c.specs.Answers.{spread}
 use Rattle.livevec_c.specs.Behind.{State}
 use Rattle.livevec_c.proofs.AskedLaws.{asks_six, refuses_six}
