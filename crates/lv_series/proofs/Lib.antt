@@ -7,6 +7,7 @@ pub mod KeptLaws
 pub mod LayerLaws
 pub mod PlaceLaws
 pub mod PlainLaws
+pub mod RememberedLaws
 pub mod SampleLaws
 pub mod SamplePlainLaws
 pub mod ScanSteps

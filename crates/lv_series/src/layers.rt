@@ -1,22 +1,27 @@
 //! The tree of one kind over the blocks of a series, where it is kept.
-ghost use Rattle.std.specs.Prelude.{◌≡◌, ◌+◌, ◌-◌, ◌*◌, ◌/◌, ◌^◌, ◌≤◌, [], true, false, if◌then◌else◌, length, IfSome};
+ghost use Rattle.std.specs.Prelude.{◌≡◌, ◌+◌, ◌-◌, ◌*◌, ◌/◌, ◌^◌, ◌≤◌, [], true, false, if◌then◌else◌, length, All, IfSome};
 ghost use Rattle.std.specs.List.{slice_range};
 ghost use Rattle.lv_bodies.specs.Body.{fold_of};
+ghost use Rattle.lv_geometry.specs.Elements.{IsElement};
 ghost use Rattle.lv_series.specs.Blocks.{CanCut, CanGrow, CanRenew, CoversBlocks, IsOver, IsWindow, before_block, from_block, with_leaf, with_leaf_at, without_last};
 ghost use Rattle.lv_series.specs.Places.{Finds};
 ghost use Rattle.lv_tree.specs.Blocks.{AreLeaves};
 
 use crate::blocks::BLOCK;
-use lv_bodies::{LongBody, fold_long};
-use lv_tree::{FoldTree, Items, TestFor, Tree, find_sought_end, find_sought_start, fold_range};
+use crate::remembered::Remembering;
+use lv_bodies::{LongBody, fold_long, long_laws};
+use lv_tree::{FoldTree, Items, TestFor, find_sought_end, find_sought_start, fold_range};
 use std::alloc::Global;
 use std::marker::Model;
+
+// A range of at most so many elements is folded where it is kept.
+const FEW: usize = 64;
 
 /// A fold tree whose leaves are blocks of eight elements, or none.
 #[derive(Drop)]
 pub struct Layer<B: LongBody> {
     kept: bool,
-    tree: FoldTree<B>,
+    tree: Remembering<B>,
 }
 
 impl<B: LongBody> Model for Layer<B> {
@@ -34,7 +39,7 @@ impl<B: LongBody> Layer<B> {
     {
         Layer {
             kept: false,
-            tree: FoldTree::new(alloc, body, 0),
+            tree: Remembering::new(alloc, body, 0),
         }
     }
 
@@ -123,6 +128,7 @@ impl<B: LongBody> Layer<B> {
 
     /// Makes the tree, with a leaf for each block that is whole, where there is none. Where there is no memory nothing has changed, and it
     /// says so.
+    #[inline(always)]
     pub fn make(&mut self, elements: &Vec<i64>, base: u64, first: u64) -> bool
         requires window { IsWindow base first elements.now.items }
         requires over { IsOver (B.operations self.old.body) base first elements.now.items self.old }
@@ -154,7 +160,7 @@ impl<B: LongBody> Layer<B> {
         ) {
             None => false,
             Some(tree) => {
-                self.tree = tree;
+                self.tree = Remembering::of(tree);
                 self.kept = true;
                 true
             }
@@ -175,7 +181,6 @@ impl<B: LongBody> Layer<B> {
     }
 
     /// The fold of the elements from a place up to another: by the tree, where it is kept, or else over the range.
-    #[tactic(auto, using(crate::proofs::SearchLaws::leaves_are))]
     #[inline(always)]
     pub fn fold(&self, elements: &[i64], base: u64, first: u64, from: usize, to: usize) -> B::S
         requires window { IsWindow base first elements.now }
@@ -191,12 +196,55 @@ impl<B: LongBody> Layer<B> {
         }
         let gone = gone_before(base, first);
         let items = Items::new(&elements[gone..]);
-        fold_range(&self.tree, &items, from - gone, to - gone)
+        fold_range(self.tree.tree(), &items, from - gone, to - gone)
+    }
+
+    /// The same, where a long range's whole blocks are remembered until others are asked for.
+    #[inline(always)]
+    pub fn ask(&mut self, elements: &[i64], base: u64, first: u64, from: usize, to: usize) -> B::S
+        requires window { IsWindow base first elements.now }
+        requires over { IsOver (B.operations self.old.body) base first elements.now self.old }
+        requires low { first ≤ 8 * base + from }
+        requires order { from ≤ to }
+        requires high { to ≤ length elements.now }
+        ensures same { self.new ≡ self.old }
+        ensures value { result ≡ fold_of (B.operations self.old.body) (slice_range elements.now from to) }
+    {
+        if !self.kept || to - from <= FEW {
+            return self.fold(elements, base, first, from, to);
+        }
+        let start = from + (BLOCK - from % BLOCK) % BLOCK;
+        let end = to - to % BLOCK;
+        let middle = self.ask_blocks(elements, base, first, start / BLOCK, end / BLOCK);
+        let body = self.tree.body();
+        join_ends(&body, elements, from, to, start, end, middle)
+    }
+
+    // The fold of the elements of the whole blocks from the one at place `from` on up to that at place `to`, by the tree.
+    #[inline(always)]
+    fn ask_blocks(
+        &mut self,
+        _elements: &[i64],
+        base: u64,
+        _first: u64,
+        from: usize,
+        to: usize,
+    ) -> B::S
+        requires window { IsWindow base _first _elements.now }
+        requires over { IsOver (B.operations self.old.body) base _first _elements.now self.old }
+        requires kept { self.old.kept ≡ true }
+        requires low { _first ≤ 8 * base + 8 * from }
+        requires order { from ≤ to }
+        requires high { 8 * to ≤ length _elements.now }
+        ensures same { self.new ≡ self.old }
+        ensures value { result ≡ fold_of (B.operations self.old.body) (slice_range _elements.now (8 * from) (8 * to)) }
+    {
+        self.tree.ask(base + from as u64, base + to as u64)
     }
 
     /// The end at which the range from a place on comes to have what a test seeks, at most `to`, or none, by the tree. Looking `back` it is
     /// the start at which the range up to a place does, at least `from`.
-    #[tactic(auto, using(crate::proofs::SearchLaws::leaves_are, crate::proofs::SearchLaws::found_in_all, crate::proofs::SearchLaws::none_in_all))]
+    #[tactic(auto, using(crate::proofs::SearchLaws::found_in_all, crate::proofs::SearchLaws::none_in_all))]
     pub fn find<T: TestFor<B>>(
         &self,
         elements: &[i64],
@@ -217,7 +265,7 @@ impl<B: LongBody> Layer<B> {
     {
         let gone = gone_before(base, first);
         let items = Items::new(&elements[gone..]);
-        match find_sought(&self.tree, &items, test, from - gone, to - gone, back) {
+        match find_sought(self.tree.tree(), &items, test, from - gone, to - gone, back) {
             Some(place) => Some(gone + place),
             None => None,
         }
@@ -244,6 +292,33 @@ fn find_sought<B: LongBody, T: TestFor<B>>(
         return find_sought_start(tree, items, test, lo, hi);
     }
     find_sought_end(tree, items, test, lo, hi)
+}
+
+// The fold of a range from that of the elements between two places in it, and those at its two ends.
+#[inline(always)]
+fn join_ends<B: LongBody>(
+    body: &B,
+    elements: &[i64],
+    from: usize,
+    to: usize,
+    start: usize,
+    end: usize,
+    middle: B::S,
+) -> B::S
+    requires elements { All IsElement elements.now }
+    requires few { length elements.now ≤ 2 ^ 59 }
+    requires low { from ≤ start }
+    requires order { start ≤ end }
+    requires high { end ≤ to }
+    requires inside { to ≤ length elements.now }
+    requires middle { middle ≡ fold_of (B.operations body.now) (slice_range elements.now start end) }
+    ensures { result ≡ fold_of (B.operations body.now) (slice_range elements.now from to) }
+{
+    long_laws(body);
+    let front = fold_long(body, &elements[from..start]);
+    let back = fold_long(body, &elements[end..to]);
+    let joined = body.combine_long(front, middle);
+    body.combine_long(joined, back)
 }
 
 // How many elements in memory are before the block of the first that is kept, which is that of a tree's first leaf.

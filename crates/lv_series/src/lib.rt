@@ -15,6 +15,7 @@ mod layers;
 mod places;
 mod receipts;
 mod refusals;
+mod remembered;
 mod restored;
 mod sample_changes;
 mod sample_edits;

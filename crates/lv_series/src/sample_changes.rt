@@ -2,9 +2,10 @@
 ghost use Rattle.std.specs.Prelude.{◌≡◌, ◌+◌, IfErr, OnErr, OnOk};
 ghost use Rattle.lv_series.specs.Samples.{AnswersSample, count_before, sample_refused};
 ghost use Rattle.lv_series.specs.Places.{IsSearchable};
-ghost use Rattle.lv_series.specs.Series.{RefusesAsked, with_kind};
+ghost use Rattle.lv_series.specs.Series.{Asks, RefusesAsked, with_kind};
 ghost use Rattle.lv_series.specs.declared.sample_edits.SampleEdit.TheVariants as asked;
 
+use crate::answers::LongAnswer;
 use crate::edits::LongEdit;
 use crate::receipts::LongReceipt;
 use crate::refusals::LongRefusal;
@@ -12,6 +13,7 @@ use crate::sample_edits::{SampleEdit, SampleRefusal};
 use crate::samples::Samples;
 use crate::times::forget_times;
 use lv_bodies::Kind;
+use lv_tree::KindSummary;
 
 impl Samples {
     /// Makes an edit, whichever it is.
@@ -143,5 +145,20 @@ impl Samples {
         ensures same { OnErr result (self.new ≡ self.old) }
     {
         self.series.prepare_for(kind, lo, hi)
+    }
+
+    /// The summary by a kind of the values from index `lo` up to `hi`, with the number of the last edit: as a `Series` is asked. The kind's
+    /// tree is made first, where there is none. O(log n) joins then. Refused as `prepare_for` is.
+    #[inline(always)]
+    pub fn ask(
+        &mut self,
+        kind: Kind,
+        lo: u64,
+        hi: u64,
+    ) -> Result<LongAnswer<KindSummary>, LongRefusal>
+        ensures asked { Asks self.old.series kind lo hi result self.new.series }
+        ensures times { self.new.times ≡ self.old.times }
+    {
+        self.series.ask(kind, lo, hi)
     }
 }

@@ -178,6 +178,7 @@ impl Trees {
     }
 
     /// Makes the tree of a kind, where there is none. O(n). Where there is no memory nothing has changed, and it says so.
+    #[inline(always)]
     pub fn make(&mut self, kind: Kind, elements: &Vec<i64>, base: u64, first: u64) -> bool
         requires window { IsWindow base first elements.now.items }
         requires over { AreOver base first elements.now.items self.old }
@@ -224,6 +225,35 @@ impl Trees {
             Kind::Automaton => value_by(&self.states, elements, base, first, from, to),
         }
     }
+
+    /// The same, where a long range's whole blocks are remembered until others are asked for.
+    #[inline(always)]
+    pub fn ask(
+        &mut self,
+        kind: Kind,
+        elements: &[i64],
+        base: u64,
+        first: u64,
+        from: usize,
+        to: usize,
+    ) -> KindSummary
+        requires window { IsWindow base first elements.now }
+        requires over { AreOver base first elements.now self.old }
+        requires low { first ≤ 8 * base + from }
+        requires order { from ≤ to }
+        requires high { to ≤ length elements.now }
+        ensures same { self.new ≡ self.old }
+        ensures value { result ≡ summary_by (table_in self.old) kind (slice_range elements.now from to) }
+    {
+        match kind {
+            Kind::Sum => ask_by(&mut self.sums, elements, base, first, from, to),
+            Kind::Least => ask_by(&mut self.least, elements, base, first, from, to),
+            Kind::Greatest => ask_by(&mut self.greatest, elements, base, first, from, to),
+            Kind::Best => ask_by(&mut self.best, elements, base, first, from, to),
+            Kind::Affine => ask_by(&mut self.maps, elements, base, first, from, to),
+            Kind::Automaton => ask_by(&mut self.states, elements, base, first, from, to),
+        }
+    }
 }
 
 // The summary by the kind of one tree.
@@ -244,4 +274,25 @@ fn value_by<K: OfKind>(
     ensures { (table : List (List ℕ)) → K.fits layer.now.body table → result ≡ summary_by table K.told_kind (slice_range elements.now from to) }
 {
     K::tell(from < to, layer.fold(elements, base, first, from, to))
+}
+
+// The same, where whole blocks are remembered.
+#[inline(always)]
+fn ask_by<K: OfKind>(
+    layer: &mut Layer<K>,
+    elements: &[i64],
+    base: u64,
+    first: u64,
+    from: usize,
+    to: usize,
+) -> KindSummary
+    requires window { IsWindow base first elements.now }
+    requires over { IsOver (K.operations layer.old.body) base first elements.now layer.old }
+    requires low { first ≤ 8 * base + from }
+    requires order { from ≤ to }
+    requires high { to ≤ length elements.now }
+    ensures same { layer.new ≡ layer.old }
+    ensures value { (table : List (List ℕ)) → K.fits layer.old.body table → result ≡ summary_by table K.told_kind (slice_range elements.now from to) }
+{
+    K::tell(from < to, layer.ask(elements, base, first, from, to))
 }

@@ -1,7 +1,7 @@
 //! What a series is asked of a range.
 ghost use Rattle.std.specs.Prelude.{◌≡◌, false, None, Some, IfErr, IfOk, OnErr, OnOk};
 ghost use Rattle.lv_series.specs.Places.{IsSearchable};
-ghost use Rattle.lv_series.specs.Series.{Asks, Reduces, RefusesAsked, Values, keeps_kind, range_refused, slice_of, with_kind};
+ghost use Rattle.lv_series.specs.Series.{Asks, IsLongValue, Reduces, RefusesAsked, Values, keeps_kind, range_refused, slice_of, with_kind};
 
 use crate::answers::LongAnswer;
 use crate::refusals::LongRefusal;
@@ -12,6 +12,7 @@ use lv_tree::KindSummary;
 impl Series {
     /// Makes the tree of a kind, where there is none: from then on a value by that kind takes O(log n) joins, and each edit renews the
     /// tree. O(n). Refused with `NoMemory`, and nothing has changed then.
+    #[inline(always)]
     pub fn prepare(&mut self, kind: Kind) -> Result<(), LongRefusal>
         ensures ok { OnOk result (self.new ≡ record self.old { kinds = with_kind kind self.old.kinds }) }
         ensures same { OnErr result (self.new ≡ self.old) }
@@ -55,8 +56,9 @@ impl Series {
         })
     }
 
-    /// The same, and makes the kind's tree first, where there is none. Refused as `value` is, then with `NoMemory`: nothing has changed
-    /// then.
+    /// The same, and makes the kind's tree first, where there is none. The tree remembers the whole blocks of eight elements that were asked
+    /// for last: as long as a range has just these, or some more behind them, it takes no joins for them. Refused as `value` is, then with
+    /// `NoMemory`: nothing has changed then.
     #[tactic(auto, using(crate::proofs::AskLaws::asks_after))]
     #[inline(always)]
     pub fn ask(
@@ -68,8 +70,31 @@ impl Series {
         ensures { Asks self.old kind lo hi result self.new }
     {
         match self.prepare_for(kind, lo, hi) {
-            Ok(()) => self.value(kind, lo, hi),
+            Ok(()) => Ok(self.asked(kind, lo, hi)),
             Err(refusal) => Err(refusal),
+        }
+    }
+
+    // The same of a range that is kept.
+    #[inline(always)]
+    fn asked(&mut self, kind: Kind, lo: u64, hi: u64) -> LongAnswer<KindSummary>
+        requires granted { range_refused self.old.held lo hi ≡ None }
+        ensures same { self.new ≡ self.old }
+        ensures value { IsLongValue self.old kind lo hi result }
+    {
+        let from = (lo - 8 * self.base) as usize;
+        let to = (hi - 8 * self.base) as usize;
+        let value = self.trees.ask(
+            kind,
+            self.elements.as_slice(),
+            self.base,
+            self.first,
+            from,
+            to,
+        );
+        LongAnswer {
+            edit: self.edits,
+            value,
         }
     }
 
