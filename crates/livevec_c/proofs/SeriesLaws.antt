@@ -1,5 +1,5 @@
 -- What a series answers of a range, and the cells of a piece of one.
-use Rattle.std.proofs.Common.{◌≡◌, ℕ, zero, suc, ℤ, pos, ◌+◌, ◌-◌, ◌^◌, ◌≤◌, ◌++◌, ◌∷◌, [], Bool, true, false, Option, None, List, if◌then◌else◌, length, map, take, get_or, All, inl, refl, sym, ap, subst, ◌∙◌, arith}
+use Rattle.std.proofs.Common.{◌≡◌, ℕ, zero, suc, ℤ, pos, ◌+◌, ◌-◌, ◌^◌, ◌≤◌, ◌++◌, ◌∷◌, [], Bool, true, false, Option, None, Ok, Err, List, if◌then◌else◌, length, map, take, get_or, All, inl, inr, refl, sym, ap, subst, ◌∙◌, arith}
 use Rattle.std.specs.Prelude.{nat_lt}
 use Rattle.std.specs.List.{range_with_len}
 use Rattle.std.proofs.Math.Numerals.{suc-eq-add-one}
@@ -19,16 +19,16 @@ use Rattle.lv_bodies.specs.declared.kinds.Kind.{Kind}
 use Rattle.lv_bodies.specs.declared.kinds.Shown.{Shown}
 use Rattle.lv_reduce.specs.Running.{reached, scan_from}
 use Rattle.lv_reduce.proofs.PieceLaws.{slice_range-append}
-use Rattle.lv_series.specs.Places.{IsSearchable}
-use Rattle.lv_series.specs.Series.{Held, IsLongValue, range_refused, size_of, slice_of}
+use Rattle.lv_series.specs.Series.{Asks, Held, IsLongValue, range_refused, size_of, slice_of}
 use Rattle.lv_series.specs.declared.answers.LongAnswer.{LongAnswer}
+use Rattle.lv_series.specs.declared.refusals.LongRefusal.{LongRefusal}
 use Rattle.lv_series.proofs.FreeLaws.{free_range}
 use Rattle.lv_series.proofs.KeptLaws.{slice_long, slice_start}
 use Rattle.lv_tree.specs.KindSummaries.{shown_of}
 use Rattle.lv_tree.specs.declared.kind_summaries.KindSummary.{KindSummary}
 use Rattle.livevec_c.specs.Columns.{CanGoOnLong}
 use Rattle.livevec_c.specs.Seats.{values_for}
-use Rattle.livevec_c.specs.SeriesAnswers.{granted, long_valued}
+use Rattle.livevec_c.specs.SeriesAnswers.{granted, long_valued, refused_by, unreduced_by}
 use Rattle.livevec_c.specs.SeriesBehind.{AsksSeries, values_of, with_all}
 use Rattle.livevec_c.specs.SeriesHeld.{Long}
 use Rattle.livevec_c.specs.SeriesValued.{ValuesSeries, value_of, with_tree}
@@ -50,11 +50,18 @@ kind_told kind s lo hi answer shown told is shows tells =
     ∙ ap (λ v. record { why = granted; edit = s.edits; values = values_for any v }) (shows ∙ ap shown_of is.value ∙ shown-plain s.table xs kind)
     ∙ ap (λ r. long_valued r s.edits (values_for any (plain_value_with s.table kind xs))) (sym is.granted)
 
--- one that was told where the kind's tree was made first
-pub kind_made : (kind : Kind) (s new : Long) (lo hi : ℕ) (told : SeriesReduced) → new ≡ with_tree kind None s → IsSearchable new kind lo hi → told ≡ value_of kind lo hi new → ValuesSeries kind lo hi told s (with_tree kind None s)
-kind_made kind s new lo hi told is free tells =
-    let granted : range_refused s.held lo hi ≡ None = sym (ap (λ t. range_refused t.held lo hi) is) ∙ free.granted in
-    inl (tells ∙ ap (value_of kind lo hi) is, ap (λ r. with_tree kind r s) (sym granted))
+-- one that was asked, of which the kind's tree was made first
+pub kind_asked : (kind : Kind) (s new : Long) (lo hi : ℕ) (answer : LongAnswer KindSummary) (shown : Shown) (told : SeriesReduced) → Asks s kind lo hi (Ok answer) new → shown ≡ shown_of answer.value → told ≡ record { why = granted; edit = answer.edit; values = values_for (nat_lt lo hi) shown } → ValuesSeries kind lo hi told s new
+kind_asked kind s new lo hi answer shown told (is, after) shows tells = inl (kind_told kind s lo hi answer shown told is shows tells, after ∙ ap (λ r. with_tree kind r s) (sym is.granted))
+
+-- one that was refused
+pub kind_refused : (kind : Kind) (s new : Long) (lo hi : ℕ) (refusal : LongRefusal) (told : SeriesReduced) → Asks s kind lo hi (Err refusal) new → told ≡ unreduced_by (refused_by refusal) → ValuesSeries kind lo hi told s new
+kind_refused kind s new lo hi refusal told (same, inl why) tells =
+    inl (
+      tells ∙ ap (λ r. long_valued r s.edits (values_for (nat_lt lo hi) (plain_value_with s.table kind (slice_of s.held lo hi)))) (sym why),
+      same ∙ ap (λ r. with_tree kind r s) (sym why),
+    )
+kind_refused kind s new lo hi refusal told (same, inr (free, is, none)) tells = inr (tells ∙ ap (λ r. unreduced_by (refused_by r)) is, free, none, same)
 
 -- values of all kinds that were told where the tree of each was made first
 pub all_made : (s new : Long) (lo hi : ℕ) (told : SeriesReduced) → new ≡ with_all None s → range_refused s.held lo hi ≡ None → told ≡ values_of lo hi new → AsksSeries lo hi told s (with_all None s)

@@ -1,12 +1,13 @@
 //! The series behind a slot: what lies there is a series, or samples, whose values are one.
 ghost use Rattle.std.specs.Prelude.{◌≡◌, IfErr, OnErr, OnOk, option_map};
 ghost use Rattle.lv_series.specs.Places.{IsSearchable};
-ghost use Rattle.lv_series.specs.Series.{RefusesAsked, with_kind};
+ghost use Rattle.lv_series.specs.Series.{Asks, RefusesAsked, with_kind};
 ghost use Rattle.livevec_c.specs.SeriesHeld.{Long, series_in};
 
 use crate::objects::Object;
 use lv_bodies::Kind;
-use lv_series::{LongRefusal, Samples, Series};
+use lv_series::{LongAnswer, LongRefusal, Samples, Series};
+use lv_tree::KindSummary;
 
 /// What has a series, of which trees can be made.
 pub trait HasSeries {
@@ -39,6 +40,11 @@ pub trait HasSeries {
         ensures ok { OnOk result (self.new ≡ with_series (record (series_of self.old) { kinds = with_kind kind (series_of self.old).kinds }) self.old) }
         ensures err { IfErr result (λ refusal. RefusesAsked (series_of self.old) kind lo hi refusal (series_of self.new)) }
         ensures same { OnErr result (self.new ≡ self.old) };
+
+    /// The summary by a kind of a range, whose tree is made first, where there is none.
+    fn ask(&mut self, kind: Kind, lo: u64, hi: u64) -> Result<LongAnswer<KindSummary>, LongRefusal>
+        ensures asked { Asks (series_of self.old) kind lo hi result (series_of self.new) }
+        ensures kept { self.new ≡ with_series (series_of self.new) self.old };
 }
 
 impl HasSeries for Series {
@@ -68,6 +74,16 @@ impl HasSeries for Series {
     fn prepare_for(&mut self, kind: Kind, lo: u64, hi: u64) -> Result<(), LongRefusal> {
         self.prepare_for(kind, lo, hi)
     }
+
+    #[inline(always)]
+    fn ask(
+        &mut self,
+        kind: Kind,
+        lo: u64,
+        hi: u64,
+    ) -> Result<LongAnswer<KindSummary>, LongRefusal> {
+        self.ask(kind, lo, hi)
+    }
 }
 
 impl HasSeries for Samples {
@@ -93,6 +109,16 @@ impl HasSeries for Samples {
 
     fn prepare_for(&mut self, kind: Kind, lo: u64, hi: u64) -> Result<(), LongRefusal> {
         self.prepare_for(kind, lo, hi)
+    }
+
+    #[inline(always)]
+    fn ask(
+        &mut self,
+        kind: Kind,
+        lo: u64,
+        hi: u64,
+    ) -> Result<LongAnswer<KindSummary>, LongRefusal> {
+        self.ask(kind, lo, hi)
     }
 }
 

@@ -3,7 +3,7 @@ ghost use Rattle.std.specs.Prelude.{◌≡◌};
 ghost use Rattle.livevec_c.specs.Kinds.{kind_at};
 ghost use Rattle.livevec_c.specs.SeriesAnswers.{unheld, unreduced_by};
 ghost use Rattle.livevec_c.specs.SeriesHeld.{AtObject, Long};
-ghost use Rattle.livevec_c.specs.SeriesValued.{PreparesBehind, PreparesSeries, ValuesBehind, ValuesSeries, unkind, value_of};
+ghost use Rattle.livevec_c.specs.SeriesValued.{PreparesBehind, PreparesSeries, ValuesBehind, ValuesSeries, unkind};
 
 use crate::boards::kind_of;
 use crate::objects::Object;
@@ -29,29 +29,18 @@ pub fn no_kind() -> Refused
     }
 }
 
-// A value of a series by a kind, by its tree, where it has one.
+// A value of what has a series by a kind, whose tree is made first.
 #[inline(always)]
-fn told_value(series: &Series, kind: Kind, lo: u64, hi: u64) -> SeriesReduced
-    ensures { result ≡ value_of kind lo hi series.now }
+fn value_of_held<H: HasSeries>(held: &mut H, kind: Kind, lo: u64, hi: u64) -> SeriesReduced
+    ensures { (state : Long) × (held.new ≡ H.with_series state held.old) × ValuesSeries kind lo hi result (H.series_of held.old) state }
 {
-    match series.value(kind, lo, hi) {
+    match held.ask(kind, lo, hi) {
         Err(refusal) => not_reduced(refusal_answer(refusal)),
         Ok(answer) => SeriesReduced {
             why: not_refused(),
             edit: answer.edit,
             values: shown_values(lo < hi, answer.value.shown()),
         },
-    }
-}
-
-// A value of what has a series by a kind, whose tree is made first.
-#[inline(always)]
-fn value_of_held<H: HasSeries>(held: &mut H, kind: Kind, lo: u64, hi: u64) -> SeriesReduced
-    ensures { (state : Long) × (held.new ≡ H.with_series state held.old) × ValuesSeries kind lo hi result (H.series_of held.old) state }
-{
-    match held.prepare_for(kind, lo, hi) {
-        Err(refusal) => not_reduced(refusal_answer(refusal)),
-        Ok(()) => told_value(held.series(), kind, lo, hi),
     }
 }
 
