@@ -35,7 +35,7 @@ fn pick(number: u64, end: u64) -> u64 {
 
 // A small element of either sign, so that sums turn about.
 fn element(number: u64) -> i64 {
-    pick(next(number), 101) as i64 - 50
+    pick(next(number), 101).cast_signed().wrapping_sub(50)
 }
 
 fn at(list: &[i64], index: u64) -> i64 {
