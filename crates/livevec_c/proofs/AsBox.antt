@@ -1,4 +1,8 @@
 -- The pointer that C keeps, where it owns an object, and its parts own what a box of the object owns.
+use Rattle.std.specs.Prelude.{◌≡◌, Option, IsSome, Some, None}
+use Rattle.std.proofs.lemmas.Bool.{false≢true}
+use Rattle.livevec_c.specs.declared.objects.Object.{Object as Held}
+use mathlib.Core.Path.{refl}
 use mir.Syntax.{impl, tnil, dnil}
 use mathlib.Core.List.{[]}
 use denote.Signature.{Slot, plain}
@@ -19,3 +23,8 @@ FromParts = plain (λ _. Parts.the_row Object.the_row Heap.the_row ghosts)
 
 abbrev pub FromRaw : Slot 0
 FromRaw = plain (λ _. Raw.the_row)
+
+-- what is there, where something is
+pub some_of : (o : Option Held) → IsSome o → (x : Held) × (o ≡ Some x)
+some_of (Some x) p = (x, refl)
+some_of None p = elim (false≢true p) [ ]

@@ -9,8 +9,10 @@ pub mod Claims
 pub mod Columns
 pub mod Found
 pub mod Frees
+pub mod Kept
 pub mod KindVectors
 pub mod Kinds
+pub mod Lent
 pub mod Lives
 pub mod Only
 pub mod Owned
@@ -26,6 +28,7 @@ pub mod SeriesAnswers
 pub mod SeriesBehind
 pub mod SeriesFound
 pub mod SeriesHeld
+pub mod SeriesLent
 pub mod SeriesPieces
 pub mod SeriesPushed
 pub mod SeriesValued

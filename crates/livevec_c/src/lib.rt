@@ -45,6 +45,7 @@ mod series_columns;
 mod series_found;
 mod series_held;
 mod series_kinds;
+mod series_lent;
 mod series_pieces;
 mod series_pushes;
 mod series_results;

@@ -1,5 +1,6 @@
 //! The pointer that C keeps, and what it owns.
 ghost use Rattle.std.specs.Prelude.{◌≡◌, Option, IsSome, Some, None};
+ghost use Rattle.std.specs.Borrow.{sem};
 ghost use Rattle.livevec_c.specs.declared.objects.Object.{Object};
 ghost use Rattle.livevec_c.specs.Owned.{inner_coded, raw_owns};
 
@@ -24,6 +25,8 @@ impl Model for Raw {
 }
 
 impl Raw {
+    ghost use Rattle.livevec_c.specs.Lent.{LendsInner};
+
     /// Owns what the box owned.
     pub fn of_box(b: Box<Object>) -> Raw
         ensures { result.inner ≡ Some b.value }
@@ -37,6 +40,15 @@ impl Raw {
         ensures { self.inner ≡ Some result.value }
     {
         self.into_parts().into_box()
+    }
+
+    /// Lends the object that it owns.
+    pub fn as_mut(&mut self) -> &mut Object
+        requires { IsSome self.old.inner }
+        ensures* writes_back { sem 𝓛 (LendsInner self.entry result) }
+        ensures value { self.old.inner ≡ Some result.now }
+    {
+        unsafe { &mut *(self.at as *mut Object) }
     }
 
     fn of_parts(parts: Parts<Object, Global>) -> Raw

@@ -1,6 +1,8 @@
 //! The slot that C holds.
 ghost use Rattle.std.specs.Prelude.{◌≡◌, Option, IsSome, Some, None, option_map, is_some};
 
+pub mod lent;
+
 use crate::objects::Object;
 use crate::raw::Raw;
 use std::alloc::Global;

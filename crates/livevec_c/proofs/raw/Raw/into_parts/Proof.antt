@@ -1,8 +1,7 @@
 -- `into_parts` moves two fields, and what they own goes with them.
-use Rattle.std.specs.Prelude.{◌≡◌, Option, IsSome, Some, None}
+use Rattle.std.specs.Prelude.{Option, IsSome}
 use Rattle.livevec_c.specs.declared.objects.Object.{Object}
 use Rattle.livevec_c.specs.contracts.raw.Raw as Raw
-use Rattle.std.proofs.lemmas.Bool.{false≢true}
 use denote.Steps.{heard}
 use contract.Monad.{fact}
 use types.Kit.{rewrite}
@@ -31,16 +30,11 @@ use denote.Triple.Table.{entered}
 use denote.Triple.Walked.{says, Stays, stay_dropped, walk_of, ends_at, Goes-dropped, walk_Meets}
 use Rattle.std_alloc.proofs.BoxSteps.Form.{D, B, word, box_typed}
 use Rattle.std_alloc.proofs.BoxSteps.Steps.{box_out, box_in}
-use Rattle.livevec_c.proofs.AsBox.{E, FromRaw as From}
+use Rattle.livevec_c.proofs.AsBox.{E, FromRaw as From, some_of}
 use Rattle.livevec_c.specs.contracts.raw.Raw.into_parts as F
 use Rattle.livevec_c.specs.contracts.raw.Raw.into_parts.Key.{name as #self}
 use Rattle.livevec_c.proofs.raw.Raw.into_parts.Statement as stated
 use Rattle.livevec_c.proofs.raw.Raw.into_parts.Code as code
-
--- what is there, where something is
-some_of : (o : Option Object) → IsSome o → (x : Object) × (o ≡ Some x)
-some_of (Some x) p = (x, refl)
-some_of None p = elim (false≢true p) [ ]
 
 abbrev stayed : Stays (F.ended).signature.params (F.ended).kept
 stayed = (stay_dropped From yes, tt)
