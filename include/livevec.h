@@ -7,7 +7,7 @@
  *   - a slot is never copied, and nothing but these functions writes it;
  *   - a slot is freed, or its memory given back, only when no call at it is under way or to come.
  * A slot serves one call at a time. A call beside another at the same slot is answered LIVEVEC_BUSY, and nothing has happened:
- * call again, or put a lock round the slot. Calls at different slots run side by side.
+ * call again, or put a lock round the slot. So is a call at a series whose elements are lent. Calls at different slots run side by side.
  * A function never follows an empty slot: it answers LIVEVEC_NO_HANDLE. Freeing a slot makes it empty.
  * No slot is passed by a pointer to const, also where a call changes nothing: a call enters its slot by writing its byte `busy_`, by an
  * atomic exchange where the program has more than one thread, and leaves it by a store. Arrays and tables that are only read are const.

@@ -10,6 +10,7 @@
 #include <cstdint>
 #include <initializer_list>
 #include <optional>
+#include <utility>
 #include <vector>
 
 namespace livevec {
@@ -31,9 +32,54 @@ inline std::uint64_t counted_long(livevec_series_count count)
     return count.value;
 }
 
+template <class Slot, std::uint32_t (*Free)(Slot *)> class by_index;
+
 /* The slot of the elements. */
 inline livevec_series *elements_of(livevec_series *slot) noexcept { return slot; }
 inline livevec_series *elements_of(livevec_samples *slot) noexcept { return slot ? &slot->values : nullptr; }
+
+} // namespace inner
+
+/* The elements of a range where they lie with a series, or with samples: they are lent, and nothing is copied. They are good while this lives, which
+ * gives them back at its end, and must end before what lent them. Until then each other call at that is refused with LIVEVEC_BUSY. */
+class lent {
+  public:
+    using value_type = std::int64_t;
+    using const_iterator = const std::int64_t *;
+
+    lent(lent &&other) noexcept : slot_(std::exchange(other.slot_, nullptr)), edit_(other.edit_), elements_(std::exchange(other.elements_, array_view())) {}
+    lent &operator=(lent &&other) noexcept
+    {
+        std::swap(slot_, other.slot_);
+        std::swap(edit_, other.edit_);
+        std::swap(elements_, other.elements_);
+        return *this;
+    }
+    ~lent()
+    {
+        if (slot_)
+            livevec_series_give_back(slot_);
+    }
+
+    const std::int64_t *data() const noexcept { return elements_.data(); }
+    std::size_t size() const noexcept { return elements_.size(); }
+    bool empty() const noexcept { return size() == 0; }
+    const std::int64_t *begin() const noexcept { return elements_.begin(); }
+    const std::int64_t *end() const noexcept { return elements_.end(); }
+    const std::int64_t &operator[](std::size_t place) const noexcept { return data()[place]; }
+    /* After which edit the elements are those of the range. */
+    std::uint64_t edit() const noexcept { return edit_; }
+
+  private:
+    template <class Slot, std::uint32_t (*Free)(Slot *)> friend class inner::by_index;
+    lent(livevec_series *slot, const livevec_series_view &view) noexcept : slot_(slot), edit_(view.edit), elements_(view.elements, view.length) {}
+
+    livevec_series *slot_;
+    std::uint64_t edit_;
+    array_view elements_;
+};
+
+namespace inner {
 
 /* What a series is asked, and what samples are asked of their values; and the edits that both have. Kept are the elements from index `first`
  * up to `size`: what isn't kept is refused by `not_kept`. */
@@ -72,6 +118,9 @@ class by_index : public owned<Slot, Free> {
         return elements;
     }
     [[nodiscard]] std::vector<std::int64_t> elements() const { return read(first(), size()); }
+
+    /* The elements of a range without a copy, lent until what this gives ends: no other call goes through meanwhile. O(1). */
+    [[nodiscard]] lent lend(std::uint64_t lo, std::uint64_t hi) { return lent(series_slot(), kept(livevec_series_lend(series_slot(), lo, hi))); }
 
     /* Makes the tree of a kind, where there is none: from then on a value by that kind takes O(log n) joins, and each edit renews the tree. */
     void prepare(livevec_kind kind) { check(livevec_series_prepare(series_slot(), kind)); }

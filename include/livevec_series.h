@@ -80,6 +80,16 @@ typedef struct livevec_series_scanned {
     uint64_t length; /* how many values were put: as many as the buffer took, or fewer at the range's end */
 } livevec_series_scanned;
 
+/* The elements of a range where they lie. Where it was refused, all but the first three is 0, and `elements` is null. */
+typedef struct livevec_series_view {
+    uint32_t refusal;
+    uint64_t first;
+    uint64_t size;
+    uint64_t edit;           /* after which edit the elements are those of the range */
+    const int64_t *elements; /* the element under index `lo`, and those behind it */
+    uint64_t length;         /* how many there are: hi - lo */
+} livevec_series_view;
+
 /* Puts a new series without elements into an empty slot. Refusals: NULL, IN_USE, NO_MEMORY. Who calls owes a livevec_free_series. */
 LIVEVEC_MUST_USE uint32_t livevec_series_new(livevec_series *slot);
 
@@ -144,6 +154,17 @@ LIVEVEC_MUST_USE livevec_series_reduced livevec_series_ask(livevec_series *slot,
  * starts at `lo` and as many as were put. No pointer to the elements is lent. Where it was refused the buffer is as it was.
  * Refusals: NULL, NO_HANDLE, BAD_RANGE, OUT_OF_RANGE. */
 LIVEVEC_MUST_USE livevec_series_scanned livevec_series_read(livevec_series *slot, uint64_t lo, uint64_t hi, int64_t *buffer, size_t length);
+
+/* The elements of a range, lent where they lie: O(1), and nothing is copied. They are the series' own: read them, and never write or free
+ * them. They are good until livevec_series_give_back. Until then the slot is entered: each other call at it, also a second loan and the one
+ * that frees it, is answered BUSY. Any thread may read them, and any may give them back: who does so owes that none reads on. Of an empty
+ * range `elements` isn't null, and nothing may be read there. Of the values of samples: at `&samples.values`. Takes no memory, changes nothing.
+ * A loan that was refused is none, and isn't given back. Refusals: NULL, NO_HANDLE, BAD_RANGE, OUT_OF_RANGE. */
+LIVEVEC_MUST_USE livevec_series_view livevec_series_lend(livevec_series *slot, uint64_t lo, uint64_t hi);
+
+/* Ends a loan: its elements may be read no more. NO_HANDLE where nothing is lent, and BUSY only beside another call.
+ * Refusals: NULL, NO_HANDLE. */
+uint32_t livevec_series_give_back(livevec_series *slot);
 
 /* The running values of a range by all six kinds, from the index `at` on, as many as a buffer of `length` takes: buffer[i] has those of
  * the elements from `lo` up to `at` + i, that one included, or excluded. The first piece has `at` = `lo`, the next one `at` and as many

@@ -74,3 +74,38 @@ livevec_series_scanned livevec_series_read(livevec_series *slot, uint64_t lo, ui
     LEAVES(left, slot);
     return livevec_proved_series_read(slot, lo, hi, buffer ? buffer : &nowhere, length);
 }
+
+/* The elements that a proved call lends. It is given some to begin with, of which there are none. */
+struct lent {
+    const int64_t *elements;
+    size_t length;
+};
+livevec_series_scanned livevec_proved_series_lend(livevec_series *slot, uint64_t lo, uint64_t hi, struct lent *lent);
+
+livevec_series_view livevec_series_lend(livevec_series *slot, uint64_t lo, uint64_t hi)
+{
+    static const int64_t nowhere[1];
+    struct lent lent = {nowhere, 0};
+    if (!slot)
+        return (livevec_series_view){.refusal = LIVEVEC_NULL};
+    if (!enter(&slot->busy_))
+        return (livevec_series_view){.refusal = LIVEVEC_BUSY};
+    livevec_series_scanned answer = livevec_proved_series_lend(slot, lo, hi, &lent);
+    if (answer.refusal) {
+        leave(&slot->busy_);
+        return (livevec_series_view){.refusal = answer.refusal, .first = answer.first, .size = answer.size};
+    }
+    lend(&slot->busy_);
+    return (livevec_series_view){.edit = answer.edit, .elements = lent.elements, .length = lent.length};
+}
+
+uint32_t livevec_series_give_back(livevec_series *slot)
+{
+    if (!slot)
+        return LIVEVEC_NULL;
+    switch (give_back(&slot->busy_)) {
+    case 0: return LIVEVEC_NO_HANDLE;
+    case 1: return LIVEVEC_BUSY;
+    default: return LIVEVEC_OK;
+    }
+}

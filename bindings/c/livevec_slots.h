@@ -19,13 +19,29 @@ static inline bool enter(unsigned char *busy)
         __atomic_signal_fence(__ATOMIC_SEQ_CST);
         return true;
     }
-    return !__atomic_exchange_n(busy, 1, __ATOMIC_ACQUIRE);
+    unsigned char left = 0;
+    return __atomic_compare_exchange_n(busy, &left, 1, false, __ATOMIC_ACQUIRE, __ATOMIC_RELAXED);
 }
 
 /* What a call did stays before this store, for a handler too. */
 static inline void leave(unsigned char *busy)
 {
     __atomic_store_n(busy, 0, __ATOMIC_RELEASE);
+}
+
+/* A slot that a call has entered stays entered, as one that is lent, until it is given back. */
+static inline void lend(unsigned char *busy)
+{
+    __atomic_store_n(busy, 2, __ATOMIC_RELEASE);
+}
+
+/* Leaves a slot that is lent, and tells what it was: 2, or 0 of a slot that no call has entered, or 1 of one that a call is at. What was read
+ * of it stays before. */
+static inline unsigned char give_back(unsigned char *busy)
+{
+    unsigned char was = 2;
+    __atomic_compare_exchange_n(busy, &was, 0, false, __ATOMIC_ACQ_REL, __ATOMIC_RELAXED);
+    return was;
 }
 
 /* Enters two slots, or none. */

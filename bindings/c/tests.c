@@ -297,6 +297,7 @@ int main(void)
     series();
     series_kinds();
     series_places();
+    lent();
     samples();
     saved();
     transcripts();

@@ -49,6 +49,9 @@ void series_kinds(void);
 /* The tests of where in a range of a series something stands, or of the values of samples. */
 void series_places(void);
 
+/* The tests of elements of a series that are lent. */
+void lent(void);
+
 /* The tests of samples and windows of time. */
 void samples(void);
 

@@ -210,6 +210,7 @@ int main()
     queries();
     series();
     series_kinds();
+    lent();
     places();
     samples();
     transcripts();

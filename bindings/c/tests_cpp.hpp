@@ -45,6 +45,7 @@ template <class Call> void until(Call is_so)
 void boards();
 void series();
 void series_kinds();
+void lent();
 void places();
 void samples();
 void transcripts();

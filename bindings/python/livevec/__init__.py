@@ -39,6 +39,7 @@ from ._refusals import (
 from ._samples import Sample, Samples, Window
 from ._scans import Column, Scan
 from ._series import Series
+from ._series_lent import Lent
 from ._shared import SharedVector
 from ._shared_edits import Receipt
 from ._subscribers import Subscriber
@@ -54,7 +55,7 @@ __all__ = [
     "SharedVector", "Subscriber", "Receipt",
     "Refusal", "Worn", "Empty", "OutOfRange", "TooLarge", "Full", "NoMemory", "BadRange", "BadLimits", "BadTable", "Stranger", "Closed",
     "ShortBuffer", "TooWide", "Outrun", "Contended", "Overtaken", "NoSeat", "SeatsOut", "Busy", "OtherVersion", "Damaged", "OtherTable", "TooLong",
-    "Series", "LongReduced", "NotKept", "Samples", "Sample", "Window", "Earlier", "NotSaved",
+    "Series", "LongReduced", "Lent", "NotKept", "Samples", "Sample", "Window", "Earlier", "NotSaved",
     "BadKind", "NameTaken", "NoSuchName", "TooMany", "BadName",
     "journal", "transcript", "audit", "audit_front", "restore", "JournalEdit", "Recorded", "Verdict", "NotInOrder", "NoFront",
     "MOST_BUCKETS", "MOST_EDITS", "MOST_BOARD_BUCKETS", "MOST_SEATS", "SUMMARY_BYTES", "MOST_QUERIES",

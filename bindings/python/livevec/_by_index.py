@@ -15,6 +15,7 @@ from ._series_calls import (
     _ask, _counted, _edits, _expire, _free, _get, _kept, _pop, _read, _reduce, _scan_exclusive, _scan_inclusive, _SeriesEdited, _SeriesReduced,
     _SeriesScanned, _truncate, _write,
 )
+from ._series_lent import Lent
 from ._series_saved import _SeriesSaved
 from ._structures import _Values
 from ._values import Values, _values_of
@@ -86,6 +87,10 @@ class _ByIndex(_SeriesSaved):
         """Fills a buffer with the elements of a range, from its start on, as many as it takes, and gives how many they are: the next piece starts
         behind them. The buffer is as `Vector.read_into` wants it. Raises BadRange, NotKept."""
         return self._read_by(_read, buffer, lo, hi)
+
+    def lend(self, lo: Optional[int] = None, hi: Optional[int] = None) -> Lent:
+        """The elements of a range without a copy, for `with s.lend(lo, hi) as view`: see `Lent`. The `with` raises BadRange, NotKept. O(1)."""
+        return Lent(self, *self._range(lo, hi))
 
     def __iter__(self) -> Iterator[int]:
         """The elements in order. Raises RuntimeError if the series is edited meanwhile."""

@@ -46,6 +46,7 @@ mod scans;
 pub mod series;
 mod series_edits;
 mod series_kinds;
+mod series_lent;
 mod series_places;
 mod series_saved;
 mod series_scans;

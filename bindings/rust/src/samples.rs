@@ -3,7 +3,7 @@
 use std::fmt;
 use std::ops::{Range, RangeBounds};
 
-use crate::series::{Dropped, Popped, Pushed, Series, Written};
+use crate::series::{Dropped, Lent, Popped, Pushed, Series, Written};
 use crate::{Kind, Refusal, RefusedAt, Value, Values, raw};
 
 /// Values with times that do not fall, in a unit of the caller's, for windows of time.
@@ -54,6 +54,11 @@ impl Samples {
     /// The values, as a series: what is asked by index.
     pub fn values(&self) -> &Series {
         &self.values
+    }
+
+    /// The values of a range without a copy, as [`Series::lend`] has them.
+    pub fn lend(&mut self, range: impl RangeBounds<u64>) -> Result<Lent<'_>, Refusal> {
+        self.values.lend(range)
     }
 
     /// Puts a sample at the end. Refused with `Worn`, `Full`, `Earlier`, `NoMemory`, in this order.

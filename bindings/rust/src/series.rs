@@ -5,6 +5,7 @@ use std::ops::{Bound, RangeBounds};
 
 pub use crate::series_edits::{Dropped, Popped, Pushed, Stopped, Swapped, Written};
 pub use crate::series_kinds::Filled;
+pub use crate::series_lent::Lent;
 pub use crate::series_places::{BestRun, Placed};
 pub use crate::series_scans::Running;
 use crate::{Kind, Refusal, Values, raw};

@@ -14,6 +14,7 @@ use lv_series::Series;
 
 /// Elements that are lent.
 #[repr(C)]
+#[derive(Drop)]
 pub struct Lent<'a> {
     pub elements: &'a [i64],
 }

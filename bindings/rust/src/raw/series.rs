@@ -1,6 +1,7 @@
 //! The C calls of a series, and a handle over them. What C asks of who calls is kept as `raw.rs` says.
 
 mod kinds;
+mod lent;
 mod places;
 mod samples;
 mod saved;
@@ -10,6 +11,7 @@ use std::cell::UnsafeCell;
 use super::{SixValues, Slot, boxed};
 use crate::Refusal;
 pub(crate) use kinds::Ends;
+pub(crate) use lent::Lent;
 pub(crate) use places::Found;
 pub(crate) use saved::Loading;
 
