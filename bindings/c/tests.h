@@ -10,6 +10,9 @@ void is(const char *file, int line, const char *what, long long got, long long w
 /* How many requests for memory from here the one is that fails; 0 where none does, as always while there are several threads. */
 extern int until_failure;
 
+/* How many bytes the library holds. */
+size_t memory_held(void);
+
 #define IS(got, wanted) is(__FILE__, __LINE__, #got, (long long)(got), (long long)(wanted))
 
 /* The tests of slots that hold something else, and of null pointers. */

@@ -1,18 +1,39 @@
-/* Want of memory: requests that fail when a test says so, and boards that meet them. */
+/* Want of memory: requests that fail when a test says so, and boards that meet them. And how much memory is held. */
 #include "tests_board.h"
 
+#include <malloc.h>
 #include <stdlib.h>
 
-/* The linker has the archive call these three in place of the C library's (--wrap). */
+/* The linker has the archive call these four in place of the C library's (--wrap). */
 
 void *__real_malloc(size_t size);
 void *__real_calloc(size_t count, size_t size);
 void *__real_realloc(void *old, size_t size);
+void __real_free(void *held);
 void *__wrap_malloc(size_t size);
 void *__wrap_calloc(size_t count, size_t size);
 void *__wrap_realloc(void *old, size_t size);
+void __wrap_free(void *held);
 
 int until_failure;
+static size_t held;
+
+size_t memory_held(void)
+{
+    return __atomic_load_n(&held, __ATOMIC_RELAXED);
+}
+
+/* What an allocation holds counts from when it is made until it is freed. */
+static void *counted(void *made)
+{
+    __atomic_fetch_add(&held, malloc_usable_size(made), __ATOMIC_RELAXED);
+    return made;
+}
+
+static void uncounted(void *gone)
+{
+    __atomic_fetch_sub(&held, malloc_usable_size(gone), __ATOMIC_RELAXED);
+}
 
 static bool fails(void)
 {
@@ -21,17 +42,29 @@ static bool fails(void)
 
 void *__wrap_malloc(size_t size)
 {
-    return fails() ? NULL : __real_malloc(size);
+    return fails() ? NULL : counted(__real_malloc(size));
 }
 
 void *__wrap_calloc(size_t count, size_t size)
 {
-    return fails() ? NULL : __real_calloc(count, size);
+    return fails() ? NULL : counted(__real_calloc(count, size));
 }
 
 void *__wrap_realloc(void *old, size_t size)
 {
-    return fails() ? NULL : __real_realloc(old, size);
+    if (fails())
+        return NULL;
+    size_t before = malloc_usable_size(old);
+    void *made = __real_realloc(old, size);
+    if (made)
+        __atomic_fetch_sub(&held, before, __ATOMIC_RELAXED);
+    return made ? counted(made) : NULL;
+}
+
+void __wrap_free(void *gone)
+{
+    uncounted(gone);
+    __real_free(gone);
 }
 
 /* Lets each request for memory of a call fail, one at a time, until the call is through. Tells how many were refused, -1 for any other answer. */

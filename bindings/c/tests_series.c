@@ -371,6 +371,24 @@ static void writes_at_once(void)
     IS(livevec_free_series(&s), 0);
 }
 
+/* Elements that expire give their memory back, and their part of each tree too. */
+static void memory_comes_back(void)
+{
+    size_t before = memory_held();
+    livevec_series s = {0};
+    IS(livevec_series_new(&s), LIVEVEC_OK);
+    for (int64_t x = 0; x < 200000; x++)
+        IS(livevec_series_push(&s, x).refusal, LIVEVEC_OK);
+    for (uint32_t kind = 0; kind < 6; kind++)
+        IS(livevec_series_prepare(&s, kind), LIVEVEC_OK);
+    IS(memory_held() - before > 200000 * sizeof(int64_t), true);
+    IS(livevec_series_expire(&s, 199800).place, 199800);
+    IS(memory_held() - before < 32768, true);
+    IS(livevec_series_value(&s, LIVEVEC_GREATEST, 199800, 200000).values.greatest, 199999);
+    IS(livevec_free_series(&s), LIVEVEC_OK);
+    IS(memory_held(), before);
+}
+
 void series(void)
 {
     misuse_of_series();
@@ -379,5 +397,6 @@ void series(void)
     pieces();
     want_of_memory();
     want_of_trees();
+    memory_comes_back();
     writes_at_once();
 }
