@@ -2,7 +2,7 @@
 from __future__ import annotations
 
 import ctypes
-from typing import Iterable, TypeVar
+from typing import TYPE_CHECKING, Iterable, TypeVar
 
 from ._buffers import _address, _as_buffer
 from ._by_index import _ByIndex
@@ -11,6 +11,9 @@ from ._numbers import _as_i64
 from ._refusals import _refuse
 from ._series_calls import _new, _push, _push_many, _SeriesSlot, _slot, _swap
 from ._series_kinds import _all_kept, _write_many
+
+if TYPE_CHECKING:
+    from _typeshed import WriteableBuffer
 
 _begin = _call("livevec_series_begin_load", _u32, _slot)
 _end = _call("livevec_series_end_load", _u32, _slot)
@@ -82,7 +85,8 @@ class Series(_ByIndex):
         length = len(places)
         if length != len(elements):
             raise ValueError(f"there are {length} indices and {len(elements)} values")
-        did = _write_many(self._at, *(ctypes.byref(_address(row)) if length else None for row in (places, elements)), length)
+        rows: tuple[WriteableBuffer, WriteableBuffer] = places, elements
+        did = _write_many(self._at, *(ctypes.byref(_address(row)) if length else None for row in rows), length)
         self._changes += did.done
         _all_kept(did)
 
