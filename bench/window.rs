@@ -20,9 +20,10 @@ fn main() {
         ["pushes"] => show_pushes(),
         ["questions"] => show_questions(),
         ["windows"] => show_windows(),
+        ["searches"] => show_searches(),
         ["elements"] => println!("{} elements", black_box(elements(COUNT)).len()),
         [turns, kept] => show_all_turns(turns.parse().unwrap(), kept.parse().unwrap()),
-        _ => panic!("pushes, questions, windows, elements, or how many turns and how many elements are kept"),
+        _ => panic!("pushes, questions, windows, searches, elements, or how many turns and how many elements are kept"),
     }
 }
 
@@ -84,6 +85,22 @@ fn show_asked<S: Summary + Into<Shown>>(kind: &str, size: usize) {
         last.is(tree.reduce(lo, hi))
     });
     println!("answers: {kind} {size} {:?}", last.0);
+}
+
+// The first element of a random range that is at least so great, by descent of a tree. It is likely to be one element to a million off.
+fn show_searches() {
+    for size in [1_000, 65_536, 1_000_000] {
+        let tree = Tree::<Greatest>::new(&elements(size));
+        let mut last = None;
+        show(&format!("first at least {size}"), 10_000, 4, |number| {
+            let (lo, hi) = range(number, size);
+            let great = (1i64 << 55) - ((1i64 << 55) >> pick(other(other(other(number))), 20));
+            let end = if lo < hi { tree.find_end(lo, |most| most.0 >= great) } else { None };
+            let found = end.filter(|end| *end <= hi);
+            u64::from(std::mem::replace(&mut last, found) == found)
+        });
+        println!("answers: first at least {size} {}", last.map_or(0, |end| end));
+    }
 }
 
 // A window that slides, by two stacks; and the last 600, by two trees in a ring, and by a sum and a queue of candidates.
