@@ -1,5 +1,7 @@
 //! Elements of a series, lent to C without a copy.
 ghost use Rattle.std.specs.Prelude.{◌≡◌, ◌-◌};
+ghost use Rattle.std.specs.Borrow.{sem};
+ghost use Rattle.livevec_c.specs.Kept.{Keeps};
 ghost use Rattle.livevec_c.specs.SeriesHeld.{series_behind, series_in};
 ghost use Rattle.livevec_c.specs.SeriesLent.{lent_in, lent_of};
 ghost use Rattle.livevec_c.specs.SeriesPieces.{elements_read, read_in};
@@ -44,6 +46,29 @@ fn lend_of<'a>(object: &'a Object, lo: u64, hi: u64, lent: &mut Lent<'a>) -> Ser
     }
 }
 
+// What a loan answers. It names the loan's lifetime, so that a clause may say what the slot ends as.
+struct Loan<'a> {
+    answer: SeriesScanned,
+    of: [&'a i64; 0],
+}
+
+// Lends elements of what a slot holds.
+fn lend_behind<'a>(slot: &'a mut Slot, lo: u64, hi: u64, lent: &mut Lent<'a>) -> Loan<'a>
+    ensures* kept { sem 𝓛 (Keeps slot.entry) }
+    ensures answer { result.answer ≡ read_in lo hi (hi - lo) (series_behind slot.old.raw.inner) }
+    ensures lent { lent.new.elements.now ≡ lent_in lo hi lent.old.elements.now (series_behind slot.old.raw.inner) }
+{
+    if is_full(slot) {
+        let answer = lend_of(shared(slot), lo, hi, lent);
+        Loan { answer, of: [] }
+    } else {
+        Loan {
+            answer: not_scanned(not_held()),
+            of: [],
+        }
+    }
+}
+
 /// Lends the elements of a range, which are neither copied nor changed.
 #[unsafe(no_mangle)]
 pub extern "C" fn livevec_proved_series_lend<'a>(
@@ -52,12 +77,10 @@ pub extern "C" fn livevec_proved_series_lend<'a>(
     hi: u64,
     lent: &mut Lent<'a>,
 ) -> SeriesScanned
+    ensures* kept { sem 𝓛 (Keeps slot.entry) }
     ensures answer { result ≡ read_in lo hi (hi - lo) (series_behind slot.old.raw.inner) }
     ensures lent { lent.new.elements.now ≡ lent_in lo hi lent.old.elements.now (series_behind slot.old.raw.inner) }
 {
-    if is_full(slot) {
-        lend_of(shared(slot), lo, hi, lent)
-    } else {
-        not_scanned(not_held())
-    }
+    let Loan { answer, of: _ } = lend_behind(slot, lo, hi, lent);
+    answer
 }
