@@ -74,15 +74,7 @@ ANSWERED(livevec_reduced, value, (livevec_vector *slot, uint32_t kind, uint32_t 
 #define FOUND_BY_BOUND(name, wanted) FOUND_IN_BY(livevec_found, livevec_where_##name, livevec_proved_find, livevec_vector, uint32_t, wanted)
 livevec_found livevec_proved_find(livevec_vector *slot, uint32_t wanted, int64_t x, uint32_t lo, uint32_t hi);
 
-FOUND_BY(least, WANTED_LEAST)
-FOUND_BY(greatest, WANTED_GREATEST)
-FOUND_BY(best, WANTED_BEST)
-FOUND_BY_BOUND(reaches, WANTED_REACHES)
-FOUND_BY_BOUND(reaches_back, WANTED_REACHES_BACK)
-FOUND_BY_BOUND(first_at_least, WANTED_FIRST_AT_LEAST)
-FOUND_BY_BOUND(first_at_most, WANTED_FIRST_AT_MOST)
-FOUND_BY_BOUND(last_at_least, WANTED_LAST_AT_LEAST)
-FOUND_BY_BOUND(last_at_most, WANTED_LAST_AT_MOST)
+EACH_SEARCH(FOUND_BY, FOUND_BY_BOUND)
 ANSWERED(livevec_summarised, summary_of, (livevec_vector *slot, uint32_t lo, uint32_t hi), slot, (slot, lo, hi))
 
 ANSWERED(livevec_verdict, verdict_push, (livevec_vector *slot, int64_t value), slot, (slot, value))

@@ -48,15 +48,7 @@ livevec_series_found livevec_proved_series_find(livevec_series *slot, uint32_t w
 #define FOUND_BY_BOUND(name, wanted) \
     FOUND_IN_BY(livevec_series_found, livevec_series_where_##name, livevec_proved_series_find, livevec_series, uint64_t, wanted)
 
-FOUND_BY(least, WANTED_LEAST)
-FOUND_BY(greatest, WANTED_GREATEST)
-FOUND_BY(best, WANTED_BEST)
-FOUND_BY_BOUND(reaches, WANTED_REACHES)
-FOUND_BY_BOUND(reaches_back, WANTED_REACHES_BACK)
-FOUND_BY_BOUND(first_at_least, WANTED_FIRST_AT_LEAST)
-FOUND_BY_BOUND(first_at_most, WANTED_FIRST_AT_MOST)
-FOUND_BY_BOUND(last_at_least, WANTED_LAST_AT_LEAST)
-FOUND_BY_BOUND(last_at_most, WANTED_LAST_AT_MOST)
+EACH_SEARCH(FOUND_BY, FOUND_BY_BOUND)
 
 /* Scans: a proved call writes a piece of the column. It is never given a null pointer: where there are no places, they begin anywhere. */
 #define SCANNED_SERIES(name, ending, cell)                                                                                                  \

@@ -132,6 +132,18 @@ enum {
 #define FOUND_IN_BY(answer, name, proved, type, index, wanted) \
     SEARCHES(answer, name, proved, (type *slot, index lo, index hi, int64_t x), wanted, x)
 
+/* All of them: those that compare with nothing, and those that compare with a number. */
+#define EACH_SEARCH(plain, by)                \
+    plain(least, WANTED_LEAST)                \
+    plain(greatest, WANTED_GREATEST)          \
+    plain(best, WANTED_BEST)                  \
+    by(reaches, WANTED_REACHES)               \
+    by(reaches_back, WANTED_REACHES_BACK)     \
+    by(first_at_least, WANTED_FIRST_AT_LEAST) \
+    by(first_at_most, WANTED_FIRST_AT_MOST)   \
+    by(last_at_least, WANTED_LAST_AT_LEAST)   \
+    by(last_at_most, WANTED_LAST_AT_MOST)
+
 /* All counts of a series at once. */
 typedef struct series_counts {
     uint32_t refusal;
