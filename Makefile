@@ -65,7 +65,7 @@ so: $(SO)/liblivevec.so ## makes build/liblivevec.so of the archive
 $(SO)/liblivevec.so: $(LIB)/liblivevec.a bindings/exports.map bindings/c/threads_unknown.c
 	@mkdir -p $(SO)
 	@$(CC) -shared -fPIC -o $@ bindings/c/threads_unknown.c -Wl,--whole-archive $< -Wl,--no-whole-archive -Wl,--version-script=bindings/exports.map -Wl,-soname,$(SONAME) -Wl,-z,defs
-	@ln -sf liblivevec.so $(SO)/$(SONAME)
+	@ln -f $(SO)/liblivevec.so $(SO)/$(SONAME)
 
 test-c: build/liblivevec.a ## tests the library for C, also under sanitizers and valgrind
 	@tools/timed test-c "tests the library for C, plainly, under sanitizers and under valgrind" "some 2 min" env CC="$(CC)" bindings/c/check
