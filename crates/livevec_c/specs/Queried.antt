@@ -8,7 +8,7 @@ use Rattle.lv_bodies.specs.Plain.{plain_value_with}
 use Rattle.lv_bodies.specs.declared.kinds.Kind.{Kind}
 use Rattle.lv_bodies.specs.declared.kinds.Shown.{Shown}
 use Rattle.lv_edits.specs.History.{list_of}
-use Rattle.lv_standing.specs.Names.{is_name}
+use Rattle.lv_bodies.specs.Names.{is_name}
 use Rattle.livevec_c.specs.declared.objects.Object.{Object}
 use Rattle.livevec_c.specs.declared.objects.Object.TheVariants.{Queries, Vector}
 use Rattle.livevec_c.specs.declared.queries_notes.Note.{Note}

@@ -4,9 +4,8 @@ ghost use Rattle.lv_edits.specs.Verdict.{IsRefusal};
 ghost use Rattle.livevec_c.specs.Queries.{place_of, question_refusal, with_question, without_place};
 
 use crate::questions::Question;
-use lv_bodies::Shown;
+use lv_bodies::{Name, Shown};
 use lv_geometry::Refusal;
-use lv_standing::Name;
 use std::alloc::{AllocError, Global};
 use std::marker::Model;
 

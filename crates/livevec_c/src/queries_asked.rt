@@ -11,7 +11,7 @@ use crate::queries_told::answer_asked;
 use crate::questions::Question;
 use crate::results::{NO_HANDLE, Reduced, not_reduced};
 use crate::slots::{Slot, put, take};
-use lv_standing::Name;
+use lv_bodies::Name;
 use std::alloc::Global;
 
 // The question of a name in a set.

@@ -10,7 +10,7 @@ use crate::queries::Queries;
 use crate::questions::Question;
 use crate::results::{BAD_KIND, IN_USE, NO_HANDLE, NO_MEMORY};
 use crate::slots::{Slot, is_full, put, take};
-use lv_standing::Name;
+use lv_bodies::Name;
 use std::alloc::{AllocError, Global};
 
 /// The number for bytes that are no name.

@@ -6,8 +6,7 @@ use crate::only::number_of;
 use crate::questions::Question;
 use crate::said::shown_values;
 use crate::values::PlainValues;
-use lv_bodies::Shown;
-use lv_standing::Name;
+use lv_bodies::{Name, Shown};
 
 /// That the answer of a query is another than it was told: its name, a zero behind it, its kind, after which edit, and its answer.
 #[repr(C)]

@@ -2,9 +2,8 @@
 ghost use Rattle.std.specs.Prelude.{◌≡◌};
 ghost use Rattle.livevec_c.specs.Queries.{question_refusal, untold};
 
-use lv_bodies::{Body, Kind, Shown, Six, face};
+use lv_bodies::{Body, Kind, Name, Shown, Six, face};
 use lv_geometry::Refusal;
-use lv_standing::Name;
 
 /// How many questions a set has at most.
 pub const MOST: usize = 64;

@@ -1,13 +1,13 @@
 //! Tests of swaps and truncates on edits alone, over either journal, where memory is wanting too.
 use crate::same::assert_same;
-use lv_edits::{Edits, Erased, Journal, Receipt};
+use lv_edits::{Edits, Receipt};
 use lv_geometry::{Limits, Refusal};
 use std::process::Abort;
 
 // Exchanges two elements. Where memory is wanting it sees that nothing has changed, and tries again.
-fn swap_or_again<J: Journal>(
+fn swap_or_again(
     rt: &impl Abort,
-    edits: &mut Edits<J>,
+    edits: &mut Edits,
     first: u32,
     second: u32,
 ) -> Result<Receipt, Refusal> {
@@ -21,11 +21,7 @@ fn swap_or_again<J: Journal>(
 }
 
 // Drops all but the first so many elements. Where memory is wanting it sees that nothing has changed, and tries again.
-fn truncate_or_again<J: Journal>(
-    rt: &impl Abort,
-    edits: &mut Edits<J>,
-    count: u32,
-) -> Result<Receipt, Refusal> {
+fn truncate_or_again(rt: &impl Abort, edits: &mut Edits, count: u32) -> Result<Receipt, Refusal> {
     let before = (edits.size(), edits.edit(), edits.get(0));
     let answer = edits.truncate(count);
     if answer == Err(Refusal::NoMemory) {
@@ -36,14 +32,14 @@ fn truncate_or_again<J: Journal>(
 }
 
 // Pushes an element. Where memory is wanting it pushes again.
-fn push_or_again<J: Journal>(edits: &mut Edits<J>, x: i64) -> Result<Receipt, Refusal> {
+fn push_or_again(edits: &mut Edits, x: i64) -> Result<Receipt, Refusal> {
     match edits.push(x) {
         Err(Refusal::NoMemory) => edits.push(x),
         answer => answer,
     }
 }
 
-fn check_swaps<J: Journal>(rt: &impl Abort, edits: &mut Edits<J>) {
+fn check_swaps(rt: &impl Abort, edits: &mut Edits) {
     for x in [4, 6, 9] {
         assert!(rt; push_or_again(edits, x).is_ok());
     }
@@ -90,13 +86,6 @@ fn check_swaps<J: Journal>(rt: &impl Abort, edits: &mut Edits<J>) {
 #[test]
 fn swaps_and_truncates_answer(rt: HostRuntime) {
     let mut edits = Edits::new(rt.alloc(), Limits::greatest());
-    check_swaps(&rt, &mut edits);
-    drop(edits);
-}
-
-#[test]
-fn swaps_and_truncates_answer_without_a_journal(rt: HostRuntime) {
-    let mut edits = Edits::<Erased>::empty(rt.alloc(), Limits::greatest());
     check_swaps(&rt, &mut edits);
     drop(edits);
 }

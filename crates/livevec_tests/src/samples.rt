@@ -161,55 +161,31 @@ fn times_may_be_as_far_apart_as_can_be(rt: HostRuntime) {
     drop(samples);
 }
 
+// The next edit must expire so many samples before a time.
+fn check_expired(rt: &impl Abort, samples: &mut Samples, before: i64, edit: u64, dropped: u64) {
+    let expired = samples.expire_before(before);
+    assert_same(rt, &expired, &Ok(LongReceipt::Expired { edit, dropped }));
+}
+
 fn check_expiries(rt: &impl Abort, samples: &mut Samples) {
+    check_expired(rt, samples, 0, 6, 1);
+    let gone = samples.get(0);
     assert_same(
         rt,
-        &samples.expire_before(0),
-        &Ok(LongReceipt::Expired {
-            edit: 6,
-            dropped: 1,
-        }),
-    );
-    assert_same(
-        rt,
-        &samples.get(0),
+        &gone,
         &Err(LongRefusal::OutOfRange { first: 1, size: 5 }),
     );
     assert_same(rt, &samples.times(1, 5), &Ok(&[0, 0, 7, 9][..]));
     check_window(rt, samples, (-100, 100), 1, 5);
-    assert_same(
-        rt,
-        &samples.expire_before(0),
-        &Ok(LongReceipt::Expired {
-            edit: 7,
-            dropped: 0,
-        }),
-    );
-    assert_same(
-        rt,
-        &samples.expire_before(8),
-        &Ok(LongReceipt::Expired {
-            edit: 8,
-            dropped: 3,
-        }),
-    );
+    check_expired(rt, samples, 0, 7, 0);
+    check_expired(rt, samples, 8, 8, 3);
     assert_same(rt, &samples.times(4, 5), &Ok(&[9][..]));
-    assert_same(
-        rt,
-        &samples.expire_before(100),
-        &Ok(LongReceipt::Expired {
-            edit: 9,
-            dropped: 1,
-        }),
-    );
+    check_expired(rt, samples, 100, 9, 1);
     assert_same(rt, &samples.newest(), &None);
     assert_same(rt, &samples.last(5), &Window { lo: 5, hi: 5 });
     // Where no sample is left any time may come.
-    assert_same(
-        rt,
-        &samples.push(-1000, 1),
-        &Ok(LongReceipt::Pushed { edit: 10, index: 5 }),
-    );
+    let pushed = samples.push(-1000, 1);
+    assert_same(rt, &pushed, &Ok(LongReceipt::Pushed { edit: 10, index: 5 }));
 }
 
 #[test]

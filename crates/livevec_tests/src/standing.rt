@@ -1,6 +1,6 @@
 //! Tests of the names of standing queries as keys.
 use crate::same::assert_same;
-use lv_standing::Name;
+use lv_bodies::Name;
 use std::alloc::{AllocError, Global};
 use std::collections::HashMap;
 use std::test::Fail;

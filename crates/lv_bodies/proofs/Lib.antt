@@ -1,6 +1,7 @@
 -- Names the files of lemmas of `lv_bodies`.
 pub mod Entries
 pub mod HalfFolds
+pub mod KeptNames
 pub mod MoreFolds
 pub mod PairFolds
 pub mod RunSums

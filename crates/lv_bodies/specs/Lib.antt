@@ -12,6 +12,7 @@ pub mod AffineLaws
 pub mod AffineMaps
 pub mod Long
 pub mod LongLaws
+pub mod Names
 pub mod Optional
 pub mod OptionalLaws
 pub mod PairLaws

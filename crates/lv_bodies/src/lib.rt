@@ -18,6 +18,7 @@ mod kinds;
 mod laws;
 mod long;
 mod long_folds;
+mod names;
 mod orders;
 mod pairs;
 mod parts;
@@ -40,6 +41,7 @@ pub use laws::{
 };
 pub use long::{LongBody, long_laws};
 pub use long_folds::fold_long;
+pub use names::Name;
 pub use orders::{Downward, Order, Upward};
 pub use pairs::Pair;
 pub use parts::Parted;

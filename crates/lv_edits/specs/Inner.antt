@@ -1,13 +1,22 @@
 -- What the fields of `Edits` keep.
-use Rattle.std.specs.Prelude.{◌≡◌, ℕ, ℤ, Option, Some, None, true, max, List, length, nat_eq, if◌then◌else◌}
+use Rattle.std.specs.Prelude.{◌≡◌, ℕ, ℤ, Option, Some, None, true, max, List, length, nat_eq, vec_len, vec_capacity, ◌-◌, if◌then◌else◌}
 use Rattle.lv_geometry.specs.Cells.{AreFewest}
 use Rattle.lv_store.specs.Inner.{IsStore}
 use Rattle.lv_store.specs.State.{StoreState, are_at, elements_of}
 use Rattle.lv_edits.specs.declared.edit.Edit.{Edit}
+use Rattle.lv_edits.specs.declared.journal.Journal.{Journal}
 use Rattle.lv_edits.specs.Capacity.{longest, most_reserved}
 use Rattle.lv_edits.specs.History.{History, list_of}
 use Rattle.lv_edits.specs.Kept.{IsLegalInLimits}
 use Rattle.lv_edits.specs.Touch.{LastWroteAt}
+
+-- the edits that a journal has, the first of them first
+abbrev pub noted : Journal → List Edit
+noted journal = journal.edits.items
+
+-- how many more edits there is room for
+abbrev pub room : Journal → ℕ
+room journal = vec_capacity journal.edits - vec_len journal.edits
 
 -- so many buckets are needed, and no fewer, for all that the list ever had and all that was ever reserved
 abbrev pub AreNeeded : List Edit → ℕ → Type 0

@@ -10,7 +10,7 @@ ghost use Rattle.lv_edits.specs.Verdict.{Answers, element_at, verdict_of};
 mod batches;
 
 use crate::edit::Edit;
-use crate::journals::{Journal, Kept};
+use crate::journal::Journal;
 use crate::making::make_edit;
 use crate::receipt::Receipt;
 use crate::writing::make_write_through;
@@ -19,23 +19,23 @@ use lv_store::Store;
 use std::alloc::Global;
 use std::marker::Model;
 
-/// A vector of `i64` with the journal of its edits, which is kept unless told otherwise.
+/// A vector of `i64` with the journal of its edits.
 #[derive(Drop)]
-pub struct Edits<J: Journal = Kept> {
+pub struct Edits {
     store: Store,
-    journal: J,
+    journal: Journal,
 }
 
-impl<J: Journal> Model for Edits<J> {
+impl Model for Edits {
     ghost use Rattle.lv_edits.specs.History.{History};
 
     ghost Value = { History };
 
-    ghost use Rattle.lv_edits.specs.Inner.{HoldsReplay};
+    ghost use Rattle.lv_edits.specs.Inner.{HoldsReplay, noted};
 
-    ghost view = { λ a. record { limits = a.store.limits; journal = J.noted a.journal } };
+    ghost view = { λ a. record { limits = a.store.limits; journal = noted a.journal } };
 
-    ghost invariant = { λ a. HoldsReplay a.store (J.noted a.journal) };
+    ghost invariant = { λ a. HoldsReplay a.store (noted a.journal) };
 }
 
 impl Edits {
@@ -44,7 +44,10 @@ impl Edits {
         ensures history { result ≡ record { limits = limits; journal = [] } }
         ensures limits { IsLegalInLimits result }
     {
-        Edits::empty(alloc, limits)
+        Edits {
+            store: Store::new(alloc, limits),
+            journal: Journal::empty(alloc),
+        }
     }
 
     /// All edits that were accepted, the first of them first.
@@ -53,19 +56,6 @@ impl Edits {
         ensures limits { IsLegalInLimits self.now }
     {
         self.journal.as_slice()
-    }
-}
-
-impl<J: Journal> Edits<J> {
-    /// An empty vector over either journal, with no bucket open. Takes no memory.
-    pub fn empty(alloc: Global, limits: Limits) -> Edits<J>
-        ensures history { result ≡ record { limits = limits; journal = [] } }
-        ensures limits { IsLegalInLimits result }
-    {
-        Edits {
-            store: Store::new(alloc, limits),
-            journal: J::empty(alloc),
-        }
     }
 
     /// Puts `x` at the end. Refused with `Worn`, `Full`, then `NoMemory`.

@@ -2,12 +2,12 @@
 //!
 //! The model of `Edits` is its limits and its journal, and nothing else: the list is the journal replayed
 //! (`list_of`), and each call is stated on that list. The elements lie in the cells of a store, where the last edit's writes
-//! may be pending. It knows nothing of summaries. The journal is kept, as 16 bytes an edit, or erased, so that proofs alone read it.
+//! may be pending. It knows nothing of summaries.
 #![tactic(auto)]
 
 mod edit;
 mod edits;
-mod journals;
+mod journal;
 mod logs;
 mod making;
 mod pushing;
@@ -17,7 +17,6 @@ mod writing;
 
 pub use edit::Edit;
 pub use edits::Edits;
-pub use journals::{Erased, Journal, Kept};
 pub use logs::Log;
 pub use ranges::refusal_of;
 pub use receipt::Receipt;

@@ -3,11 +3,11 @@ ghost use Rattle.std.specs.Prelude.{◌≡◌, ℕ, ◌+◌, ◌<◌, ◌≤◌,
 ghost use Rattle.lv_geometry.specs.Cells.{AreFewest, capacity_of};
 ghost use Rattle.lv_store.specs.Inner.{IsStore};
 ghost use Rattle.lv_store.specs.State.{AreAlike};
-ghost use Rattle.lv_edits.specs.Inner.{HoldsReplay, history_of, write_at_second};
+ghost use Rattle.lv_edits.specs.Inner.{HoldsReplay, history_of, write_at_second, noted, room};
 ghost use Rattle.lv_edits.specs.Verdict.{Answers, verdict_of};
 
 use crate::edit::Edit;
-use crate::journals::Journal;
+use crate::journal::Journal;
 use crate::receipt::Receipt;
 use lv_geometry::{Refusal, capacity};
 use lv_store::Store;
@@ -16,15 +16,11 @@ use lv_store::Store;
 /// bucket, is made before anything changes.
 // Inlined: who knows the edit's kind is left with one arm, and pushes and writes make no call.
 #[inline(always)]
-pub fn make_edit<J: Journal>(
-    store: &mut Store,
-    journal: &mut J,
-    edit: Edit,
-) -> Result<Receipt, Refusal>
-    requires held { HoldsReplay store.old (J.noted journal.old) }
-    requires free { verdict_of store.old.limits (J.noted journal.old) edit ≡ None }
-    ensures answer { Answers (history_of store.old (J.noted journal.old)) edit result (history_of store.new (J.noted journal.new)) }
-    ensures held { HoldsReplay store.new (J.noted journal.new) }
+pub fn make_edit(store: &mut Store, journal: &mut Journal, edit: Edit) -> Result<Receipt, Refusal>
+    requires held { HoldsReplay store.old (noted journal.old) }
+    requires free { verdict_of store.old.limits (noted journal.old) edit ≡ None }
+    ensures answer { Answers (history_of store.old (noted journal.old)) edit result (history_of store.new (noted journal.new)) }
+    ensures held { HoldsReplay store.new (noted journal.new) }
 {
     match edit {
         Edit::Push(x) => make_push(store, journal, x),
@@ -38,11 +34,11 @@ pub fn make_edit<J: Journal>(
 
 // Makes a push that the verdict allows.
 #[inline(always)]
-fn make_push<J: Journal>(store: &mut Store, journal: &mut J, x: i64) -> Result<Receipt, Refusal>
-    requires held { HoldsReplay store.old (J.noted journal.old) }
-    requires free { verdict_of store.old.limits (J.noted journal.old) (Edit.Push x) ≡ None }
-    ensures answer { Answers (history_of store.old (J.noted journal.old)) (Edit.Push x) result (history_of store.new (J.noted journal.new)) }
-    ensures held { HoldsReplay store.new (J.noted journal.new) }
+fn make_push(store: &mut Store, journal: &mut Journal, x: i64) -> Result<Receipt, Refusal>
+    requires held { HoldsReplay store.old (noted journal.old) }
+    requires free { verdict_of store.old.limits (noted journal.old) (Edit.Push x) ≡ None }
+    ensures answer { Answers (history_of store.old (noted journal.old)) (Edit.Push x) result (history_of store.new (noted journal.new)) }
+    ensures held { HoldsReplay store.new (noted journal.new) }
 {
     let index = store.size();
     make_room(store, journal, 1, index + 1)?;
@@ -55,11 +51,11 @@ fn make_push<J: Journal>(store: &mut Store, journal: &mut J, x: i64) -> Result<R
 }
 
 // Makes a pop that the verdict allows.
-fn make_pop<J: Journal>(store: &mut Store, journal: &mut J) -> Result<Receipt, Refusal>
-    requires held { HoldsReplay store.old (J.noted journal.old) }
-    requires free { verdict_of store.old.limits (J.noted journal.old) Edit.Pop ≡ None }
-    ensures answer { Answers (history_of store.old (J.noted journal.old)) Edit.Pop result (history_of store.new (J.noted journal.new)) }
-    ensures held { HoldsReplay store.new (J.noted journal.new) }
+fn make_pop(store: &mut Store, journal: &mut Journal) -> Result<Receipt, Refusal>
+    requires held { HoldsReplay store.old (noted journal.old) }
+    requires free { verdict_of store.old.limits (noted journal.old) Edit.Pop ≡ None }
+    ensures answer { Answers (history_of store.old (noted journal.old)) Edit.Pop result (history_of store.new (noted journal.new)) }
+    ensures held { HoldsReplay store.new (noted journal.new) }
 {
     let last = store.size() - 1;
     let value = store.read(last);
@@ -74,16 +70,16 @@ fn make_pop<J: Journal>(store: &mut Store, journal: &mut J) -> Result<Receipt, R
 
 // Makes a write that the verdict allows.
 #[inline(always)]
-fn make_write<J: Journal>(
+fn make_write(
     store: &mut Store,
-    journal: &mut J,
+    journal: &mut Journal,
     index: u32,
     value: i64,
 ) -> Result<Receipt, Refusal>
-    requires held { HoldsReplay store.old (J.noted journal.old) }
-    requires free { verdict_of store.old.limits (J.noted journal.old) (Edit.Write index value) ≡ None }
-    ensures answer { Answers (history_of store.old (J.noted journal.old)) (Edit.Write index value) result (history_of store.new (J.noted journal.new)) }
-    ensures held { HoldsReplay store.new (J.noted journal.new) }
+    requires held { HoldsReplay store.old (noted journal.old) }
+    requires free { verdict_of store.old.limits (noted journal.old) (Edit.Write index value) ≡ None }
+    ensures answer { Answers (history_of store.old (noted journal.old)) (Edit.Write index value) result (history_of store.new (noted journal.new)) }
+    ensures held { HoldsReplay store.new (noted journal.new) }
 {
     let before = store.read(index);
     make_room(store, journal, 1, 0)?;
@@ -97,15 +93,11 @@ fn make_write<J: Journal>(
 }
 
 // Makes a reserve that the verdict allows.
-fn make_reserve<J: Journal>(
-    store: &mut Store,
-    journal: &mut J,
-    cells: u32,
-) -> Result<Receipt, Refusal>
-    requires held { HoldsReplay store.old (J.noted journal.old) }
-    requires free { verdict_of store.old.limits (J.noted journal.old) (Edit.Reserve cells) ≡ None }
-    ensures answer { Answers (history_of store.old (J.noted journal.old)) (Edit.Reserve cells) result (history_of store.new (J.noted journal.new)) }
-    ensures held { HoldsReplay store.new (J.noted journal.new) }
+fn make_reserve(store: &mut Store, journal: &mut Journal, cells: u32) -> Result<Receipt, Refusal>
+    requires held { HoldsReplay store.old (noted journal.old) }
+    requires free { verdict_of store.old.limits (noted journal.old) (Edit.Reserve cells) ≡ None }
+    ensures answer { Answers (history_of store.old (noted journal.old)) (Edit.Reserve cells) result (history_of store.new (noted journal.new)) }
+    ensures held { HoldsReplay store.new (noted journal.new) }
 {
     make_room(store, journal, 1, cells)?;
     let size = store.size();
@@ -118,16 +110,16 @@ fn make_reserve<J: Journal>(
 }
 
 // Makes a swap that the verdict allows.
-fn make_swap<J: Journal>(
+fn make_swap(
     store: &mut Store,
-    journal: &mut J,
+    journal: &mut Journal,
     first: u32,
     second: u32,
 ) -> Result<Receipt, Refusal>
-    requires held { HoldsReplay store.old (J.noted journal.old) }
-    requires free { verdict_of store.old.limits (J.noted journal.old) (Edit.Swap first second) ≡ None }
-    ensures answer { Answers (history_of store.old (J.noted journal.old)) (Edit.Swap first second) result (history_of store.new (J.noted journal.new)) }
-    ensures held { HoldsReplay store.new (J.noted journal.new) }
+    requires held { HoldsReplay store.old (noted journal.old) }
+    requires free { verdict_of store.old.limits (noted journal.old) (Edit.Swap first second) ≡ None }
+    ensures answer { Answers (history_of store.old (noted journal.old)) (Edit.Swap first second) result (history_of store.new (noted journal.new)) }
+    ensures held { HoldsReplay store.new (noted journal.new) }
 {
     let before = store.read(first);
     let after = store.read(second);
@@ -144,15 +136,11 @@ fn make_swap<J: Journal>(
 }
 
 // Makes a truncate that the verdict allows.
-fn make_truncate<J: Journal>(
-    store: &mut Store,
-    journal: &mut J,
-    count: u32,
-) -> Result<Receipt, Refusal>
-    requires held { HoldsReplay store.old (J.noted journal.old) }
-    requires free { verdict_of store.old.limits (J.noted journal.old) (Edit.Truncate count) ≡ None }
-    ensures answer { Answers (history_of store.old (J.noted journal.old)) (Edit.Truncate count) result (history_of store.new (J.noted journal.new)) }
-    ensures held { HoldsReplay store.new (J.noted journal.new) }
+fn make_truncate(store: &mut Store, journal: &mut Journal, count: u32) -> Result<Receipt, Refusal>
+    requires held { HoldsReplay store.old (noted journal.old) }
+    requires free { verdict_of store.old.limits (noted journal.old) (Edit.Truncate count) ≡ None }
+    ensures answer { Answers (history_of store.old (noted journal.old)) (Edit.Truncate count) result (history_of store.new (noted journal.new)) }
+    ensures held { HoldsReplay store.new (noted journal.new) }
 {
     let size = store.size();
     make_room(store, journal, 1, 0)?;
@@ -166,9 +154,9 @@ fn make_truncate<J: Journal>(
 
 /// Completes the write that is pending, and makes room for so many more edits, then for so many cells. Changes no element.
 #[inline(always)]
-pub fn make_room<J: Journal>(
+pub fn make_room(
     store: &mut Store,
-    journal: &mut J,
+    journal: &mut Journal,
     edits: usize,
     cells: u32,
 ) -> Result<(), Refusal>
@@ -180,8 +168,8 @@ pub fn make_room<J: Journal>(
     ensures buckets { OnOk result ((k : ℕ) → AreFewest cells k → store.new.buckets ≡ max store.old.buckets k) }
     ensures enough { OnOk result (cells ≤ capacity_of store.new.buckets) }
     ensures closed { OnErr result (store.new.buckets ≡ store.old.buckets) }
-    ensures journal { J.noted journal.new ≡ J.noted journal.old }
-    ensures edits { OnOk result (edits ≤ J.room journal.new) }
+    ensures journal { noted journal.new ≡ noted journal.old }
+    ensures edits { OnOk result (edits ≤ room journal.new) }
     ensures err { IfErr result (λ refusal. refusal ≡ Refusal.NoMemory) }
 {
     store.settle();

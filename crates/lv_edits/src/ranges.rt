@@ -5,11 +5,10 @@ ghost use Rattle.lv_edits.specs.Kept.{IsLegalInLimits};
 ghost use Rattle.lv_edits.specs.Ranges.{range_refusal};
 
 use crate::edits::Edits;
-use crate::journals::Journal;
 use lv_geometry::Refusal;
 
 /// Why the range from index `lo` up to `hi` is refused, `BadRange` before `OutOfRange`; nothing where it isn't.
-pub fn refusal_of<J: Journal>(history: &Edits<J>, lo: u32, hi: u32) -> Option<Refusal>
+pub fn refusal_of(history: &Edits, lo: u32, hi: u32) -> Option<Refusal>
     ensures value { result ≡ range_refusal history.now.journal lo hi }
     ensures limits { IsLegalInLimits history.now }
     ensures order { IfNone result (lo ≤ hi) }

@@ -2,9 +2,8 @@
 ghost use Rattle.std.specs.Prelude.{◌≡◌, []};
 ghost use Rattle.lv_hub.specs.Notes.{answer_to, question_refusal};
 
-use lv_bodies::{Body, Kind, Shown, Six, face};
+use lv_bodies::{Body, Kind, Name, Shown, Six, face};
 use lv_geometry::Refusal;
-use lv_standing::Name;
 
 // How many questions a subscriber has at most.
 const MOST: usize = 64;

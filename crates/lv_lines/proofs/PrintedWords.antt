@@ -12,8 +12,8 @@ use Rattle.std.proofs.lemmas.Fmt.{digits_decimal, decimal_nonempty, length-decim
 use Rattle.std.proofs.lemmas.List.{append-nil, drop_more}
 use Rattle.std.proofs.lemmas.List.Elements.{All-nil, All-cons, All-append, All-weaker}
 use Rattle.std.proofs.lemmas.List.Splits.{slice_split_none, slice_split_at}
-use Rattle.lv_standing.specs.Names.{is_name_byte, IsName}
-use Rattle.lv_standing.proofs.KeptNames.{bytes_of_name, length_of_name}
+use Rattle.lv_bodies.specs.Names.{is_name_byte, IsName}
+use Rattle.lv_bodies.proofs.KeptNames.{bytes_of_name, length_of_name}
 use Rattle.lv_geometry.specs.Elements.{IsElement}
 use Rattle.lv_lines.specs.Words.{is_space, is_word, words_of, spaced, behind_spaces}
 use Rattle.lv_lines.specs.Grammar.{without_cr}

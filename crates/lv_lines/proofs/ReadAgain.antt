@@ -7,7 +7,7 @@ use Rattle.std.proofs.lemmas.List.{take_all, length-take-le}
 use Rattle.lv_bodies.specs.declared.kinds.Kind.{Kind}
 use Rattle.lv_bodies.specs.declared.kinds.Kind.TheVariants.{Sum, Least, Greatest, Best, Affine, Automaton}
 use Rattle.lv_edits.specs.declared.edit.Edit.TheVariants as edit
-use Rattle.lv_standing.specs.Names.{IsName}
+use Rattle.lv_bodies.specs.Names.{IsName}
 use Rattle.lv_lines.specs.declared.command.Command.{Command}
 use Rattle.lv_lines.specs.declared.command.Command.TheVariants.{Edit, Settle, Get, Size, Capacity, Reduce, Cost, Scan, Claim, Deliver, Forget, Watch, Unwatch, Answer}
 use Rattle.lv_lines.specs.declared.command.Line.TheVariants.{Do, Bad}

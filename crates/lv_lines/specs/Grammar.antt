@@ -6,7 +6,7 @@ use Rattle.std.specs.Str.{bytes_eq}
 use Rattle.lv_bodies.specs.declared.kinds.Kind.{Kind}
 use Rattle.lv_bodies.specs.declared.kinds.Kind.TheVariants.{Sum, Least, Greatest, Best, Affine, Automaton}
 use Rattle.lv_edits.specs.declared.edit.Edit.TheVariants as edit
-use Rattle.lv_standing.specs.Names.{is_name}
+use Rattle.lv_bodies.specs.Names.{is_name}
 use Rattle.lv_lines.specs.declared.command.Command.{Command}
 use Rattle.lv_lines.specs.declared.command.Command.TheVariants.{Edit, Settle, Get, Size, Capacity, Reduce, Cost, Scan, Claim, Deliver, Forget, Watch, Unwatch, Answer}
 use Rattle.lv_lines.specs.declared.command.Line.{Line}

@@ -1,7 +1,6 @@
 //! What a line of a script may say: a command, a comment or an empty line.
-use lv_bodies::Kind;
+use lv_bodies::{Kind, Name};
 use lv_edits::Edit;
-use lv_standing::Name;
 
 /// What a line of a script asks for.
 #[derive(Clone, Copy)]

@@ -8,9 +8,8 @@ ghost use Rattle.lv_lines.specs.Numbers.{element_in, number_in};
 use crate::command::Command;
 use crate::numbers::{first_element, first_number};
 use crate::words::{next_word, only_word};
-use lv_bodies::Kind;
+use lv_bodies::{Kind, Name};
 use lv_edits::Edit;
-use lv_standing::Name;
 
 /// Whether a word is this text.
 pub fn spells(word: &[u8], text: &str) -> bool

@@ -5,8 +5,7 @@ ghost use Rattle.lv_lines.specs.Texts.{named_text, note_text, unwatched_text, wa
 
 use crate::replies::{LINE, put_shown};
 use crate::sender::{put, put_name, put_number};
-use lv_bodies::Shown;
-use lv_standing::Name;
+use lv_bodies::{Name, Shown};
 
 /// That a query stands under the name from now on.
 pub fn put_watching(held: &mut Vec<u8>, name: Name)

@@ -2,7 +2,7 @@
 ghost use Rattle.std.specs.Prelude.{◌≡◌, ◌+◌, ◌≤◌, ◌∷◌, [], ◌++◌, decimal, length, IfOk, vec_len};
 ghost use Rattle.lv_lines.specs.Output.{HasRoom, KeepsRoom};
 ghost use Rattle.std.specs.Fmt.{signed_decimal};
-ghost use Rattle.lv_standing.specs.Names.{IsName};
+ghost use Rattle.lv_bodies.specs.Names.{IsName};
 ghost use Rattle.lv_lines.specs.Words.{behind_spaces};
 ghost use Rattle.lv_lines.specs.Grammar.{line_of};
 ghost use Rattle.lv_lines.specs.Printed.{verb_of, arguments_of, range_words, printed, IsCommand};
@@ -10,9 +10,8 @@ ghost use Rattle.lv_lines.specs.Printed.{verb_of, arguments_of, range_words, pri
 use crate::command::{Command, Line};
 use crate::sender::{put, put_element, put_name, put_number};
 use crate::words::{kind_name, scan_name};
-use lv_bodies::Kind;
+use lv_bodies::{Kind, Name};
 use lv_edits::Edit;
-use lv_standing::Name;
 use std::alloc::{AllocError, Global};
 
 /// At most how many bytes the text of a command has.

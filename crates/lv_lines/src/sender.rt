@@ -2,12 +2,12 @@
 ghost use Rattle.std.specs.Prelude.{◌≡◌, ◌+◌, ◌≤◌, [], ◌++◌, length, IsOk, OnOk, OnErr, IfErr, vec_len};
 ghost use Rattle.std.specs.Io.KnownBytes.{Appends};
 ghost use Rattle.std.specs.Fmt.{decimal, signed_decimal};
-ghost use Rattle.lv_standing.specs.Names.{IsName};
+ghost use Rattle.lv_bodies.specs.Names.{IsName};
 ghost use Rattle.lv_lines.specs.Output.{HasRoom, KeepsRoom, Writes, WritesFront};
 
 use crate::fault::Fault;
 use itoa::Buffer;
-use lv_standing::Name;
+use lv_bodies::Name;
 use std::io::Write;
 
 /// How many bytes of replies the buffer of a conversation has room for.

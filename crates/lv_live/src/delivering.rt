@@ -11,16 +11,16 @@ ghost use Rattle.lv_refresh.specs.Inner.{IsReady};
 ghost use Rattle.lv_live.specs.Follows.{ClaimsHear};
 
 use lv_bodies::Body;
-use lv_edits::{Edits, Journal};
+use lv_edits::Edits;
 use lv_geometry::Node;
 use lv_refresh::{Claims, refresh_node};
 use lv_summary::{Accepted, Summaries};
 
 /// Delivers a summary of a version to a node. It is computed only where it is to be installed, and from what stands here then; the
 /// node's parent is hinted at so.
-pub fn deliver_anew<B: Body, J: Journal>(
+pub fn deliver_anew<B: Body>(
     claims: &mut Claims,
-    history: &Edits<J>,
+    history: &Edits,
     table: &mut Summaries<B::S>,
     body: &B,
     node: Node,

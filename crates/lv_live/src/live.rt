@@ -20,23 +20,23 @@ use crate::following::{Touched, follow, make_room, touched_indices};
 use crate::pushing::follow_pushes;
 use crate::writing::follow_writes;
 use lv_bodies::Body;
-use lv_edits::{Edit, Edits, Journal, Kept, Receipt};
+use lv_edits::{Edit, Edits, Receipt};
 use lv_geometry::{Limits, Node, Refusal};
 use lv_refresh::Claims;
 use lv_summary::Summaries;
 use std::alloc::Global;
 use std::marker::Model;
 
-/// A vector whose reductions and scans stay current while it is edited. Its journal is kept unless told otherwise.
+/// A vector whose reductions and scans stay current while it is edited.
 #[derive(Drop)]
-pub struct Live<B: Body, J: Journal = Kept> {
+pub struct Live<B: Body> {
     body: B,
-    history: Edits<J>,
+    history: Edits,
     table: Summaries<B::S>,
     claims: Claims,
 }
 
-impl<B: Body, J: Journal> Model for Live<B, J> {
+impl<B: Body> Model for Live<B> {
     ghost use Rattle.lv_live.specs.Kept.{IsLive};
     ghost use Rattle.lv_live.specs.State.{LiveState};
 
@@ -56,7 +56,13 @@ impl<B: Body> Live<B> {
         ensures unclaimed { (n : Node) → (recorded result).claimed n ≡ None }
         ensures nothing_kept { (n : Node) → (recorded result).kept n ≡ None }
     {
-        Live::empty(alloc, limits, body)
+        let blank = body.identity();
+        Live {
+            body,
+            history: Edits::new(alloc, limits),
+            table: Summaries::new(alloc, blank),
+            claims: Claims::new(alloc),
+        }
     }
 
     /// The accepted edits, in order.
@@ -64,25 +70,6 @@ impl<B: Body> Live<B> {
         ensures { result.now ≡ self.now.history.journal }
     {
         self.history.journal()
-    }
-}
-
-impl<B: Body, J: Journal> Live<B, J> {
-    /// An empty vector over either journal, for which nothing is claimed and nothing kept. Takes no memory.
-    pub fn empty(alloc: Global, limits: Limits, body: B) -> Live<B, J>
-        ensures body { result.body ≡ body }
-        ensures history { result.history ≡ record { limits = limits; journal = [] } }
-        ensures limits { IsLegalInLimits result.history }
-        ensures unclaimed { (n : Node) → (recorded result).claimed n ≡ None }
-        ensures nothing_kept { (n : Node) → (recorded result).kept n ≡ None }
-    {
-        let blank = body.identity();
-        Live {
-            body,
-            history: Edits::empty(alloc, limits),
-            table: Summaries::new(alloc, blank),
-            claims: Claims::new(alloc),
-        }
     }
 
     /// Makes an edit. Refused as `verdict` says, else with `NoMemory`, and nothing has changed then.

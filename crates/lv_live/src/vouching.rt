@@ -11,16 +11,16 @@ ghost use Rattle.lv_refresh.specs.Inner.{node_at};
 ghost use Rattle.lv_refresh.specs.Subtrees.{IsInside};
 
 use lv_bodies::Body;
-use lv_edits::{Edits, Journal};
+use lv_edits::Edits;
 use lv_geometry::Node;
 use lv_refresh::{Contents, Eight, SUBTREE_BLOCKS, children_of};
 use lv_summary::Summaries;
 
 /// Whether contents are what stands at a whole node now.
 #[inline(always)]
-pub fn stands_here<B: Body, J: Journal>(
+pub fn stands_here<B: Body>(
     body: &B,
-    history: &Edits<J>,
+    history: &Edits,
     table: &Summaries<B::S>,
     node: Node,
     contents: &Contents<B::S>,
@@ -39,7 +39,7 @@ pub fn stands_here<B: Body, J: Journal>(
 
 /// Whether elements are those of a whole block.
 #[inline(always)]
-pub fn have_elements<J: Journal>(history: &Edits<J>, block: Node, elements: &[i64; 8]) -> bool
+pub fn have_elements(history: &Edits, block: Node, elements: &[i64; 8]) -> bool
     requires level { block.level ≡ 1 }
     requires whole { is_below block (length (list_of history.now.journal)) ≡ true }
     ensures { IsTrue result ↔ (elements.now ≡ elements_under history.now.journal block) }
@@ -48,7 +48,7 @@ pub fn have_elements<J: Journal>(history: &Edits<J>, block: Node, elements: &[i6
 }
 
 /// Whether elements are those of a whole node of level 4.
-pub fn has_elements<J: Journal>(history: &Edits<J>, number: u32, elements: &[i64]) -> bool
+pub fn has_elements(history: &Edits, number: u32, elements: &[i64]) -> bool
     requires inside { IsInside number (length (list_of history.now.journal)) }
     requires many { length elements.now ≡ 4096 }
     ensures { IsTrue result ↔ (elements.now ≡ elements_under history.now.journal (node_at 4 number)) }
@@ -66,7 +66,7 @@ pub fn has_elements<J: Journal>(history: &Edits<J>, number: u32, elements: &[i64
 
 // Whether the eight elements from a place on are those of a block whose number is given.
 #[inline(always)]
-fn has_block<J: Journal>(history: &Edits<J>, number: u32, elements: &[i64], at: usize) -> bool
+fn has_block(history: &Edits, number: u32, elements: &[i64], at: usize) -> bool
     requires block { (number + 1) * 8 ≤ length (list_of history.now.journal) }
     requires inside { at + 8 ≤ length elements.now }
     ensures { IsTrue result ↔ (slice_range elements.now at (at + 8) ≡ take 8 (drop (number * 8) (list_of history.now.journal))) }
@@ -76,9 +76,9 @@ fn has_block<J: Journal>(history: &Edits<J>, number: u32, elements: &[i64], at: 
 }
 
 // Whether summaries are those of a whole node's children, which are fresh. The cells are those that the table is of.
-fn have_summaries<B: Body, J: Journal>(
+fn have_summaries<B: Body>(
     body: &B,
-    _history: &Edits<J>,
+    _history: &Edits,
     table: &Summaries<B::S>,
     node: Node,
     summaries: &Eight<B::S>,

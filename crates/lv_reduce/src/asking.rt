@@ -10,15 +10,15 @@ ghost use Rattle.lv_reduce.specs.Asked.{AreTopsKnown, IsFewAsked, Knows};
 
 use crate::reductions::{Answer, Known, greatest_level, join};
 use lv_bodies::{Body, fold_more, fold_slice};
-use lv_edits::{Edits, Journal, refusal_of};
+use lv_edits::{Edits, refusal_of};
 use lv_geometry::{Node, Refusal, width};
 use lv_summary::Summaries;
 
 /// The fold of the elements from index `lo` up to `hi`, `hi` excluded, as `reduce` answers it; what is computed for it is kept in
 /// the table. So a range that was asked for costs at most 14 cells and 84 summaries until an edit touches it. Refused with `BadRange`,
 /// then `OutOfRange`: the table is then unchanged. Takes no memory.
-pub fn ask<B: Body, J: Journal>(
-    history: &Edits<J>,
+pub fn ask<B: Body>(
+    history: &Edits,
     table: &mut Summaries<B::S>,
     body: &B,
     lo: u32,
@@ -64,12 +64,7 @@ pub fn ask<B: Body, J: Journal>(
 }
 
 // The summary of a whole node: what is known, or else computed from the node's children, which are asked first.
-fn know<B: Body, J: Journal>(
-    history: &Edits<J>,
-    table: &mut Summaries<B::S>,
-    body: &B,
-    node: Node,
-) -> Known<B::S>
+fn know<B: Body>(history: &Edits, table: &mut Summaries<B::S>, body: &B, node: Node) -> Known<B::S>
     requires agrees { Agrees (B.operations body.now) history.now.journal table.old }
     requires whole { whole_in table.old node ≡ true }
     ensures { Knows (B.operations body.now) history.now.journal table.old table.new node result }
@@ -104,8 +99,8 @@ fn know<B: Body, J: Journal>(
 }
 
 // The summary of a whole block that is not known, computed from its elements.
-fn know_block<B: Body, J: Journal>(
-    history: &Edits<J>,
+fn know_block<B: Body>(
+    history: &Edits,
     table: &mut Summaries<B::S>,
     body: &B,
     block: Node,

@@ -10,7 +10,7 @@ ghost use Rattle.lv_reduce.specs.Pieces.{Fits, IsGreatestFresh, NoneFresh};
 
 use crate::views::View;
 use lv_bodies::{Body, fold_more};
-use lv_edits::{Journal, refusal_of};
+use lv_edits::refusal_of;
 use lv_geometry::{Node, Refusal, width};
 use lv_summary::Summaries;
 use std::alloc::AllocError;
@@ -72,8 +72,8 @@ impl<S: Copy> Clone for Known<S> {
 
 /// The fold of the elements from index `lo` up to `hi`, `hi` excluded. Refused with `BadRange`, then `OutOfRange`.
 /// Takes no memory, and lifts the cells that it counts, no others.
-pub fn reduce<B: Body, J: Journal>(
-    view: View<'_, B::S, J>,
+pub fn reduce<B: Body>(
+    view: View<'_, B::S>,
     body: &B,
     lo: u32,
     hi: u32,

@@ -5,23 +5,23 @@ ghost use Rattle.lv_edits.specs.History.{list_of};
 ghost use Rattle.lv_edits.specs.Kept.{IsLegalInLimits};
 ghost use Rattle.lv_edits.specs.Ranges.{range_refusal};
 
-use lv_edits::{Edits, Journal, Kept};
+use lv_edits::Edits;
 use lv_geometry::Refusal;
 use lv_summary::Summaries;
 use std::alloc::AllocError;
 
 /// What a query reads: the vector's cells, and the table of summaries that are kept for them.
-pub struct View<'a, S, J: Journal = Kept> {
-    pub cells: &'a Edits<J>,
+pub struct View<'a, S> {
+    pub cells: &'a Edits,
     pub table: &'a Summaries<S>,
 }
 
-impl<'a, S, J: Journal> Clone for View<'a, S, J> {
+impl<'a, S> Clone for View<'a, S> {
     ghost is_clone = { λ x y. y ≡ x };
 
     ghost is_infallible = { λ _. ⊤ };
 
-    fn clone(&self) -> Result<View<'a, S, J>, AllocError> {
+    fn clone(&self) -> Result<View<'a, S>, AllocError> {
         Ok(View {
             cells: self.cells,
             table: self.table,
@@ -29,7 +29,7 @@ impl<'a, S, J: Journal> Clone for View<'a, S, J> {
     }
 }
 
-impl<'a, S, J: Journal> Copy for View<'a, S, J> {}
+impl<'a, S> Copy for View<'a, S> {}
 
 /// Elements from index `at` on, before `hi`, one at least: a run of them where they lie, or the one at `at` alone, which is put into
 /// `cell`, where the last edit's write of it isn't in its place yet.

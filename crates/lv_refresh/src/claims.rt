@@ -19,7 +19,7 @@ use crate::level::Level;
 use crate::wants::wanted;
 use handing::job_of;
 use lv_bodies::Body;
-use lv_edits::{Edits, Journal};
+use lv_edits::Edits;
 use lv_geometry::{Levels, Node, Refusal, rows_of};
 use lv_summary::Summaries;
 use std::alloc::Global;
@@ -150,9 +150,9 @@ impl Claims {
 
     /// The job of the least node that wants one, by level and then by number, which is claimed with it; none where no
     /// node wants one. Takes no memory, and looks only at nodes that are hinted at.
-    pub fn claim<B: Body, J: Journal>(
+    pub fn claim<B: Body>(
         &mut self,
-        history: &Edits<J>,
+        history: &Edits,
         table: &Summaries<B::S>,
         body: B,
     ) -> Option<Job<B>>
@@ -176,9 +176,9 @@ impl Claims {
     /// Refreshes the least node that wants a job: claims it, as `claim` would, keeps its summary, computed where its contents lie, and
     /// hints at its parent. Tells whether a node wanted one. Takes no memory, and looks only at nodes that are hinted at.
     #[inline(always)]
-    pub fn refresh_next<B: Body, J: Journal>(
+    pub fn refresh_next<B: Body>(
         &mut self,
-        history: &Edits<J>,
+        history: &Edits,
         table: &mut Summaries<B::S>,
         body: &B,
     ) -> bool

@@ -13,16 +13,16 @@ ghost use Rattle.lv_refresh.specs.Inner.{HintsNode, IsReady};
 
 use crate::claims::Claims;
 use lv_bodies::{Body, fold_slice};
-use lv_edits::{Edits, Journal};
+use lv_edits::Edits;
 use lv_geometry::Node;
 use lv_summary::Summaries;
 
 /// Keeps the fold of the elements of a node that is due, and hints at its parent. It is made anew for each level, so that no row is
 /// picked by the number of its level.
 #[inline(always)]
-pub fn refresh_node<B: Body, J: Journal>(
+pub fn refresh_node<B: Body>(
     claims: &mut Claims,
-    history: &Edits<J>,
+    history: &Edits,
     table: &mut Summaries<B::S>,
     body: &B,
     node: Node,
@@ -67,9 +67,9 @@ fn on_level(node: Node, level: u32) -> Node
 
 // What `refresh_node` does.
 #[inline(always)]
-fn refresh_at<B: Body, J: Journal>(
+fn refresh_at<B: Body>(
     claims: &mut Claims,
-    history: &Edits<J>,
+    history: &Edits,
     table: &mut Summaries<B::S>,
     body: &B,
     node: Node,
@@ -90,12 +90,7 @@ fn refresh_at<B: Body, J: Journal>(
 // The fold of a whole node's elements, computed where its contents lie: from the elements of a block, and above from the summaries of
 // the children, which are fresh.
 #[inline(always)]
-fn summary_of<B: Body, J: Journal>(
-    history: &Edits<J>,
-    table: &Summaries<B::S>,
-    body: &B,
-    node: Node,
-) -> B::S
+fn summary_of<B: Body>(history: &Edits, table: &Summaries<B::S>, body: &B, node: Node) -> B::S
     requires agrees { Agrees (B.operations body.now) history.now.journal table.now }
     requires whole { whole_in table.now node ≡ true }
     requires ready { IsReady table.now node }
@@ -111,12 +106,7 @@ fn summary_of<B: Body, J: Journal>(
 // The fold of the elements of a whole block, where they lie unless a write is pending among them. The table only says that it is
 // whole.
 #[inline(always)]
-fn fold_block<B: Body, J: Journal>(
-    history: &Edits<J>,
-    _table: &Summaries<B::S>,
-    body: &B,
-    block: Node,
-) -> B::S
+fn fold_block<B: Body>(history: &Edits, _table: &Summaries<B::S>, body: &B, block: Node) -> B::S
     requires agrees { Agrees (B.operations body.now) history.now.journal _table.now }
     requires whole { whole_in _table.now block ≡ true }
     requires level { block.level ≡ 1 }
@@ -136,8 +126,8 @@ fn fold_block<B: Body, J: Journal>(
 /// The fold of the elements of a whole block. `near` are elements from the first of its word of 64 blocks on, as far as they lie side
 /// by side; those of the block are among them, but for a bucket's end or a pending write.
 #[inline(always)]
-pub fn fold_near<B: Body, J: Journal>(
-    history: &Edits<J>,
+pub fn fold_near<B: Body>(
+    history: &Edits,
     table: &Summaries<B::S>,
     body: &B,
     near: &[i64],
@@ -158,12 +148,7 @@ pub fn fold_near<B: Body, J: Journal>(
 
 // The join of the summaries of a whole node's children, from left to right.
 #[inline(always)]
-fn join_children<B: Body, J: Journal>(
-    history: &Edits<J>,
-    table: &Summaries<B::S>,
-    body: &B,
-    node: Node,
-) -> B::S
+fn join_children<B: Body>(history: &Edits, table: &Summaries<B::S>, body: &B, node: Node) -> B::S
     requires agrees { Agrees (B.operations body.now) history.now.journal table.now }
     requires whole { whole_in table.now node ≡ true }
     requires above { 1 < node.level }
@@ -181,12 +166,7 @@ fn join_children<B: Body, J: Journal>(
 
 // The same, from summaries side by side where they all were written.
 #[inline(always)]
-fn join_node<B: Body, J: Journal>(
-    history: &Edits<J>,
-    table: &Summaries<B::S>,
-    body: &B,
-    node: Node,
-) -> B::S
+fn join_node<B: Body>(history: &Edits, table: &Summaries<B::S>, body: &B, node: Node) -> B::S
     requires agrees { Agrees (B.operations body.now) history.now.journal table.now }
     requires whole { whole_in table.now node ≡ true }
     requires above { 1 < node.level }
@@ -201,8 +181,8 @@ fn join_node<B: Body, J: Journal>(
 
 // The join of eight summaries, which are those of a node's children. The table only says so.
 #[inline(always)]
-fn join_all<B: Body, J: Journal>(
-    history: &Edits<J>,
+fn join_all<B: Body>(
+    history: &Edits,
     _table: &Summaries<B::S>,
     body: &B,
     node: Node,

@@ -7,7 +7,6 @@ pub mod KeptLaws
 pub mod LayerLaws
 pub mod PlaceLaws
 pub mod PlainLaws
-pub mod RememberedLaws
 pub mod SampleLaws
 pub mod SamplePlainLaws
 pub mod ScanSteps

@@ -1,10 +1,15 @@
 -- The elements from the block of a tree's first leaf on: what they are to the elements in memory, and these to what a series keeps.
-use Rattle.std.proofs.Common.{◌≡◌, ℕ, ℤ, ◌+◌, ◌-◌, ◌*◌, ◌/◌, ◌≤◌, Bool, true, false, Some, None, List, length, take, drop, slice_range, sym, ap, ◌∙◌, subst, arith, drop-drop, length-drop}
-use Rattle.std.proofs.lemmas.List.{take_all}
-use Rattle.lv_bodies.specs.Body.{Operations}
+use Rattle.std.proofs.Common.{◌≡◌, ℕ, ℤ, ◌+◌, ◌-◌, ◌*◌, ◌/◌, ◌≤◌, ◌^◌, Bool, true, false, Some, None, List, length, take, drop, slice_range, refl, sym, ap, ◌∙◌, subst, arith, drop-drop, length-drop, All}
+use Rattle.std.proofs.lemmas.List.{length-take, take_all}
+use Rattle.std.proofs.lemmas.List.Elements.{All-drop, All-take}
+use Rattle.lv_bodies.specs.Body.{Operations, fold_of}
+use Rattle.lv_geometry.specs.Elements.{IsElement}
 use Rattle.lv_series.specs.Blocks.{IsOver, IsWindow, Layered}
 use Rattle.lv_series.specs.Places.{Finds}
+use Rattle.lv_tree.specs.BlockLaws.{leaves_join, middle_is}
 use Rattle.lv_tree.specs.Blocks.{AreLeaves}
+use Rattle.lv_tree.specs.Folds.{AreFolds, AreFoldsOf, end_to_end, leaf_range}
+use Rattle.lv_tree.specs.SliceLaws.{slice_of_slice}
 use Rattle.lv_tree.specs.Sought.{Misses}
 use Rattle.lv_tree.specs.declared.sought.Sought.{Sought}
 
@@ -61,3 +66,40 @@ module _ (sought : Sought) (gone : ℕ) (xs items : List ℤ) (is : items ≡ sl
   pub none_in_all : Finds back sought items (from - gone) (to - gone) None → Finds back sought xs from to None
   none_in_all f =
       none_there sought items xs 0 gone same_slices (from - gone) (to - gone) from to (omega arith) (omega (arith, low, order)) (omega (arith, low)) (omega (arith, low, order)) back f
+
+-- what the leaves of whole blocks come to is the fold of the blocks' elements
+module _ {B S : Type 0} (ops : B → Operations S) (base first : ℕ) (xs : List ℤ) (w : IsWindow base first xs) (l t : Layered B S) (view : t ≡ l) (over : IsOver (ops l.body) base first xs l) (kept : l.kept ≡ true) where
+  abbrev gone : ℕ
+  gone = 8 * (first / 8 - base)
+
+  abbrev rest : List ℤ
+  rest = slice_range xs gone (length xs)
+
+  leaves : AreLeaves (ops t.body) rest t.sums
+  leaves = leaves_are ops base first xs w l t view over kept gone rest refl refl
+
+  all : All IsElement rest
+  all = All-take IsElement (length xs - gone) (drop gone xs) (All-drop IsElement gone xs w.all)
+
+  few : length rest ≤ 2 ^ 61
+  few = omega (arith, length-take (length xs - gone) (drop gone xs), w.few)
+
+  pub blocks_fold : AreFolds (ops t.body) t.sums
+  blocks_fold = leaves_join (ops t.body) rest t.sums leaves all few
+
+  pub blocks_are : (s : S) (from to : ℕ) → first ≤ 8 * base + 8 * from → from ≤ to → 8 * to ≤ length xs → ((lists : List (List ℤ)) → AreFoldsOf (ops t.body) lists t.sums → s ≡ fold_of (ops t.body) (end_to_end (leaf_range t.first lists (base + from) (base + to)))) → s ≡ fold_of (ops l.body) (slice_range xs (8 * from) (8 * to))
+  blocks_are s from to low order high is =
+      let start : t.first ≡ first / 8 = ap (λ u. u.first) view ∙ (over kept).start in
+      let whole : t.first + length t.sums ≡ base + length xs / 8 = ap (λ u. u.first + length u.sums) view ∙ (over kept).whole in
+      let a = base + from - t.first in
+      let b = base + to - t.first in
+      let late : t.first ≤ base + from = omega (arith, start, low) in
+      let begin : gone + 8 * a ≡ 8 * from = omega (arith, start, late, w.low) in
+      let end_ : gone + 8 * b ≡ 8 * to = omega (arith, start, late, w.low, order) in
+      middle_is (ops t.body) rest t.sums leaves all few s a b (omega (arith, order)) (omega (arith, whole, high, late)) is
+      ∙ ap (fold_of (ops t.body)) (
+      slice_of_slice xs gone (length xs) (8 * a) (8 * b) (omega (arith, order)) (omega (arith, end_, high))
+      ∙ ap (λ k. slice_range xs k (gone + 8 * b)) begin
+      ∙ ap (slice_range xs (8 * from)) end_
+      )
+      ∙ ap (λ (u : Layered B S). fold_of (ops u.body) (slice_range xs (8 * from) (8 * to))) view

@@ -4,7 +4,6 @@ pub mod Blocks
 pub mod Numbers
 pub mod Places
 pub mod Plain
-pub mod Remembered
 pub mod Samples
 pub mod ScanLaws
 pub mod Series

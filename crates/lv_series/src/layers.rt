@@ -8,9 +8,10 @@ ghost use Rattle.lv_series.specs.Places.{Finds};
 ghost use Rattle.lv_tree.specs.Blocks.{AreLeaves};
 
 use crate::blocks::BLOCK;
-use crate::remembered::Remembering;
 use lv_bodies::{LongBody, fold_long, long_laws};
-use lv_tree::{FoldTree, Items, TestFor, find_sought_end, find_sought_start, fold_range};
+use lv_tree::{
+    CachedTree, FoldTree, Items, TestFor, find_sought_end, find_sought_start, fold_range,
+};
 use std::alloc::Global;
 use std::marker::Model;
 
@@ -21,7 +22,7 @@ const FEW: usize = 64;
 #[derive(Drop)]
 pub struct Layer<B: LongBody> {
     kept: bool,
-    tree: Remembering<B>,
+    tree: CachedTree<B>,
 }
 
 impl<B: LongBody> Model for Layer<B> {
@@ -39,7 +40,7 @@ impl<B: LongBody> Layer<B> {
     {
         Layer {
             kept: false,
-            tree: Remembering::new(alloc, body, 0),
+            tree: CachedTree::new(alloc, body, 0),
         }
     }
 
@@ -160,7 +161,7 @@ impl<B: LongBody> Layer<B> {
         ) {
             None => false,
             Some(tree) => {
-                self.tree = Remembering::of(tree);
+                self.tree = CachedTree::of(tree);
                 self.kept = true;
                 true
             }

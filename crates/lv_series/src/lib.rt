@@ -15,7 +15,6 @@ mod layers;
 mod places;
 mod receipts;
 mod refusals;
-mod remembered;
 mod restored;
 mod sample_changes;
 mod sample_edits;

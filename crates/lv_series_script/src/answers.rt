@@ -14,11 +14,10 @@ use crate::scans::put_scan;
 use crate::texts::{put_answer, put_first, put_receipt, put_refused, put_size, put_value};
 use crate::values::show_value;
 use crate::watched::Watched;
-use lv_bodies::Kind;
+use lv_bodies::{Kind, Name};
 use lv_geometry::Refusal;
 use lv_lines::{Fault, LINE, Outbox, put_named, put_unwatched, put_watching};
 use lv_series::{LongEdit, Series};
-use lv_standing::Name;
 use std::io::Write;
 
 /// At most how many bytes a reply has, scans apart: a line, and a note for each of 64 queries.

@@ -1,8 +1,7 @@
 //! What lines of a series' script ask for.
 
-use lv_bodies::Kind;
+use lv_bodies::{Kind, Name};
 use lv_series::LongEdit;
-use lv_standing::Name;
 
 /// The elements that a standing query is asked of, as many of them as are kept.
 #[derive(Clone, Copy)]

@@ -7,11 +7,10 @@ ghost use Rattle.lv_series_script.specs.LongGrammar.{long_bounds_in, long_comman
 
 use crate::long_commands::{LongCommand, LongLine, Span};
 use crate::long_numbers::{element, long_number};
-use lv_bodies::Kind;
+use lv_bodies::{Kind, Name};
 use lv_lines::grammar::{kind, spells};
 use lv_lines::{is_comment, next_word, without_cr};
 use lv_series::LongEdit;
-use lv_standing::Name;
 
 // The one word, where there is one and no other.
 fn lone_word(words: &[u8]) -> Option<&[u8]>

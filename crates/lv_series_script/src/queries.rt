@@ -12,11 +12,10 @@ ghost use Rattle.lv_series_script.specs.Values.{without_trees};
 use crate::long_commands::Span;
 use crate::values::value_of;
 use crate::watched::Watched;
-use lv_bodies::Kind;
+use lv_bodies::{Kind, Name};
 use lv_geometry::Refusal;
 use lv_lines::{LINE, put_note};
 use lv_series::Series;
-use lv_standing::Name;
 
 /// The query of a name, if there is one.
 pub fn find(entries: &[Watched], name: Name) -> Option<Watched>

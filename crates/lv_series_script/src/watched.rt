@@ -1,7 +1,6 @@
 //! A standing query with the value that it was told.
 use crate::long_commands::Span;
-use lv_bodies::{Kind, Shown};
-use lv_standing::Name;
+use lv_bodies::{Kind, Name, Shown};
 
 /// A standing query, and what it answers at the last edit.
 #[derive(Clone, Copy)]

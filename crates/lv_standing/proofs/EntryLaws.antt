@@ -22,7 +22,7 @@ use Rattle.lv_standing.specs.Queries.{Query, name_refusal, query_of, watch_refus
 use Rattle.lv_standing.specs.Inner.{asked, has_changed, refreshed}
 use Rattle.lv_tree.specs.KindSummaries.{kind_of}
 use Rattle.lv_standing.specs.Standings.{IsCurrent, queries_of, query_at}
-use Rattle.lv_standing.proofs.KeptNames.{same_name}
+use Rattle.lv_bodies.proofs.KeptNames.{same_name}
 use Rattle.lv_tree.proofs.KindLaws.{kind_of_part, summary_is_current}
 
 -- a test says yes or no

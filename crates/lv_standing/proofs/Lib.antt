@@ -2,7 +2,6 @@
 pub mod BesideLaws
 pub mod EditLaws
 pub mod EntryLaws
-pub mod KeptNames
 pub mod NoteLaws
 pub mod RangeLaws
 mod RoomLaws

@@ -7,11 +7,10 @@ ghost use Rattle.lv_standing.specs.Standings.{IsStanding};
 
 use crate::beside::{make_beside, write_beside};
 use crate::changes::{changed_by, pushed_by, written_at};
-use crate::names::Name;
 use crate::notes::Note;
 use crate::watches::{Watch, count_asked, tell};
 use indexmap::IndexMap;
-use lv_bodies::Six;
+use lv_bodies::{Name, Six};
 use lv_edits::{Edit, Receipt};
 use lv_geometry::Refusal;
 use lv_live::Live;

@@ -12,13 +12,12 @@ mod asking;
 mod beside;
 mod changes;
 mod edits;
-mod names;
 mod notes;
 mod standing;
 mod values;
 mod watches;
 
 pub use beside::{make_beside, push_all_beside, write_all_beside, write_beside};
-pub use names::Name;
+pub use lv_bodies::Name;
 pub use notes::{Answered, Note};
 pub use standing::Standing;

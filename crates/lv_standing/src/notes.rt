@@ -1,6 +1,5 @@
 //! What standing queries tell: notes and answers.
-use crate::names::Name;
-use lv_bodies::Shown;
+use lv_bodies::{Name, Shown};
 
 /// That an edit changed the answer of a standing query: its name, and its new answer.
 #[derive(Clone, Copy, Debug, PartialEq, Eq)]

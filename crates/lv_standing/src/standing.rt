@@ -24,12 +24,11 @@ mod searches;
 
 use crate::asking::ask_inside;
 use crate::edits::edit_noted;
-use crate::names::Name;
 use crate::notes::{Answered, Note};
 use crate::values::{SHORT, asked, folded};
 use crate::watches::Watch;
 use indexmap::IndexMap;
-use lv_bodies::{Automaton, Body, Kind, Six, SixSummary};
+use lv_bodies::{Automaton, Body, Kind, Name, Six, SixSummary};
 use lv_edits::{Edit, Receipt};
 use lv_geometry::{Limits, Node, Refusal};
 use lv_live::{Issued, Live};

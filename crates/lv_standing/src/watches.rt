@@ -14,10 +14,9 @@ ghost use Rattle.lv_standing.specs.Standings.{IsCurrent, LeavesUnasked, queries_
 
 use crate::asking::ask_inside;
 use crate::changes::Changed;
-use crate::names::Name;
 use crate::notes::Note;
 use indexmap::IndexMap;
-use lv_bodies::{Shown, Six};
+use lv_bodies::{Name, Shown, Six};
 use lv_live::{Live, Touched};
 use lv_tree::{KindSummary, Kinds};
 

@@ -2,6 +2,7 @@
 mod AnswerLaws
 pub mod Before
 pub mod Between
+pub mod CachedLaws
 pub mod Ends
 pub mod FollowLaws
 pub mod Found

@@ -2,6 +2,7 @@
 pub mod Asked
 pub mod BlockLaws
 pub mod Blocks
+pub mod CachedTrees
 pub mod Folds
 pub mod Follows
 pub mod Inner

@@ -4,6 +4,7 @@
 //! are the difference of two prefixes. The model of each is the summary of each leaf in order. Leaves are added and cut at the end
 //! and replaced; a `FoldTree` also drops them at the front, where the others keep their numbers, and finds the leaf with which a
 //! test on joins becomes true. How nodes lie is the crate's own affair.
+//! A `CachedTree` is such a tree that keeps what the run of leaves that was asked for last came to.
 //!
 //! Over the blocks of eight elements of any list (`Elements`), `fold_range` folds a range of the elements by such a tree, and `find_end` and
 //! `find_start` find the end or the start of one at which a test on the fold becomes true. `find_sought_end` and `find_sought_start` say of
@@ -16,6 +17,7 @@
 #![tactic(auto)]
 
 mod blocks;
+mod cached_tree;
 mod element_folds;
 mod elements;
 mod find;
@@ -39,6 +41,7 @@ mod tree;
 mod trees;
 mod turns;
 
+pub use cached_tree::CachedTree;
 pub use elements::{Elements, Items};
 pub use find::Test;
 pub use kind_summaries::KindSummary;

@@ -5,12 +5,11 @@ ghost use Rattle.lv_edits.specs.Kept.{IsLegalInLimits};
 ghost use Rattle.lv_edits.specs.Pushes.{AnswersAll, verdict_of_pushes};
 
 use crate::edits::Edits;
-use crate::journals::Journal;
 use crate::pushing::make_pushes;
 use crate::writing::make_writes;
 use lv_geometry::Refusal;
 
-impl<J: Journal> Edits<J> {
+impl Edits {
     /// Pushes values in order, all of them or none, and tells the number of the last edit. Refused as the first push that would be
     /// refused, with `Worn` or `Full`, then with `NoMemory`: nothing has changed then.
     pub fn push_all(&mut self, values: &[i64]) -> Result<u32, Refusal>

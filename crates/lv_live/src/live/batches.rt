@@ -13,12 +13,11 @@ use crate::batches::{Batch, BatchOutcome, Batched, BlockJob, BlockOutcome, block
 use crate::live::Live;
 use crate::vouching::have_elements;
 use lv_bodies::Body;
-use lv_edits::Journal;
 use lv_geometry::Refusal;
 use lv_summary::Accepted;
 use std::alloc::{AllocError, Global};
 
-impl<B: Body, J: Journal> Live<B, J> {
+impl<B: Body> Live<B> {
     /// Copies each block that is whole and not fresh, of at most so many from one on, so that its summary may be computed elsewhere. No
     /// node is claimed by it: who asks for a range twice has its jobs twice. Refused with `NoMemory`; the room for all is made at once.
     pub fn copy_blocks(&self, alloc: Global, first: u32, blocks: u32) -> Result<Batch<B>, Refusal>

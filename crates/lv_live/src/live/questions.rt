@@ -14,7 +14,6 @@ ghost use Rattle.lv_live.specs.Step.{Costs, Reduces, Scans};
 
 use crate::live::Live;
 use lv_bodies::Body;
-use lv_edits::Journal;
 use lv_geometry::Refusal;
 use lv_reduce::{Answer, Reads, Scan, Stretch, View};
 use std::alloc::Global;
@@ -65,7 +64,7 @@ impl<B: Body> Live<B> {
     }
 }
 
-impl<B: Body, J: Journal> Live<B, J> {
+impl<B: Body> Live<B> {
     /// The fold of the elements from index `lo` up to `hi`, at the last edit. Refused with `BadRange`, then `OutOfRange`.
     /// Takes no memory.
     pub fn reduce(&self, lo: u32, hi: u32) -> Result<Answer<B::S>, Refusal>
@@ -95,7 +94,7 @@ impl<B: Body, J: Journal> Live<B, J> {
 
     /// What a query reads: the elements, and the summaries that are kept for them.
     #[inline(always)]
-    pub fn view(&self) -> View<'_, B::S, J>
+    pub fn view(&self) -> View<'_, B::S>
         ensures cells { result.cells.now ≡ self.now.history }
         ensures table { result.table.now ≡ self.now.table }
     {

@@ -11,12 +11,11 @@ use crate::delivering::deliver_anew;
 use crate::live::Live;
 use crate::vouching::stands_here;
 use lv_bodies::Body;
-use lv_edits::Journal;
 use lv_geometry::Node;
 use lv_refresh::{Job, Outcome};
 use lv_summary::Accepted;
 
-impl<B: Body, J: Journal> Live<B, J> {
+impl<B: Body> Live<B> {
     /// A job for the least node that wants one, or none. Takes no memory.
     #[inline(always)]
     pub fn claim(&mut self) -> Option<Job<B>>

@@ -11,12 +11,12 @@ use crate::batches::block_at;
 use crate::live::Live;
 use crate::vouching::has_elements;
 use lv_bodies::Body;
-use lv_edits::{Edits, Journal};
+use lv_edits::Edits;
 use lv_geometry::{Node, Refusal};
 use lv_refresh::{SUBTREE_BLOCKS, SUBTREE_ELEMENTS, SubtreeJob, SubtreeOutcome};
 use std::alloc::{AllocError, Global};
 
-impl<B: Body, J: Journal> Live<B, J> {
+impl<B: Body> Live<B> {
     /// Copies the elements of a node of level 4, so that all summaries of it and of the nodes below it may be computed elsewhere: where it is
     /// whole, and neither its first block nor its last is fresh. No node is claimed by it. Refused with `NoMemory`.
     pub fn copy_subtree(&self, alloc: Global, number: u32) -> Result<Option<SubtreeJob<B>>, Refusal>
@@ -97,11 +97,7 @@ impl<B: Body, J: Journal> Live<B, J> {
 }
 
 // The elements of a whole node of level 4, copied, with room made at once.
-fn elements_of<J: Journal>(
-    history: &Edits<J>,
-    alloc: Global,
-    number: u32,
-) -> Result<Vec<i64>, AllocError>
+fn elements_of(history: &Edits, alloc: Global, number: u32) -> Result<Vec<i64>, AllocError>
     requires { IsInside number (length (list_of history.now.journal)) }
     ensures elements { IfOk result (λ elements. elements.items ≡ elements_under history.now.journal (node_at 4 number)) }
     ensures many { IfOk result (λ elements. length elements.items ≡ 4096) }

@@ -8,14 +8,14 @@ use crate::contents::Contents;
 use crate::gathering::children_of;
 use crate::jobs::{Job, JobOf};
 use lv_bodies::Body;
-use lv_edits::{Edits, Journal};
+use lv_edits::Edits;
 use lv_geometry::Node;
 use lv_summary::Summaries;
 
 /// The job of a node that wants one; none where one of its children is not fresh.
 #[inline(always)]
-pub fn job_of<B: Body, J: Journal>(
-    history: &Edits<J>,
+pub fn job_of<B: Body>(
+    history: &Edits,
     table: &Summaries<B::S>,
     node: Node,
     version: u32,
@@ -35,8 +35,8 @@ pub fn job_of<B: Body, J: Journal>(
 
 // The job of a block. It has a function of its own, since most jobs are of blocks, and eight summaries are wide.
 #[inline(never)]
-fn block_job<B: Body, J: Journal>(
-    history: &Edits<J>,
+fn block_job<B: Body>(
+    history: &Edits,
     table: &Summaries<B::S>,
     node: Node,
     version: u32,
@@ -56,8 +56,8 @@ fn block_job<B: Body, J: Journal>(
 
 // The job of a node above level 1; none where one of its children is not fresh.
 #[inline(never)]
-fn parent_job<B: Body, J: Journal>(
-    history: &Edits<J>,
+fn parent_job<B: Body>(
+    history: &Edits,
     table: &Summaries<B::S>,
     node: Node,
     version: u32,

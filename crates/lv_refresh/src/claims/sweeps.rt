@@ -11,7 +11,7 @@ use crate::claims::Claims;
 use crate::computing::fold_near;
 use crate::wants::wanted;
 use lv_bodies::Body;
-use lv_edits::{Edits, Journal};
+use lv_edits::Edits;
 use lv_geometry::Node;
 use lv_summary::Summaries;
 
@@ -20,9 +20,9 @@ impl Claims {
     /// the least node that wants a job then, and is refreshed as `refresh_next` would. Tells how many it refreshed; other nodes may
     /// want a job after it. Takes no memory.
     #[inline(always)]
-    pub fn refresh_blocks<B: Body, J: Journal>(
+    pub fn refresh_blocks<B: Body>(
         &mut self,
-        history: &Edits<J>,
+        history: &Edits,
         table: &mut Summaries<B::S>,
         body: &B,
         jobs: u32,
@@ -55,9 +55,9 @@ impl Claims {
 
     // Refreshes the 64 blocks of a word of hints as far as they want it, and takes their hints away.
     #[inline(never)]
-    fn refresh_word<B: Body, J: Journal>(
+    fn refresh_word<B: Body>(
         &mut self,
-        history: &Edits<J>,
+        history: &Edits,
         table: &mut Summaries<B::S>,
         body: &B,
         word: u32,
@@ -74,9 +74,9 @@ impl Claims {
 
     // Refreshes the 64 blocks of a word of hints as far as they want it, and leaves their hints.
     #[inline(always)]
-    fn refresh_each<B: Body, J: Journal>(
+    fn refresh_each<B: Body>(
         &mut self,
-        history: &Edits<J>,
+        history: &Edits,
         table: &mut Summaries<B::S>,
         body: &B,
         word: u32,
@@ -99,9 +99,9 @@ impl Claims {
     // Refreshes a block, if it wants it, where no block before it does, and leaves its hint. `near` is what lies side by side of the
     // elements of its word. Tells whether it wanted it, by 1 or 0.
     #[inline(always)]
-    fn refresh_block<B: Body, J: Journal>(
+    fn refresh_block<B: Body>(
         &mut self,
-        history: &Edits<J>,
+        history: &Edits,
         table: &mut Summaries<B::S>,
         body: &B,
         near: &[i64],

@@ -45,39 +45,39 @@ kept_where_ok (Ok done) P p = p
 kept_where_ok (Err error) P p = tt
 
 pub returns-then-is_err-clause-alike : goal.returns-then-is_err-clause-alike
-returns-then-is_err-clause-alike g c = rw c.settle.ensures.state (settled_alike c.args.store.now c.requires.sound).0
+returns-then-is_err-clause-alike c = rw c.settle.ensures.state (settled_alike c.args.store.now c.requires.sound).0
 
 pub returns-then-is_err-clause-settled : goal.returns-then-is_err-clause-settled
-returns-then-is_err-clause-settled g c = rw c.settle.ensures.state (settled_alike c.args.store.now c.requires.sound).2
+returns-then-is_err-clause-settled c = rw c.settle.ensures.state (settled_alike c.args.store.now c.requires.sound).2
 
 pub returns-then-is_err-clause-closed : goal.returns-then-is_err-clause-closed
-returns-then-is_err-clause-closed g c = rw c.settle.ensures.state (settled_alike c.args.store.now c.requires.sound).1
+returns-then-is_err-clause-closed c = rw c.settle.ensures.state (settled_alike c.args.store.now c.requires.sound).1
 
 pub open_to-requires : goal.open_to-requires
-open_to-requires g c =
+open_to-requires c =
     record { few = rw (c.settle.ensures.state, (settled_alike c.args.store.now c.requires.sound).0.limits) c.requires.few }
 
 pub returns-clause-alike : goal.returns-clause-alike
-returns-clause-alike g c =
+returns-clause-alike c =
     let state = c.settle.ensures.state in
     (readied _ _ _ _ c.requires.sound (rw state at c.open_to.ensures.ok) (rw state at c.open_to.ensures.unchanged)).alike
 
 pub returns-clause-settled : goal.returns-clause-settled
-returns-clause-settled g c =
+returns-clause-settled c =
     let state = c.settle.ensures.state in
     (readied _ _ _ _ c.requires.sound (rw state at c.open_to.ensures.ok) (rw state at c.open_to.ensures.unchanged)).settled
 
 pub returns-clause-buckets : goal.returns-clause-buckets
-returns-clause-buckets g c =
+returns-clause-buckets c =
     let state = c.settle.ensures.state in
     (readied _ _ _ _ c.requires.sound (rw state at c.open_to.ensures.ok) (rw state at c.open_to.ensures.unchanged)).buckets
 
 pub returns-clause-closed : goal.returns-clause-closed
-returns-clause-closed g c =
+returns-clause-closed c =
     let state = c.settle.ensures.state in
     (readied _ _ _ _ c.requires.sound (rw state at c.open_to.ensures.ok) (rw state at c.open_to.ensures.unchanged)).closed
 
 pub returns-clause-edits : goal.returns-clause-edits
-returns-clause-edits g c =
+returns-clause-edits c =
     let room = kept_where_no_err c.reserve.result _ (sym c.is_err.ensures.value ∙ c.if-is_err.false) c.reserve.ensures.room in
     kept_where_ok c.open_to.result _ room

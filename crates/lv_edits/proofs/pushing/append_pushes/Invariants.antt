@@ -1,11 +1,12 @@
 -- What the loop keeps in `append_pushes`: puts pushes behind edits, where there is room for them.
 use Rattle.std.proofs.Common.{◌≡◌, ◌-◌, ◌≤◌, ◌++◌, length, map, take}
+use Rattle.lv_edits.specs.Inner.{noted, room}
 use Rattle.lv_edits.specs.declared.edit.Edit.TheVariants.{Push}
 use Rattle.lv_edits.proofs.pushing.append_pushes.Given as goal
 
 -- the pushes so far are behind the edits, and there is room for the others
 abbrev pub invariant-loop-value : goal.invariant-loop-value
-invariant-loop-value g l = record {
-  items : g.J.Journal.noted l.journal ≡ g.J.Journal.noted l.fn.journal ++ map Push (take l.value-index l.values);
-  room : length l.values - l.value-index ≤ g.J.Journal.room l.journal;
+invariant-loop-value l = record {
+  items : noted l.journal ≡ noted l.fn.journal ++ map Push (take l.value-index l.values);
+  room : length l.values - l.value-index ≤ room l.journal;
 }

@@ -9,17 +9,17 @@ use Rattle.lv_edits.proofs.HoldsWrites.{write_allowed, write_held_through}
 use Rattle.lv_edits.proofs.writing.make_write_through.Goals as goal
 
 pub write_through-before-requires-clause-index : goal.write_through-before-requires-clause-index
-write_through-before-requires-clause-index g c =
+write_through-before-requires-clause-index c =
     (write_allowed c.args.store.now _ _ c.args.index c.args.value c.requires.held c.requires.free c.settle_first.ensures.state).index
 
 pub returns-clause-held : goal.returns-clause-held
-returns-clause-held g c =
+returns-clause-held c =
     let same = to_z-of_z w64 c.args.value c.ranges.value in
     rw (c.write_through-before.ensures.state, c.note.ensures.noted, c.reserve.ensures.noted, same)
     (write_held_through c.args.store.now _ _ c.args.index c.args.value c.requires.held c.requires.free c.settle_first.ensures.state c.ranges.value c.settle_first.ensures.sound)
 
 pub returns-clause-answer : goal.returns-clause-answer
-returns-clause-answer g c =
+returns-clause-answer c =
     let held = c.requires.held in
     let (alike, buckets, pending) = settled_alike c.args.store.now held.sound in
     let within = write_fits _ _ c.args.index c.args.value held c.requires.free in

@@ -7,6 +7,6 @@ use Rattle.lv_bodies.specs.EqualLaws.{exact_pointwise}
 use Rattle.lv_live.proofs.vouching.has_block.Goals as goal
 
 pub returns : goal.returns
-returns g c =
+returns c =
     subst (λ xs. IsTrue c.eq.result ↔ (slice_range c.args.elements.now c.args.at (c.args.at + 8) ≡ xs)) c.block-here.ensures.value
     (rw c.eq.ensures (exact_pointwise int_eq Decides-int_eq (slice_range c.args.elements.now c.args.at (c.args.at + 8)) c.block-here.result))

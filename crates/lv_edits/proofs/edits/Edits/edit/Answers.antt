@@ -2,4 +2,4 @@
 use Rattle.lv_edits.proofs.edits.Edits.edit.Goals as goal
 
 pub returns-clause-limits : goal.returns-clause-limits
-returns-clause-limits g c = rw (← c.self.view_is) c.self.invariant.kept
+returns-clause-limits c = rw (← c.self.view_is) c.self.invariant.kept

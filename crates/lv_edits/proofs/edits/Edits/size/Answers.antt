@@ -4,7 +4,7 @@ use Rattle.lv_edits.proofs.HoldsLaws.{size_held}
 use Rattle.lv_edits.proofs.edits.Edits.size.Goals as goal
 
 pub returns-clause-value : goal.returns-clause-value
-returns-clause-value g c = rw (← c.self.view_is) (c.size.ensures.value ∙ size_held _ _ c.self.invariant)
+returns-clause-value c = rw (← c.self.view_is) (c.size.ensures.value ∙ size_held _ _ c.self.invariant)
 
 pub returns-clause-limits : goal.returns-clause-limits
-returns-clause-limits g c = rw (← c.self.view_is) c.self.invariant.kept
+returns-clause-limits c = rw (← c.self.view_is) c.self.invariant.kept

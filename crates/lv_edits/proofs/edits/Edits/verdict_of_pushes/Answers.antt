@@ -6,7 +6,7 @@ use Rattle.lv_edits.proofs.PushLaws.{full_first, keeps_limits, none_refused, wor
 use Rattle.lv_edits.proofs.edits.Edits.verdict_of_pushes.Goals as goal
 
 pub returns-then-values-min : goal.returns-then-values-min
-returns-then-values-min g c =
+returns-then-values-min c =
     let h = c.args.self.now in
     let kept : IsLegalInLimits h = rw (← c.self.view_is) c.self.invariant.kept in
     let most = ap (λ l. l.edits) c.limits-limits.ensures in
@@ -16,7 +16,7 @@ returns-then-values-min g c =
     sym (none_refused h c.args.values.now (keeps_limits h kept) (omega (arith, c.if-values-min.true, c.min.ensures, c.edits.ensures.value, c.edit.ensures.value, c.capacity.ensures.value, c.size.ensures.value, most, all, of_edits, of_cells, kept.edits, kept.size)) (omega (arith, c.if-values-min.true, c.min.ensures, c.edits.ensures.value, c.edit.ensures.value, c.capacity.ensures.value, c.size.ensures.value, most, all, of_edits, of_cells, kept.edits, kept.size)))
 
 pub returns-then-edits-cells : goal.returns-then-edits-cells
-returns-then-edits-cells g c =
+returns-then-edits-cells c =
     let h = c.args.self.now in
     let kept : IsLegalInLimits h = rw (← c.self.view_is) c.self.invariant.kept in
     let most = ap (λ l. l.edits) c.limits-limits.ensures in
@@ -26,7 +26,7 @@ returns-then-edits-cells g c =
     sym (worn_first h c.args.values.now (keeps_limits h kept) (omega (arith, c.if-values-min.false, c.if-edits-cells.true, c.min.ensures, c.edits.ensures.value, c.edit.ensures.value, c.capacity.ensures.value, c.size.ensures.value, most, all, of_edits, of_cells, kept.edits, kept.size)) (omega (arith, c.if-edits-cells.true, c.min.ensures, c.edits.ensures.value, c.edit.ensures.value, c.capacity.ensures.value, c.size.ensures.value, most, all, of_edits, of_cells, kept.edits, kept.size)))
 
 pub returns-else-edits-cells : goal.returns-else-edits-cells
-returns-else-edits-cells g c =
+returns-else-edits-cells c =
     let h = c.args.self.now in
     let kept : IsLegalInLimits h = rw (← c.self.view_is) c.self.invariant.kept in
     let most = ap (λ l. l.edits) c.limits-limits.ensures in

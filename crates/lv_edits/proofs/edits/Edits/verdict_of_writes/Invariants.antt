@@ -5,7 +5,7 @@ use Rattle.lv_edits.proofs.edits.Edits.verdict_of_writes.Given as goal
 
 -- the writes so far are not refused, so that those behind them are judged
 abbrev pub invariant-loop-place : goal.invariant-loop-place
-invariant-loop-place g l = record {
+invariant-loop-place l = record {
   within : l.place ≤ l.left;
   judged : verdict_by l.left l.size l.indices ≡ verdict_by (l.left - l.place) l.size (drop l.place l.indices);
 }

@@ -2,4 +2,4 @@
 use Rattle.lv_edits.proofs.edits.Edits.write_all.Goals as goal
 
 pub returns-in-Some-clause-limits : goal.returns-in-Some-clause-limits
-returns-in-Some-clause-limits g c = rw (← c.self.view_is) c.self.invariant.kept
+returns-in-Some-clause-limits c = rw (← c.self.view_is) c.self.invariant.kept

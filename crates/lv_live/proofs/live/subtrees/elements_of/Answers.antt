@@ -6,7 +6,7 @@ use Rattle.lv_live.proofs.SubtreeElements.{all_in, block_in, eight_more, length_
 use Rattle.lv_live.proofs.live.subtrees.elements_of.Goals as goal
 
 pub loop-k-preserved : goal.loop-k-preserved
-loop-k-preserved g c =
+loop-k-preserved c =
     let es = c.args.history.now.journal in
     let all = elements_under es (node_at 4 c.args.number) in
     c.in_ok-extend_from_slice.ensures.items
@@ -15,9 +15,9 @@ loop-k-preserved g c =
     ∙ sym (eight_more all c.loop-k.k)
 
 pub returns-clause-elements : goal.returns-clause-elements
-returns-clause-elements g c =
+returns-clause-elements c =
     let end : c.loop-k.k ≡ 512 = omega (arith, c.loop-k.auto.k-end, c.loop-k-test.false) in
     c.loop-k.invariant ∙ all_in c.args.history.now.journal c.args.number c.loop-k.k end
 
 pub returns-clause-many : goal.returns-clause-many
-returns-clause-many g c = ap length (returns-clause-elements g c) ∙ length_inside c.args.history.now.journal c.args.number c.requires
+returns-clause-many c = ap length (returns-clause-elements c) ∙ length_inside c.args.history.now.journal c.args.number c.requires

@@ -6,4 +6,4 @@ use Rattle.lv_live.proofs.live.subtrees.elements_of.Given as goal
 
 -- the elements so far are the node's first
 abbrev pub invariant-loop-k : goal.invariant-loop-k
-invariant-loop-k g l = l.elements.items ≡ take (8 * l.k) (elements_under l.fn.history.journal (node_at 4 l.fn.number))
+invariant-loop-k l = l.elements.items ≡ take (8 * l.k) (elements_under l.fn.history.journal (node_at 4 l.fn.number))

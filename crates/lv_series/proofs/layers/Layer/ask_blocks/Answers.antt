@@ -1,5 +1,5 @@
 -- Proof of `Layer::ask_blocks`: the leaves of the blocks are the folds of their elements.
-use Rattle.lv_series.proofs.RememberedLaws.{blocks_are, blocks_fold}
+use Rattle.lv_series.proofs.SearchLaws.{blocks_are, blocks_fold}
 use Rattle.lv_series.proofs.layers.Layer.ask_blocks.Goals as goal
 
 pub ask-requires-clause-folds : goal.ask-requires-clause-folds

@@ -1,9 +1,9 @@
--- Proof of `Remembering::ask`: what a run comes to is the fold of its elements.
+-- Proof of `CachedTree::ask`: what a run comes to is the fold of its elements.
 use Rattle.std.proofs.Common.{◌≡◌, ◌≤◌, ap, ◌∙◌, subst, arith}
 use Rattle.lv_bodies.specs.Long.{LongLaws}
-use Rattle.lv_series.specs.Remembered.{leaves_joined}
-use Rattle.lv_series.proofs.RememberedLaws.{joined_is_fold}
-use Rattle.lv_series.proofs.remembered.Remembering.ask.Goals as goal
+use Rattle.lv_tree.specs.CachedTrees.{leaves_joined}
+use Rattle.lv_tree.proofs.CachedLaws.{joined_is_fold}
+use Rattle.lv_tree.proofs.cached_tree.CachedTree.ask.Goals as goal
 
 pub returns-then-self-to-clause-sum : goal.returns-then-self-to-clause-sum
 returns-then-self-to-clause-sum g c =

@@ -6,7 +6,7 @@ use Rattle.std.proofs.lemmas.Bool.{and_parts, leb-true, cases_eq, ne_eqb, false�
 use Rattle.std.proofs.lemmas.List.{drop-replicate}
 use Rattle.std.proofs.lemmas.List.Sums.{take_while-cons, prefix_len-le-length}
 use Rattle.std.proofs.lemmas.Slice.Eq.{bytes_eq-Decides}
-use Rattle.lv_standing.specs.Names.{is_name_byte, IsName, kept_name, padded}
+use Rattle.lv_bodies.specs.Names.{is_name_byte, IsName, kept_name, padded}
 
 -- zero is no byte of a name
 pub name_byte_not_zero : (b : ℕ) → is_name_byte b ≡ true → nat_eq b 0 ≡ false

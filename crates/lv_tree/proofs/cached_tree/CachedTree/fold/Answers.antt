@@ -1,9 +1,9 @@
--- Proof of `Remembering::fold`: what a run comes to, by the tree alone or from what is remembered on.
+-- Proof of `CachedTree::fold`: what a run comes to, by the tree alone or from what is remembered on.
 use Rattle.std.proofs.Common.{◌≡◌, ◌+◌, ◌≤◌, length, sym, ◌∙◌, subst}
 use Rattle.lv_bodies.specs.Long.{CanJoinLong, LongLaws}
-use Rattle.lv_series.proofs.RememberedLaws.{fold_is_joined, goes_on}
+use Rattle.lv_tree.proofs.CachedLaws.{fold_is_joined, goes_on}
 use Rattle.lv_tree.specs.Folds.{AreFolds}
-use Rattle.lv_series.proofs.remembered.Remembering.fold.Goals as goal
+use Rattle.lv_tree.proofs.cached_tree.CachedTree.fold.Goals as goal
 
 pub returns-then-self-from : goal.returns-then-self-from
 returns-then-self-from g c =

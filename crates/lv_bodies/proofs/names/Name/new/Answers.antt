@@ -1,8 +1,8 @@
 -- Proof of `Name::new`: the name of these bytes, if they may be one.
 use Rattle.std.proofs.Common.{sym, ap, ◌∙◌}
-use Rattle.lv_standing.specs.Names.{IsName, kept_name, padded}
-use Rattle.lv_standing.proofs.KeptNames.{kept-padded, padded_by_copy}
-use Rattle.lv_standing.proofs.names.Name.new.Goals as goal
+use Rattle.lv_bodies.specs.Names.{IsName, kept_name, padded}
+use Rattle.lv_bodies.proofs.KeptNames.{kept-padded, padded_by_copy}
+use Rattle.lv_bodies.proofs.names.Name.new.Goals as goal
 
 pub returns-clause-bytes : goal.returns-clause-bytes
 returns-clause-bytes c =

@@ -1,18 +1,19 @@
-//! A fold tree that remembers the run of leaves that was asked for last.
+//! A fold tree with a cache of one answer: what the run of leaves that was asked for last came to.
 ghost use Rattle.std.specs.Prelude.{◌≡◌, ℕ, ℤ, ◌+◌, ◌-◌, ◌^◌, ◌<◌, ◌≤◌, List, [], ◌∷◌, ◌++◌, length, take, drop, slice_set, OnErr, OnOk, IfErr};
 ghost use Rattle.lv_bodies.specs.Body.{fold_of};
-ghost use Rattle.lv_series.specs.Remembered.{leaves_joined};
+ghost use Rattle.lv_tree.specs.CachedTrees.{leaves_joined};
 ghost use Rattle.lv_tree.specs.Folds.{AreFolds, AreFoldsOf, end_to_end, leaf_range};
 
+use crate::tree::Tree;
+use crate::trees::FoldTree;
 use lv_bodies::{LongBody, long_laws};
 use lv_geometry::Refusal;
-use lv_tree::{FoldTree, Tree};
 use std::alloc::Global;
 use std::marker::Model;
 
 /// What the leaves from number `from` up to `to` came to.
 #[derive(Clone, Copy)]
-struct Run<S> {
+struct CachedRun<S> {
     from: u64,
     to: u64,
     sum: S,
@@ -20,49 +21,49 @@ struct Run<S> {
 
 // No leaves.
 #[inline(always)]
-fn no_run<B: LongBody>(body: &B) -> Run<B::S>
+fn no_run<B: LongBody>(body: &B) -> CachedRun<B::S>
     ensures { result ≡ record { from = 0; to = 0; sum = (B.operations body.now).identity } }
 {
-    Run {
+    CachedRun {
         from: 0,
         to: 0,
         sum: body.identity(),
     }
 }
 
-/// A fold tree, and the run of its leaves that was asked for last, or none.
+/// A fold tree, and what the run of its leaves that was asked for last came to, while those leaves stand as they were.
 #[derive(Drop)]
-pub struct Remembering<B: LongBody> {
+pub struct CachedTree<B: LongBody> {
     tree: FoldTree<B>,
-    run: Run<B::S>,
+    run: CachedRun<B::S>,
 }
 
-impl<B: LongBody> Model for Remembering<B> {
-    ghost use Rattle.lv_series.specs.Remembered.{IsRemembered};
+impl<B: LongBody> Model for CachedTree<B> {
+    ghost use Rattle.lv_tree.specs.CachedTrees.{IsCached};
     ghost use Rattle.lv_tree.specs.Folds.{Leaves};
 
     ghost Value = { Leaves B B.S };
 
     ghost view = { λ a. a.tree };
 
-    ghost invariant = { λ a. IsRemembered (B.operations a.tree.body) a.tree.first a.tree.sums a.run.from a.run.to a.run.sum };
+    ghost invariant = { λ a. IsCached (B.operations a.tree.body) a.tree.first a.tree.sums a.run.from a.run.to a.run.sum };
 }
 
-impl<B: LongBody> Remembering<B> {
+impl<B: LongBody> CachedTree<B> {
     /// No leaves, of which the first will have the number `first`. Takes no memory.
-    pub fn new(alloc: Global, body: B, first: u64) -> Remembering<B>
+    pub fn new(alloc: Global, body: B, first: u64) -> CachedTree<B>
         ensures { result ≡ record { body = body; first = first; room = 0; sums = [] } }
     {
-        Remembering::of(FoldTree::new(alloc, body, first))
+        CachedTree::of(FoldTree::new(alloc, body, first))
     }
 
     /// A tree, of which nothing is remembered yet.
     #[inline(always)]
-    pub fn of(tree: FoldTree<B>) -> Remembering<B>
+    pub fn of(tree: FoldTree<B>) -> CachedTree<B>
         ensures { result ≡ tree }
     {
         let run = no_run(&tree.body());
-        Remembering { tree, run }
+        CachedTree { tree, run }
     }
 
     /// The tree, to be searched.
@@ -168,7 +169,7 @@ impl<B: LongBody> Remembering<B> {
             return self.run.sum;
         }
         let sum = self.fold(from, to);
-        self.run = Run { from, to, sum };
+        self.run = CachedRun { from, to, sum };
         sum
     }
 

@@ -5,15 +5,9 @@ use Rattle.std.proofs.lemmas.List.{length-drop, length-set, length-take, length_
 use Rattle.std.proofs.lemmas.List.Elements.{All-drop, All-take}
 use Rattle.lv_bodies.specs.Body.{Operations, fold_of}
 use Rattle.lv_bodies.specs.Long.{LongLaws}
-use Rattle.lv_series.specs.Remembered.{IsRemembered, leaves_joined}
-use Rattle.lv_geometry.specs.Elements.{IsElement}
-use Rattle.lv_series.specs.Blocks.{IsOver, IsWindow, Layered}
-use Rattle.lv_tree.specs.BlockLaws.{leaves_join, middle_is}
-use Rattle.lv_tree.specs.Blocks.{AreLeaves}
+use Rattle.lv_tree.specs.CachedTrees.{IsCached, leaves_joined}
 use Rattle.lv_tree.specs.Folds.{AreFolds, AreFoldsOf, end_to_end, leaf_range}
 use Rattle.lv_tree.specs.Parts.{joined_on, run_of}
-use Rattle.lv_tree.specs.SliceLaws.{slice_of_slice}
-use Rattle.lv_series.proofs.SearchLaws.{leaves_are}
 use Rattle.lv_tree.proofs.Glue.{Meet, meet}
 use Rattle.lv_tree.proofs.InOrder.{run_joined}
 use Rattle.lv_tree.proofs.Runs.{run_of_shorter, run_past}
@@ -21,17 +15,17 @@ use Rattle.lv_tree.proofs.Written.{part_beside}
 
 module _ {S : Type 0} (o : Operations S) (first : ℕ) (sums : List S) where
   -- nothing is remembered
-  pub forgotten : (s : S) → s ≡ o.identity → IsRemembered o first sums 0 0 s
+  pub forgotten : (s : S) → s ≡ o.identity → IsCached o first sums 0 0 s
   forgotten s is = record {
     order = omega arith;
     inside = omega arith;
     sum_is = λ low. let none : 0 - first - (0 - first) ≡ 0 = omega arith in is ∙ ap (λ n. joined_on o o.identity (run_of sums (0 - first) n)) (sym none);
   }
 
-  module _ (from to : ℕ) (s : S) (h : IsRemembered o first sums from to s) where
+  module _ (from to : ℕ) (s : S) (h : IsCached o first sums from to s) where
     -- a leaf more
-    pub remembered_pushed : (t : S) → IsRemembered o first (sums ++ t ∷ []) from to s
-    remembered_pushed t = record {
+    pub cached_pushed : (t : S) → IsCached o first (sums ++ t ∷ []) from to s
+    cached_pushed t = record {
       order = h.order;
       inside = omega (arith, h.inside, length_push sums t);
       sum_is = λ low.
@@ -43,8 +37,8 @@ module _ {S : Type 0} (o : Operations S) (first : ℕ) (sums : List S) where
     }
 
     -- another in the place of one that isn't of the run
-    pub remembered_set : (leaf : ℕ) (t : S) → first ≤ leaf → (leaf < from) ⊎ (to ≤ leaf) → IsRemembered o first (slice_set sums (leaf - first) t) from to s
-    remembered_set leaf t low beside = record {
+    pub cached_set : (leaf : ℕ) (t : S) → first ≤ leaf → (leaf < from) ⊎ (to ≤ leaf) → IsCached o first (slice_set sums (leaf - first) t) from to s
+    cached_set leaf t low beside = record {
       order = h.order;
       inside = omega (arith, h.inside, length-set sums (leaf - first) t);
       sum_is = λ kept.
@@ -53,16 +47,16 @@ module _ {S : Type 0} (o : Operations S) (first : ℕ) (sums : List S) where
     }
 
     -- only the first leaves, of which the run is
-    pub remembered_cut : (count : ℕ) → count ≤ length sums → to ≤ first + count → IsRemembered o first (take count sums) from to s
-    remembered_cut count fits within = record {
+    pub cached_cut : (count : ℕ) → count ≤ length sums → to ≤ first + count → IsCached o first (take count sums) from to s
+    cached_cut count fits within = record {
       order = h.order;
       inside = omega (arith, within, fits, length-take count sums);
       sum_is = λ low. h.sum_is low ∙ ap (joined_on o o.identity) (sym (run_of_shorter sums count (from - first) (to - first - (from - first)) (omega (arith, h.order, within, low))));
     }
 
     -- without leaves in front
-    pub remembered_expired : (past : ℕ) → first ≤ past → IsRemembered o past (drop (past - first) sums) from to s
-    remembered_expired past later = record {
+    pub cached_expired : (past : ℕ) → first ≤ past → IsCached o past (drop (past - first) sums) from to s
+    cached_expired past later = record {
       order = h.order;
       inside = omega (arith, h.inside, later, length-drop (past - first) sums);
       sum_is = λ low.
@@ -91,46 +85,9 @@ module _ {S : Type 0} (o : Operations S) (first : ℕ) (sums : List S) where
           meet o within laws sums 0 (length sums) (subst (AreFolds o) all folds) (a - first) (b - first) (c - first) (omega arith) (omega (arith, left)) (omega (arith, right)) (omega (arith, high))
 
       -- so what is remembered may be joined with what comes behind it
-      pub goes_on : (begin mid to : ℕ) (s more : S) → IsRemembered o first sums begin mid s → (from : ℕ) → begin ≡ from → first ≤ from → mid ≤ to → to ≤ first + length sums → ((lists : List (List ℤ)) → AreFoldsOf o lists sums → more ≡ fold_of o (end_to_end (leaf_range first lists mid to))) → Meet o within s more (leaves_joined o first sums from to)
+      pub goes_on : (begin mid to : ℕ) (s more : S) → IsCached o first sums begin mid s → (from : ℕ) → begin ≡ from → first ≤ from → mid ≤ to → to ≤ first + length sums → ((lists : List (List ℤ)) → AreFoldsOf o lists sums → more ≡ fold_of o (end_to_end (leaf_range first lists mid to))) → Meet o within s more (leaves_joined o first sums from to)
       goes_on begin mid to s more h from at low right high more_is =
           let s_is : s ≡ leaves_joined o first sums from mid = h.sum_is (omega (arith, low, at)) ∙ ap (λ k. leaves_joined o first sums k mid) at in
           subst (λ t. Meet o within t more (leaves_joined o first sums from to)) (sym s_is)
           (subst (λ t. Meet o within (leaves_joined o first sums from mid) t (leaves_joined o first sums from to)) (sym (fold_is_joined more mid to more_is))
           (runs_meet from mid to low (omega (arith, h.order, at)) right high))
-
--- what the leaves of whole blocks come to is the fold of the blocks' elements
-module _ {B S : Type 0} (ops : B → Operations S) (base first : ℕ) (xs : List ℤ) (w : IsWindow base first xs) (l t : Layered B S) (view : t ≡ l) (over : IsOver (ops l.body) base first xs l) (kept : l.kept ≡ true) where
-  abbrev gone : ℕ
-  gone = 8 * (first / 8 - base)
-
-  abbrev rest : List ℤ
-  rest = slice_range xs gone (length xs)
-
-  leaves : AreLeaves (ops t.body) rest t.sums
-  leaves = leaves_are ops base first xs w l t view over kept gone rest refl refl
-
-  all : All IsElement rest
-  all = All-take IsElement (length xs - gone) (drop gone xs) (All-drop IsElement gone xs w.all)
-
-  few : length rest ≤ 2 ^ 61
-  few = omega (arith, length-take (length xs - gone) (drop gone xs), w.few)
-
-  pub blocks_fold : AreFolds (ops t.body) t.sums
-  blocks_fold = leaves_join (ops t.body) rest t.sums leaves all few
-
-  pub blocks_are : (s : S) (from to : ℕ) → first ≤ 8 * base + 8 * from → from ≤ to → 8 * to ≤ length xs → ((lists : List (List ℤ)) → AreFoldsOf (ops t.body) lists t.sums → s ≡ fold_of (ops t.body) (end_to_end (leaf_range t.first lists (base + from) (base + to)))) → s ≡ fold_of (ops l.body) (slice_range xs (8 * from) (8 * to))
-  blocks_are s from to low order high is =
-      let start : t.first ≡ first / 8 = ap (λ u. u.first) view ∙ (over kept).start in
-      let whole : t.first + length t.sums ≡ base + length xs / 8 = ap (λ u. u.first + length u.sums) view ∙ (over kept).whole in
-      let a = base + from - t.first in
-      let b = base + to - t.first in
-      let late : t.first ≤ base + from = omega (arith, start, low) in
-      let begin : gone + 8 * a ≡ 8 * from = omega (arith, start, late, w.low) in
-      let end_ : gone + 8 * b ≡ 8 * to = omega (arith, start, late, w.low, order) in
-      middle_is (ops t.body) rest t.sums leaves all few s a b (omega (arith, order)) (omega (arith, whole, high, late)) is
-      ∙ ap (fold_of (ops t.body)) (
-      slice_of_slice xs gone (length xs) (8 * a) (8 * b) (omega (arith, order)) (omega (arith, end_, high))
-      ∙ ap (λ k. slice_range xs k (gone + 8 * b)) begin
-      ∙ ap (slice_range xs (8 * from)) end_
-      )
-      ∙ ap (λ (u : Layered B S). fold_of (ops u.body) (slice_range xs (8 * from) (8 * to))) view

@@ -1,6 +1,6 @@
 //! The names of standing queries.
 ghost use Rattle.std.specs.Prelude.{◌≡◌, ◌↔◌, IsSome, IfSome, IsTrue};
-ghost use Rattle.lv_standing.specs.Names.{IsName, is_name, is_name_byte};
+ghost use Rattle.lv_bodies.specs.Names.{IsName, is_name, is_name_byte};
 
 use std::marker::Model;
 
@@ -14,7 +14,7 @@ pub struct Name {
 impl Model for Name {
     ghost use Rattle.std.specs.Prelude.{◌≡◌, List, ℕ};
     ghost use Rattle.std.proofs.Common.{sym};
-    ghost use Rattle.lv_standing.specs.Names.{IsName, kept_name, padded};
+    ghost use Rattle.lv_bodies.specs.Names.{IsName, kept_name, padded};
 
     ghost Value = { List ℕ };
 

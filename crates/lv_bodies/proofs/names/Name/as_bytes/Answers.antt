@@ -2,8 +2,8 @@
 use Rattle.std.proofs.Common.{◌==◌, ◌∙◌, rules, tests}
 use Rattle.std.proofs.lemmas.Iterator.{YieldsList-from_slice}
 use Rattle.std.proofs.lemmas.Iterator.Search.{position_from_yields_List}
-use Rattle.lv_standing.proofs.KeptNames.{kept_front}
-use Rattle.lv_standing.proofs.names.Name.as_bytes.Goals as goal
+use Rattle.lv_bodies.proofs.KeptNames.{kept_front}
+use Rattle.lv_bodies.proofs.names.Name.as_bytes.Goals as goal
 
 pub returns-clause-bytes : goal.returns-clause-bytes
 returns-clause-bytes c =
