@@ -126,6 +126,14 @@ pub fn plan(matches: &ArgMatches<'_>) -> Plan {
     }
 }
 
+/// Whether nothing is told where what reads standard output has ended, by the options of the command that is asked for.
+pub fn is_quiet(matches: &ArgMatches<'_>) -> bool {
+    match matches.subcommand() {
+        Some((_, asked)) => asked.get_flag("quiet-pipe"),
+        None => false,
+    }
+}
+
 /// How many actors a schedule's machine has, by its options.
 pub fn actors(matches: &ArgMatches<'_>) -> u32 {
     matches.get_one::<u32>("actors").unwrap_or(2)

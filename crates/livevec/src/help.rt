@@ -14,7 +14,7 @@ Exit codes:
   1  a fault, reported on standard error as `livevec: fault N`; the next line says what failed.
      For `audit`: no or bad
   2  a usage error, reported on standard error
-  3  whatever reads standard output has ended, as `head` does; nothing is reported
+  3  with --quiet-pipe: whatever reads standard output has ended, as `head` does; nothing is reported
 Faults: 6 out of memory; 13 a read failed or a file can't be opened; 14 a write failed or an output can't be made
 
 File names must be UTF-8; for a file with another name make a link with such a name. If standard input

@@ -55,8 +55,8 @@ use std::time::Clock;
 use std::{env, io};
 
 /// Statuses: 0; 1 on a fault, printed on standard error as `livevec: fault N` with a line in words behind it, and of an audit that
-/// says no or bad; 2 on a usage fault, whose text goes to standard error; 3, without a word, where what reads standard output has
-/// ended.
+/// says no or bad; 2 on a usage fault, whose text goes to standard error; 3, without a word, where
+/// --quiet-pipe is given and what reads standard output has ended.
 fn main(rt: HostRuntime) -> ExitCode {
     let _kept = null_files(&rt);
     match run(&rt) {
@@ -114,7 +114,7 @@ fn words_of<R: AllocGlobal + Env>(rt: &R) -> io::Result<Vec<String>> {
     Ok(env::args(rt)?.collect(rt.alloc())?)
 }
 
-// Does what a command line asks. Where what reads standard output has ended, so does this, without a word.
+// Does what a command line asks. With --quiet-pipe nothing is told where what reads standard output has ended.
 fn obey<R: AllocGlobal + Clock + Eprint + Files + Input + Print + Sync + Threads + Wait>(
     rt: &R,
     matches: &ArgMatches<'_>,
@@ -122,9 +122,16 @@ fn obey<R: AllocGlobal + Clock + Eprint + Files + Input + Print + Sync + Threads
 where
     R::File: Send,
 {
-    let mut writer = Piped::new(Waited::new(rt, io::writer(rt)));
+    let mut writer = Piped::new(
+        Waited::new(rt, io::writer(rt)),
+        command_line::is_quiet(matches),
+    );
     let ended = answer(rt, matches, &mut writer);
-    if writer.is_cut() { Ok(CUT) } else { ended }
+    if writer.ends_quietly() {
+        Ok(CUT)
+    } else {
+        ended
+    }
 }
 
 // Does it, writing to what stands for standard output.
@@ -211,7 +218,7 @@ fn restore<R: AllocGlobal + Clock + Eprint + Files + Input + Print, W: Write>(
         Err(Unopened::Clashes(clash)) => {
             show_clash(rt, command_line::restore_error(alloc, clash))
         }
-        ended => Ok(status_told(rt, &[file], writer.is_cut(), ended)),
+        ended => Ok(status_told(rt, &[file], writer.ends_quietly(), ended)),
     }
 }
 

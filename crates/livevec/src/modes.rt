@@ -76,6 +76,12 @@ const ANSWERS: Number = Number {
     usual: "100000000",
 };
 
+// What each command takes that writes to standard output.
+const QUIET_PIPE: Argument = Argument::Flag(
+    "quiet-pipe",
+    "If whatever reads standard output has ended, as `head` does, reports nothing (exit code 3)",
+);
+
 /// The names of the kinds.
 pub const KINDS: [&str; 6] = ["sum", "least", "greatest", "best", "affine", "automaton"];
 
@@ -123,6 +129,7 @@ pub const RUN: Mode = Mode {
             "Answers a script on a series, an unbounded vector: see below",
             &["buckets", "edits", "jobs"],
         ),
+        QUIET_PIPE,
     ],
 };
 
@@ -146,6 +153,7 @@ pub const SERVE: Mode = Mode {
             "watch",
             "A file of queries, whose answers are written to FILE.out as they change; up to 4 times",
         ),
+        QUIET_PIPE,
         Argument::Files(16),
     ],
 };
@@ -155,7 +163,7 @@ pub const RESTORE: Mode = Mode {
     name: "restore",
     about: help::RESTORE,
     after_help: help::RESTORED,
-    arguments: &[Argument::Front],
+    arguments: &[QUIET_PIPE, Argument::Front],
 };
 
 /// `board`.
@@ -180,6 +188,7 @@ pub const SCHEDULE: Mode = Mode {
         Argument::Number(ACTORS),
         Argument::Number(FEW_BUCKETS),
         Argument::Number(EDITS),
+        QUIET_PIPE,
     ],
 };
 
@@ -188,8 +197,11 @@ pub const AUDIT: Mode = Mode {
     name: "audit",
     about: help::AUDIT,
     after_help: help::VERDICTS,
-    arguments: &[Argument::Flag(
-        "front",
-        "Checks a prefix: as much of a transcript as was written, in real order",
-    )],
+    arguments: &[
+        Argument::Flag(
+            "front",
+            "Checks a prefix: as much of a transcript as was written, in real order",
+        ),
+        QUIET_PIPE,
+    ],
 };

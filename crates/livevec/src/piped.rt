@@ -4,25 +4,27 @@ use std::fs::{Files, OpenOptions};
 use std::io;
 use std::io::{ErrorKind, Write};
 
-/// A writer that notes whether what reads its bytes has ended.
+/// A writer that notes whether what reads its bytes has ended, and whether that is to be told.
 #[derive(Drop)]
 pub struct Piped<W: Write> {
     writer: W,
     is_cut: bool,
+    is_quiet: bool,
 }
 
 impl<W: Write> Piped<W> {
-    /// A writer that isn't cut off.
-    pub fn new(writer: W) -> Piped<W> {
+    /// A writer that isn't cut off. If it is quiet, nothing is told of a cut.
+    pub fn new(writer: W, is_quiet: bool) -> Piped<W> {
         Piped {
             writer,
             is_cut: false,
+            is_quiet,
         }
     }
 
-    /// Whether a write has failed because nobody reads any more.
-    pub fn is_cut(&self) -> bool {
-        self.is_cut
+    /// Whether a write has failed because nobody reads any more, and nothing is to be told of that.
+    pub fn ends_quietly(&self) -> bool {
+        self.is_quiet && self.is_cut
     }
 }
 

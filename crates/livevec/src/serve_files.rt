@@ -35,7 +35,7 @@ where
     let sessions = files.len();
     match serve_named(rt, alloc, asked, names.as_slice(), sessions, writer) {
         Err(Unopened::Clashes(clash)) => { show_clash(rt, command_line::serve_error(alloc, clash)) }
-        ended => Ok(status_told(rt, names.as_slice(), writer.is_cut(), ended)),
+        ended => Ok(status_told(rt, names.as_slice(), writer.ends_quietly(), ended)),
     }
 }
 

@@ -14,7 +14,7 @@ use std::io;
 use std::io::Write;
 use std::time::Clock;
 
-/// The status where what reads standard output has ended.
+/// The status with --quiet-pipe where what reads standard output has ended.
 pub const CUT: u8 = 3;
 
 /// Tells of a failure on standard error, and gives the status that it ends with.
@@ -27,15 +27,15 @@ pub fn tell<R: Eprint>(rt: &R, failure: Failure, files: &[&str]) -> u8
     1
 }
 
-/// Tells of a failure, unless what reads standard output has ended, and gives the status.
+/// Tells of a failure, unless it is that what reads standard output has ended and nothing is to be told of that, and gives the status.
 pub fn status_told<R: Eprint>(
     rt: &R,
     files: &[&str],
-    is_cut: bool,
+    is_quiet: bool,
     ended: Result<(), Unopened<'_>>,
 ) -> u8 {
     match ended {
-        Err(Unopened::Failed(_)) if is_cut => CUT,
+        Err(Unopened::Failed(_)) if is_quiet => CUT,
         Err(Unopened::Failed(failure)) => tell(rt, failure, files),
         Err(Unopened::Clashes(_)) => 2,
         Ok(()) => 0,
