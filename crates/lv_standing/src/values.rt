@@ -50,8 +50,31 @@ fn folded_by<K: Single>(live: &Live<Six>, body: &K, lo: u32, hi: u32) -> Result<
 
 /// The value of a kind over a range, which that kind has followed up to the last edit then, unless the range is short. Refused with
 /// `BadRange`, then `OutOfRange`.
-#[inline(never)]
+#[inline(always)]
 pub fn asked(
+    live: &Live<Six>,
+    kinds: &mut Kinds,
+    kind: Kind,
+    lo: u32,
+    hi: u32,
+) -> Result<Answered, Refusal>
+    requires limits { IsLegalInLimits live.now.history }
+    requires kept { AreReady program_table live.now.history.journal kinds.old }
+    ensures ok { IfOk result (λ answered. IsValue live.now.history.journal kind lo hi answered) }
+    ensures err { IfErr result (λ refusal. range_refusal live.now.history.journal lo hi ≡ Some refusal) }
+    ensures kept { AreReady program_table live.now.history.journal kinds.new }
+    ensures others { LeavesOthers kind kinds.old kinds.new }
+    ensures caught_up { IfOk result (λ _. IsNear kind lo hi kinds.old ⊎ IsCaughtUp live.now.history.journal kind hi kinds.new) }
+{
+    match kind {
+        Kind::Sum => asked_by(live, kinds, Kind::Sum, lo, hi),
+        _ => asked_apart(live, kinds, kind, lo, hi),
+    }
+}
+
+// The same. It stands apart, so that a sum that was told last pays for none of the other kinds' room on the stack.
+#[inline(never)]
+fn asked_apart(
     live: &Live<Six>,
     kinds: &mut Kinds,
     kind: Kind,

@@ -98,10 +98,31 @@ fn sum_of(late: &mut Late<Prefixes>, last: &mut LastSum, cells: &Edits, lo: u32,
 {
     match last.of(lo, hi) {
         Some(sum) => sum,
-        None => {
-            let sum = late.ask(cells, lo, hi);
-            *last = LastSum::new(lo, hi, sum);
-            sum
-        }
+        None => sum_by_tree(late, last, cells, lo, hi),
     }
+}
+
+// The sum of a range from the tree, which is then the one that was told last. It stands apart, so that a sum that was told last pays for
+// none of its room on the stack.
+#[inline(never)]
+fn sum_by_tree(
+    late: &mut Late<Prefixes>,
+    last: &mut LastSum,
+    cells: &Edits,
+    lo: u32,
+    hi: u32,
+) -> u64
+    requires order { lo ≤ hi }
+    requires inside { hi ≤ length (list_of cells.now.journal) }
+    requires late { IsLate sum_operations cells.now.journal late.old }
+    requires room { HasRoomFor late.old (length (list_of cells.now.journal)) }
+    ensures value { result ≡ sum_of_range cells.now.journal lo hi }
+    ensures late { IsLate sum_operations cells.now.journal late.new }
+    ensures last { IsSumOfRange cells.now.journal last.new }
+    ensures kept { KeepsRoom late.old late.new }
+    ensures up_to { (hi ≤ lo + 64) ⊎ IsUpTo cells.now.journal hi late.new }
+{
+    let sum = late.ask(cells, lo, hi);
+    *last = LastSum::new(lo, hi, sum);
+    sum
 }
