@@ -1,7 +1,7 @@
 -- Proof of `Live::cost`.
 use Rattle.std.proofs.Common.{◌≡◌, sym, ap, ◌∙◌}
 use Rattle.lv_live.proofs.QueryLaws.{costs_by}
-use Rattle.lv_live.proofs.live.questions.Live+B.cost.Goals as goal
+use Rattle.lv_live.proofs.live.Live.cost.Goals as goal
 
 pub returns : goal.returns
 returns g c =
