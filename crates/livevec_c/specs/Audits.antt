@@ -1,8 +1,8 @@
 -- What audits of a text that lies in the caller's memory answer.
 use Rattle.std.specs.Prelude.{◌≡◌, ℕ, Result, Ok, Err, List}
-use Rattle.lv_buffers.specs.ReadTexts.{AuditsFront, AuditsText}
-use Rattle.lv_buffers.specs.declared.audits.Unread.{Unread}
-use Rattle.lv_buffers.specs.declared.audits.Unread.TheVariants.{NoMemory, TooLong}
+use Rattle.lv_transcript.specs.ReadTexts.{AuditsFront, AuditsText}
+use Rattle.lv_transcript.specs.declared.text_audits.Unread.{Unread}
+use Rattle.lv_transcript.specs.declared.text_audits.Unread.TheVariants.{NoMemory, TooLong}
 use Rattle.lv_transcript.specs.declared.auditor.Verdict.{Verdict}
 use Rattle.lv_transcript.specs.declared.auditor.Verdict.TheVariants as verdicts
 use Rattle.lv_transcript.specs.declared.fronts.FrontVerdict.{FrontVerdict}

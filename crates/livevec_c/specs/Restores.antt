@@ -8,8 +8,8 @@ use Rattle.lv_geometry.specs.declared.refusals.Refusal.TheVariants.{NoMemory}
 use Rattle.lv_bodies.specs.declared.kinds.Kind.{Kind}
 use Rattle.lv_bodies.specs.Automata.{table_of}
 use Rattle.lv_bodies.specs.Plain.{program_table}
-use Rattle.lv_buffers.specs.ReadTexts.{FindsFront}
-use Rattle.lv_buffers.specs.declared.audits.Unread.{Unread}
+use Rattle.lv_transcript.specs.ReadTexts.{FindsFront}
+use Rattle.lv_transcript.specs.declared.text_audits.Unread.{Unread}
 use Rattle.lv_edits.specs.declared.edit.Edit.{Edit}
 use Rattle.lv_edits.specs.Batches.{verdict_of_edits, with_edits}
 use Rattle.lv_edits.specs.History.{History}

@@ -1,10 +1,10 @@
 -- What a read of a journal and the text of a transcript answer, and what they leave in the caller's memory, by what lies behind a slot.
 use Rattle.std.specs.Prelude.{◌≡◌, ◌⊎◌, ◌++◌, ◌-◌, ℕ, Option, Some, None, Result, Ok, Err, OnOk, List, All, drop, length, map, min, take}
-use Rattle.lv_buffers.specs.FlatEdits.{flat_edit}
-use Rattle.lv_buffers.specs.PutTexts.{PutsText}
-use Rattle.lv_buffers.specs.declared.flat_edits.FlatEdit.{FlatEdit}
-use Rattle.lv_buffers.specs.declared.texts.Unput.{Unput}
-use Rattle.lv_buffers.specs.declared.texts.Unput.TheVariants.{NoMemory, Short}
+use Rattle.lv_transcript.specs.FlatEdits.{flat_edit}
+use Rattle.lv_transcript.specs.PutTexts.{PutsText}
+use Rattle.lv_transcript.specs.declared.flat_edits.FlatEdit.{FlatEdit}
+use Rattle.lv_transcript.specs.declared.text_buffers.Unput.{Unput}
+use Rattle.lv_transcript.specs.declared.text_buffers.Unput.TheVariants.{NoMemory, Short}
 use Rattle.lv_edits.specs.declared.edit.Edit.{Edit}
 use Rattle.lv_transcript.specs.declared.claimed.Claimed.{Claimed}
 use Rattle.lv_transcript.specs.Transcript.{AreAccepted, IsSoundTranscript, IsTrueAnswer, greatest, transcript_text}

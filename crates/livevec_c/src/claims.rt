@@ -5,8 +5,7 @@ ghost use Rattle.livevec_c.specs.Claims.{ClaimsAre, ClaimsInOrder, claimed_of, m
 use crate::boards::kind_of;
 use crate::results::{BAD_KIND, NO_MEMORY};
 use lv_bodies::{Kind, Shown};
-use lv_buffers::are_in_order;
-use lv_transcript::Claimed;
+use lv_transcript::{Claimed, are_in_order};
 use std::alloc::Global;
 
 /// The number for recorded answers that don't rise by their edits.

@@ -2,7 +2,7 @@
 ghost use Rattle.std.specs.Prelude.{◌≡◌, None};
 ghost use Rattle.lv_edits.specs.Kept.{IsLegalInLimits};
 ghost use Rattle.lv_live.specs.State.{SameRefresh};
-ghost use Rattle.lv_buffers.specs.ReadTexts.{FindsFront};
+ghost use Rattle.lv_transcript.specs.ReadTexts.{FindsFront};
 ghost use Rattle.livevec_c.specs.Kinds.{kind_at};
 ghost use Rattle.livevec_c.specs.Restores.{PlacesRemade, Remakes, RemakesObject, RemakesState, Restores, RestoresAt, RestoresEdits, RestoresFront, RestoresIn, RestoresOf, restored_by};
 
@@ -14,10 +14,9 @@ use crate::results::{BAD_KIND, IN_USE, detail};
 use crate::slots::{Slot, is_full, put};
 use crate::transcript_audits::{Audited, front_answer, front_refused, not_audited, unread_number};
 use lv_bodies::{Automaton, Kind};
-use lv_buffers::front_in;
 use lv_edits::Edit;
 use lv_geometry::{Limits, Refusal};
-use lv_transcript::{FoundFront, FrontVerdict};
+use lv_transcript::{FoundFront, FrontVerdict, front_in};
 use std::alloc::Global;
 
 /// Why edits were not made anew to their end: the refusal, and how many were made before it.

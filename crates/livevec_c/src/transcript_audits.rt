@@ -3,8 +3,7 @@ ghost use Rattle.std.specs.Prelude.{◌≡◌};
 ghost use Rattle.livevec_c.specs.Audits.{AuditsFrontFor, AuditsFor, fronted_by, no_front, unaudited, unread_number, verdict_for};
 
 use crate::results::NO_MEMORY;
-use lv_buffers::{Unread, audit_front_text, audit_text};
-use lv_transcript::{FrontVerdict, Verdict};
+use lv_transcript::{FrontVerdict, Unread, Verdict, audit_front_text, audit_text};
 use std::alloc::Global;
 
 /// The number for a text of more than 2^30 bytes.

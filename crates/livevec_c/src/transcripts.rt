@@ -8,9 +8,8 @@ use crate::objects::Object;
 use crate::results::{NO_HANDLE, NO_MEMORY, SHORT_BUFFER};
 use crate::slots::{Slot, put, take};
 use lv_bodies::SixByTable;
-use lv_buffers::{FlatEdit, Unput, copy_edits, put_transcript};
 use lv_live::Live;
-use lv_transcript::Claimed;
+use lv_transcript::{Claimed, FlatEdit, Unput, copy_edits, put_transcript};
 use std::alloc::Global;
 
 /// What a read of a journal answers.

@@ -18,3 +18,4 @@ pub mod FrontEntries
 pub mod FrontFaults
 pub mod FrontAudits
 pub mod ScribedFronts
+pub mod SeenTexts

@@ -28,6 +28,6 @@ pub use Rattle.lv_tree.specs.declared.kind_summaries.KindSummary
 pub use Rattle.lv_transcript.specs.Transcript
 pub use Rattle.lv_transcript.specs.Fronts
 pub use Rattle.lv_transcript.specs.Scribing
-pub use Rattle.lv_buffers.specs.ReadTexts
-pub use Rattle.lv_buffers.specs.PutTexts
-pub use Rattle.lv_buffers.specs.FlatEdits
+pub use Rattle.lv_transcript.specs.ReadTexts
+pub use Rattle.lv_transcript.specs.PutTexts
+pub use Rattle.lv_transcript.specs.FlatEdits

@@ -11,7 +11,7 @@ use Rattle.lv_transcript.specs.declared.fronts.FoundFront.{FoundFront}
 use Rattle.lv_transcript.specs.declared.fronts.FrontVerdict.{FrontVerdict}
 use Rattle.lv_transcript.specs.Fronts.{FrontAudited, ReadsFront}
 use Rattle.lv_transcript.specs.Transcript.{Audited}
-use Rattle.lv_buffers.specs.ReadTexts.{AuditsFront, AuditsText, FindsFront, IsUnread, unread_by}
+use Rattle.lv_transcript.specs.ReadTexts.{AuditsFront, AuditsText, FindsFront, IsUnread, unread_by}
 
 -- where nothing is left, all was seen
 seen_all : (text seen : List ℕ) (rest : Option (List ℕ)) → Consumes (Some text) rest seen → IsAtEnd rest → seen ≡ text

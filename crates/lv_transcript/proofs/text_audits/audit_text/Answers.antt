@@ -1,8 +1,8 @@
 -- Proof of `audit_text`.
 use Rattle.std.proofs.Common.{subst, sym}
-use Rattle.lv_buffers.specs.ReadTexts.{IsUnread}
-use Rattle.lv_buffers.proofs.SeenTexts.{text_audited, text_unaudited}
-use Rattle.lv_buffers.proofs.audits.audit_text.Goals as goal
+use Rattle.lv_transcript.specs.ReadTexts.{IsUnread}
+use Rattle.lv_transcript.proofs.SeenTexts.{text_audited, text_unaudited}
+use Rattle.lv_transcript.proofs.text_audits.audit_text.Goals as goal
 
 pub returns-in-Ok : goal.returns-in-Ok
 returns-in-Ok c = text_audited _ _ _ _ _ c.in-Ok.ensures

@@ -1,9 +1,10 @@
 //! What an audit says of bytes that lie in memory.
 ghost use Rattle.std.specs.Prelude.{◌≡◌};
-ghost use Rattle.lv_buffers.specs.ReadTexts.{AuditsFront, AuditsText, FindsFront, unread_by};
+ghost use Rattle.lv_transcript.specs.ReadTexts.{AuditsFront, AuditsText, FindsFront, unread_by};
 
+use crate::auditor::{Verdict, audit};
+use crate::fronts::{FoundFront, FrontVerdict, audit_front, read_front};
 use lv_lines::Fault;
-use lv_transcript::{FoundFront, FrontVerdict, Verdict, audit, audit_front, read_front};
 use std::alloc::Global;
 use std::io;
 

@@ -6,7 +6,7 @@ use Rattle.std.proofs.lemmas.List.{get_or_default}
 use Rattle.std.proofs.lemmas.List.Sorted.{IsNonDecreasingBy-from_all_adjacent}
 use Rattle.lv_transcript.specs.declared.claimed.Claimed.{Claimed}
 use Rattle.lv_transcript.specs.Transcript.{AreInOrder}
-use Rattle.lv_buffers.proofs.texts.are_in_order.Goals as goal
+use Rattle.lv_transcript.proofs.text_buffers.are_in_order.Goals as goal
 
 module _ (xs : List Claimed) where
   -- one answer more that is not below the last

@@ -2,7 +2,7 @@
 use Rattle.std.specs.Prelude.{pos}
 use Rattle.lv_edits.specs.declared.edit.Edit.{Edit}
 use Rattle.lv_edits.specs.declared.edit.Edit.TheVariants.{Push, Pop, Write, Reserve, Swap, Truncate}
-use Rattle.lv_buffers.specs.declared.flat_edits.FlatEdit.{FlatEdit}
+use Rattle.lv_transcript.specs.declared.flat_edits.FlatEdit.{FlatEdit}
 
 -- what an edit is, by a number, and its own numbers; 0 stands for those that it hasn't
 abbrev pub flat_edit : Edit → FlatEdit

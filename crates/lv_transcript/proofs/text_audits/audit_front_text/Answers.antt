@@ -1,8 +1,8 @@
 -- Proof of `audit_front_text`.
 use Rattle.std.proofs.Common.{subst, sym}
-use Rattle.lv_buffers.specs.ReadTexts.{IsUnread}
-use Rattle.lv_buffers.proofs.SeenTexts.{front_audited, front_unaudited}
-use Rattle.lv_buffers.proofs.audits.audit_front_text.Goals as goal
+use Rattle.lv_transcript.specs.ReadTexts.{IsUnread}
+use Rattle.lv_transcript.proofs.SeenTexts.{front_audited, front_unaudited}
+use Rattle.lv_transcript.proofs.text_audits.audit_front_text.Goals as goal
 
 pub returns-in-Ok : goal.returns-in-Ok
 returns-in-Ok c = front_audited _ _ _ _ c.in-Ok.ensures

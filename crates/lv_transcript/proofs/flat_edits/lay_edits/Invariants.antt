@@ -1,7 +1,7 @@
 -- What the loop keeps in `lay_edits`: puts edits into places, one into each.
 use Rattle.std.proofs.Common.{◌≡◌, length, map, take}
-use Rattle.lv_buffers.specs.FlatEdits.{flat_edit}
-use Rattle.lv_buffers.proofs.flat_edits.lay_edits.Given as goal
+use Rattle.lv_transcript.specs.FlatEdits.{flat_edit}
+use Rattle.lv_transcript.proofs.flat_edits.lay_edits.Given as goal
 
 -- the edits so far
 abbrev pub invariant-loop-k : goal.invariant-loop-k

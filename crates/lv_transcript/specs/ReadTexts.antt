@@ -8,8 +8,8 @@ use Rattle.lv_transcript.specs.declared.fronts.FoundFront.{FoundFront}
 use Rattle.lv_transcript.specs.declared.fronts.FrontVerdict.{FrontVerdict}
 use Rattle.lv_transcript.specs.Fronts.{IsRightOfFront}
 use Rattle.lv_transcript.specs.Transcript.{IsRight}
-use Rattle.lv_buffers.specs.declared.audits.Unread.{Unread}
-use Rattle.lv_buffers.specs.declared.audits.Unread.TheVariants.{NoMemory, TooLong}
+use Rattle.lv_transcript.specs.declared.text_audits.Unread.{Unread}
+use Rattle.lv_transcript.specs.declared.text_audits.Unread.TheVariants.{NoMemory, TooLong}
 
 -- why bytes got no verdict
 abbrev pub unread_by : Fault → Unread

@@ -1,10 +1,11 @@
 //! A transcript's text, put into bytes of the caller's.
 ghost use Rattle.std.specs.Prelude.{◌≡◌, ◌↔◌, All, IsTrue, OnOk};
 ghost use Rattle.lv_transcript.specs.Transcript.{AreAccepted, AreInOrder, IsSoundTranscript, IsTrueAnswer, greatest, transcript_text};
-ghost use Rattle.lv_buffers.specs.PutTexts.{PutsText};
+ghost use Rattle.lv_transcript.specs.PutTexts.{PutsText};
 
+use crate::claimed::Claimed;
+use crate::transcripts::write_transcript;
 use lv_edits::Edit;
-use lv_transcript::{Claimed, write_transcript};
 use std::alloc::Global;
 
 /// Why a text was not put into a caller's bytes: nothing was.

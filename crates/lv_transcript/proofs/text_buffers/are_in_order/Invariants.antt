@@ -2,7 +2,7 @@
 use Rattle.std.proofs.Common.{◌≡◌, ◌-◌, ◌<◌, ◌≤◌, get_or}
 use Rattle.std.specs.List.{AllAdjacentBelow}
 use Rattle.lv_transcript.specs.declared.claimed.Claimed.{Claimed}
-use Rattle.lv_buffers.proofs.texts.are_in_order.Given as goal
+use Rattle.lv_transcript.proofs.text_buffers.are_in_order.Given as goal
 
 -- those so far rise, and the edit of the last of them is known
 abbrev pub invariant-loop-answer : goal.invariant-loop-answer

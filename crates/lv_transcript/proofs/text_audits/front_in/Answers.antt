@@ -1,8 +1,8 @@
 -- Proof of `front_in`.
 use Rattle.std.proofs.Common.{subst, sym}
-use Rattle.lv_buffers.specs.ReadTexts.{IsUnread}
-use Rattle.lv_buffers.proofs.SeenTexts.{front_found, front_unfound}
-use Rattle.lv_buffers.proofs.audits.front_in.Goals as goal
+use Rattle.lv_transcript.specs.ReadTexts.{IsUnread}
+use Rattle.lv_transcript.proofs.SeenTexts.{front_found, front_unfound}
+use Rattle.lv_transcript.proofs.text_audits.front_in.Goals as goal
 
 pub returns-in-Ok : goal.returns-in-Ok
 returns-in-Ok c = front_found _ _ c.in-Ok.ensures

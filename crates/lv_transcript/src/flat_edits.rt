@@ -1,6 +1,6 @@
 //! Edits as plain numbers, for a caller who has no `Edit`.
 ghost use Rattle.std.specs.Prelude.{◌≡◌, ◌++◌, ◌-◌, drop, length, map, min, take};
-ghost use Rattle.lv_buffers.specs.FlatEdits.{flat_edit};
+ghost use Rattle.lv_transcript.specs.FlatEdits.{flat_edit};
 
 use lv_edits::Edit;
 

@@ -1,7 +1,7 @@
 -- How a text is put into bytes of a caller's.
 use Rattle.std.specs.Prelude.{◌≡◌, ◌++◌, ◌<◌, ◌≤◌, ℕ, List, Result, Ok, Err, drop, length}
-use Rattle.lv_buffers.specs.declared.texts.Unput.{Unput}
-use Rattle.lv_buffers.specs.declared.texts.Unput.TheVariants.{NoMemory, Short}
+use Rattle.lv_transcript.specs.declared.text_buffers.Unput.{Unput}
+use Rattle.lv_transcript.specs.declared.text_buffers.Unput.TheVariants.{NoMemory, Short}
 
 -- all of it was put into their front, and so many bytes it takes; or it doesn't fit, or there was no memory, and no byte has changed
 abbrev pub PutsText : List ℕ → List ℕ → List ℕ → Result ℕ Unput → Type 0

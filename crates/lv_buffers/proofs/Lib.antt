@@ -1,2 +1,0 @@
--- Names the files of lemmas of `lv_buffers`.
-pub mod SeenTexts
