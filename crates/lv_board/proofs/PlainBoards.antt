@@ -39,8 +39,8 @@ use Rattle.lv_lines.specs.declared.fault.Fault.{Fault}
 use Rattle.lv_lines.specs.Replies.{Conversed}
 use Rattle.lv_lines.specs.Texts.{answer_text, element_text, fresh_text, receipt_text, refused_text, size_text, value_text}
 use Rattle.lv_lines.proofs.Conversing.{conversed_as}
-use Rattle.lv_script.specs.declared.board_lines.BoardLine.{BoardLine}
-use Rattle.lv_script.specs.declared.board_lines.BoardLine.TheVariants.{Nothing, Bad, Do}
+use Rattle.lv_lines.specs.declared.lines.Line.{Line}
+use Rattle.lv_lines.specs.declared.lines.Line.TheVariants.{Nothing, Bad, Do}
 use Rattle.lv_script.specs.BoardLine.{board_line_of}
 use Rattle.lv_script.specs.Schedule.{said_shown, said_text}
 use Rattle.lv_board.specs.declared.actors.Actor.{Actor}
@@ -199,7 +199,7 @@ module _ {S : Type 0} (t : Terms) (o : Operations S) (kind : Kind) (shown : S �
       ]
   call_plain a b (call.Refresh n) text end ends is = refreshed a b n text ends.result ends.looked ends.answered (is ∙ ap (λ end. said_text kind n (said_shown shown end)) ends.end_is)
 
-  line_plain : (a b : Actor) (n : ℕ) (line : BoardLine) (text : List ℕ) → BoardAnswer t o kind shown a n line text b → PlainBoardLine t.limits kind plain (sat_of a) n line text (sat_of b)
+  line_plain : (a b : Actor) (n : ℕ) (line : Line Call) (text : List ℕ) → BoardAnswer t o kind shown a n line text b → PlainBoardLine t.limits kind plain (sat_of a) n line text (sat_of b)
   line_plain a b n Nothing text answer = (answer.0, ap sat_of answer.1)
   line_plain a b n Bad text answer = (answer.0, ap sat_of answer.1)
   line_plain a b n (Do asked) text answer = call_plain a b asked text answer.end answer.ends answer.text_is

@@ -9,7 +9,8 @@ use Rattle.lv_machine.specs.Terms.{Folding}
 use Rattle.lv_lines.specs.declared.fault.Fault.{Fault}
 use Rattle.lv_lines.specs.Replies.{Conversed}
 use Rattle.lv_lines.proofs.Conversing.{conversed_as}
-use Rattle.lv_script.specs.declared.board_lines.BoardLine.{BoardLine}
+use Rattle.lv_machine.specs.declared.events.Call.{Call}
+use Rattle.lv_lines.specs.declared.lines.Line.{Line}
 use Rattle.lv_script.specs.BoardLine.{board_line_of}
 use Rattle.lv_board.specs.declared.actors.Actor.{Actor}
 use Rattle.lv_board.specs.declared.actors.Basis.{Basis}
@@ -37,7 +38,7 @@ module _ {A B S : Type 0} (seat_of : S → Seat B) (z : A) (name : ℕ) (first :
     pub stays : Stays first (seat_of s.seat)
     pub knows : actor_of (seat_of s.seat) ≡ x
 
-module _ {A B S V : Type 0} (seat_of : S → Seat B) (does : A → S → ℕ → BoardLine → Vec ℕ Global → S → Vec ℕ Global → Type 0) (f : B → Folding) (o : B → Operations V) (kind : Kind) (shown : B → V → Shown) (z : A) (b : Basis B) (right : IsRight seat_of does z f o kind shown b) where
+module _ {A B S V : Type 0} (seat_of : S → Seat B) (does : A → S → ℕ → Line Call → Vec ℕ Global → S → Vec ℕ Global → Type 0) (f : B → Folding) (o : B → Operations V) (kind : Kind) (shown : B → V → Shown) (z : A) (b : Basis B) (right : IsRight seat_of does z f o kind shown b) where
   -- a line by a sitting is one by the actor that it stands for
   line_as : (name : ℕ) (first : Seat B) (s : Sitting A S) (x : Actor) (n : ℕ) (line text : List ℕ) (u : Sitting A S) → StandsForActor seat_of z name first s x → SittingStep does kind s n line text u
       → (y : Actor) × StandsForActor seat_of z name first u y × BoardStep (terms_of f b) (o b.body) kind (shown b.body) x n line text y

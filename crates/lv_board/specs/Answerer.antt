@@ -9,7 +9,8 @@ use Rattle.lv_bodies.specs.Body.{Operations}
 use Rattle.lv_machine.specs.Terms.{Folding}
 use Rattle.lv_lines.specs.Output.{HasRoom, KeepsRoom}
 use Rattle.lv_lines.specs.declared.replies.TheConstants.{LINE}
-use Rattle.lv_script.specs.declared.board_lines.BoardLine.{BoardLine}
+use Rattle.lv_machine.specs.declared.events.Call.{Call}
+use Rattle.lv_lines.specs.declared.lines.Line.{Line}
 use Rattle.lv_board.specs.declared.actors.Basis.{Basis}
 use Rattle.lv_board.specs.declared.seats.Seat.{Seat}
 use Rattle.lv_board.specs.Rule.{terms_of}
@@ -21,7 +22,7 @@ abbrev pub text_after : {Z : Type 0} → Vec ℕ Z → Vec ℕ Z → List ℕ
 text_after held left = drop (length held.items) left.items
 
 -- at the board of a basis a line was answered by a seat, and the reply put after what was held
-pub record IsAnswered {B V : Type 0} (f : B → Folding) (o : B → Operations V) (kind : Kind) (shown : B → V → Shown) (z : Basis B) (seat : Seat B) (n : ℕ) (line : BoardLine) (held : Vec ℕ Global) (after : Seat B) (left : Vec ℕ Global) : Type 0 where
+pub record IsAnswered {B V : Type 0} (f : B → Folding) (o : B → Operations V) (kind : Kind) (shown : B → V → Shown) (z : Basis B) (seat : Seat B) (n : ℕ) (line : Line Call) (held : Vec ℕ Global) (after : Seat B) (left : Vec ℕ Global) : Type 0 where
   pub stays : Stays seat after
   pub text : List ℕ
   pub answer : BoardAnswer (terms_of f z) (o z.body) kind (shown z.body) (actor_of seat) n line text (actor_of after)
@@ -31,23 +32,23 @@ pub record IsAnswered {B V : Type 0} (f : B → Folding) (o : B → Operations V
 -- S is a type of seats: `seat_of` is the seat that each is
 module _ {A B S : Type 0} (seat_of : S → Seat B) where
   -- by what it may be asked, an answerer may be asked by each seat at the board of the first, where a reply has room
-  abbrev pub IsReady : (A → S → ℕ → BoardLine → Vec ℕ Global → Type 0) → A → Seat B → Type 0
-  IsReady may answerer first = (s : S) (n : ℕ) (line : BoardLine) (held : Vec ℕ Global) → Stays first (seat_of s) → HasRoom held LINE → ∥ may answerer s n line held ∥₁
+  abbrev pub IsReady : (A → S → ℕ → Line Call → Vec ℕ Global → Type 0) → A → Seat B → Type 0
+  IsReady may answerer first = (s : S) (n : ℕ) (line : Line Call) (held : Vec ℕ Global) → Stays first (seat_of s) → HasRoom held LINE → ∥ may answerer s n line held ∥₁
 
   -- `does` is what an answerer does
-  module _ (does : A → S → ℕ → BoardLine → Vec ℕ Global → S → Vec ℕ Global → Type 0) (answerer : A) where
+  module _ (does : A → S → ℕ → Line Call → Vec ℕ Global → S → Vec ℕ Global → Type 0) (answerer : A) where
     -- whatever it does is an answer at the board of a basis
     abbrev pub IsRight : {V : Type 0} → (B → Folding) → (B → Operations V) → Kind → (B → V → Shown) → Basis B → Type 0
-    IsRight f o kind shown z = (s : S) (n : ℕ) (line : BoardLine) (held : Vec ℕ Global) (u : S) (left : Vec ℕ Global)
+    IsRight f o kind shown z = (s : S) (n : ℕ) (line : Line Call) (held : Vec ℕ Global) (u : S) (left : Vec ℕ Global)
         → does answerer s n line held u left → IsAnswered f o kind shown z (seat_of s) n line held (seat_of u) left
 
     -- it leaves each seat at its board
     abbrev pub LeavesSeats : Type 0
-    LeavesSeats = (s : S) (n : ℕ) (line : BoardLine) (held : Vec ℕ Global) (u : S) (left : Vec ℕ Global) → does answerer s n line held u left → Stays (seat_of s) (seat_of u)
+    LeavesSeats = (s : S) (n : ℕ) (line : Line Call) (held : Vec ℕ Global) (u : S) (left : Vec ℕ Global) → does answerer s n line held u left → Stays (seat_of s) (seat_of u)
 
     -- it takes nothing from what is held, and no room
     abbrev pub LeavesHeld : Type 0
-    LeavesHeld = (s : S) (n : ℕ) (line : BoardLine) (held : Vec ℕ Global) (u : S) (left : Vec ℕ Global)
+    LeavesHeld = (s : S) (n : ℕ) (line : Line Call) (held : Vec ℕ Global) (u : S) (left : Vec ℕ Global)
         → does answerer s n line held u left → (left.items ≡ held.items ++ text_after held left) × KeepsRoom held left
 
 -- ---- a closure as an answerer

@@ -18,8 +18,8 @@ use Rattle.lv_machine.specs.History.{edits_of, elements_of, Ends, own}
 use Rattle.lv_machine.specs.Calls.{is_short}
 use Rattle.lv_machine.specs.Shows.{block, mark_of}
 use Rattle.lv_lines.specs.Texts.{answer_text, bad_text, element_text, fresh_text, receipt_text, refused_text, size_text}
-use Rattle.lv_script.specs.declared.board_lines.BoardLine.{BoardLine}
-use Rattle.lv_script.specs.declared.board_lines.BoardLine.TheVariants.{Nothing, Bad, Do}
+use Rattle.lv_lines.specs.declared.lines.Line.{Line}
+use Rattle.lv_lines.specs.declared.lines.Line.TheVariants.{Nothing, Bad, Do}
 use Rattle.lv_script.specs.BoardLine.{board_line_of}
 use Rattle.lv_board.specs.declared.actors.Actor.{Actor}
 
@@ -106,7 +106,7 @@ module _ (limits : Bounds) (kind : Kind) (plain : List ℤ → Shown) where
         ⊎ ((refusal_at limits at asked ≡ None) × IsOutrunAt at text new × OnlyReads at old new)
 
   -- a line that says nothing, one that says nothing known, a call
-  abbrev pub PlainBoardLine : Sat → ℕ → BoardLine → List ℕ → Sat → Type 0
+  abbrev pub PlainBoardLine : Sat → ℕ → Line Call → List ℕ → Sat → Type 0
   PlainBoardLine old n Nothing text new = (text ≡ []) × (new ≡ old)
   PlainBoardLine old n Bad text new = (text ≡ bad_text n) × (new ≡ old)
   PlainBoardLine old n (Do asked) text new = PlainCall old asked text new

@@ -19,8 +19,8 @@ use Rattle.lv_machine.specs.declared.outcomes.Said.TheVariants as said
 use Rattle.lv_machine.specs.History.{elements_of}
 use Rattle.lv_machine.specs.Terms.{Terms}
 use Rattle.lv_lines.specs.Texts.{bad_text}
-use Rattle.lv_script.specs.declared.board_lines.BoardLine.{BoardLine}
-use Rattle.lv_script.specs.declared.board_lines.BoardLine.TheVariants.{Nothing, Bad, Do}
+use Rattle.lv_lines.specs.declared.lines.Line.{Line}
+use Rattle.lv_lines.specs.declared.lines.Line.TheVariants.{Nothing, Bad, Do}
 use Rattle.lv_script.specs.BoardLine.{board_line_of}
 use Rattle.lv_script.specs.Schedule.{said_shown, said_text}
 use Rattle.lv_board.specs.declared.actors.Actor.{Actor}
@@ -102,7 +102,7 @@ module _ {S : Type 0} (t : Terms) (o : Operations S) (kind : Kind) (shown : S �
     pub text_is : text ≡ said_text kind (asked_block asked) (said_shown shown end)
 
   -- a line that says nothing is answered by nothing, and a line that says nothing known by its number; then nothing changes
-  abbrev pub BoardAnswer : Actor → ℕ → BoardLine → List ℕ → Actor → Type 0
+  abbrev pub BoardAnswer : Actor → ℕ → Line Call → List ℕ → Actor → Type 0
   BoardAnswer a n Nothing text b = (text ≡ []) × (b ≡ a)
   BoardAnswer a n Bad text b = (text ≡ bad_text n) × (b ≡ a)
   BoardAnswer a n (Do asked) text b = CallAnswer asked a text b

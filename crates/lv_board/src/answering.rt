@@ -10,7 +10,8 @@ use crate::board::Board;
 use crate::bodies::BoardBody;
 use crate::calls::asked_block;
 use crate::seats::Seat;
-use lv_script::{BoardLine, LINE, put_bad, put_said, said_shown};
+use lv_machine::Call;
+use lv_script::{LINE, Line, put_bad, put_said, said_shown};
 
 // The seat of a body that a type is.
 pub(crate) trait SeatedAs<S>: BoardBody {
@@ -30,15 +31,16 @@ impl<B: BoardBody> SeatedAs<Seat<B>> for B {
 pub(crate) trait Answerer<S> {
     ghost use Rattle.std.specs.Prelude.{Vec};
     ghost use Rattle.std.specs.declared.alloc.Global.{Global};
-    ghost use Rattle.lv_script.specs.declared.board_lines.BoardLine.{BoardLine};
+    ghost use Rattle.lv_lines.specs.declared.lines.Line.{Line};
+    ghost use Rattle.lv_machine.specs.declared.events.Call.{Call};
 
     // It may be asked by a seat, with what is held.
-    ghost may: { Self → S → ℕ → BoardLine → Vec ℕ Global → Type 0 };
+    ghost may: { Self → S → ℕ → Line Call → Vec ℕ Global → Type 0 };
 
     // Asked so, it may leave such a seat, and that to be held.
-    ghost does: { Self → S → ℕ → BoardLine → Vec ℕ Global → S → Vec ℕ Global → Type 0 };
+    ghost does: { Self → S → ℕ → Line Call → Vec ℕ Global → S → Vec ℕ Global → Type 0 };
 
-    fn answer(&self, seat: &mut S, number: u32, line: BoardLine, held: &mut Vec<u8>)
+    fn answer(&self, seat: &mut S, number: u32, line: Line<Call>, held: &mut Vec<u8>)
         requires { ∥ may self.now seat.old number line held.old ∥₁ }
         ensures { does self.now seat.old number line held.old seat.new held.new };
 }
@@ -49,12 +51,12 @@ pub(crate) struct ByCall<F> {
     pub(crate) call: F,
 }
 
-impl<S, F: Fn(&mut S, u32, BoardLine, &mut Vec<u8>)> Answerer<S> for ByCall<F> {
+impl<S, F: Fn(&mut S, u32, Line<Call>, &mut Vec<u8>)> Answerer<S> for ByCall<F> {
     ghost may = { λ by. MayCall (F.pre by.call) };
 
     ghost does = { λ by. HasCalled (F.post by.call) };
 
-    fn answer(&self, seat: &mut S, number: u32, line: BoardLine, held: &mut Vec<u8>) {
+    fn answer(&self, seat: &mut S, number: u32, line: Line<Call>, held: &mut Vec<u8>) {
         (self.call)(seat, number, line, held);
     }
 }
@@ -64,7 +66,7 @@ pub(crate) fn answer_line<B: BoardBody>(
     board: &Board<B>,
     seat: &mut Seat<B>,
     number: u32,
-    line: BoardLine,
+    line: Line<Call>,
     held: &mut Vec<u8>,
 )
     requires here { IsAt board.now.table.shared.table_id board.now.terms seat.old }
@@ -76,9 +78,9 @@ pub(crate) fn answer_line<B: BoardBody>(
     ensures room { KeepsRoom held.old held.new }
 {
     match line {
-        BoardLine::Nothing => {}
-        BoardLine::Bad => put_bad(held, number),
-        BoardLine::Do(call) => {
+        Line::Nothing => {}
+        Line::Bad => put_bad(held, number),
+        Line::Do(call) => {
             let said = board.make(seat, call);
             put_said(
                 held,

@@ -14,7 +14,8 @@ use crate::board::Board;
 use crate::bodies::BoardBody;
 use crate::seats::Seat;
 use lv_bodies::Kind;
-use lv_script::{BoardLine, Fault, LINE, Outbox, Responder, converse, read_board_line};
+use lv_machine::Call;
+use lv_script::{Fault, LINE, Line, Outbox, Responder, converse, read_board_line};
 use std::alloc::Global;
 use std::io::{Read, Write};
 use std::marker::PhantomData;
@@ -38,7 +39,7 @@ pub fn run_board_session<B: BoardBody, R: Read, W: Write>(
     ensures plain { Conversed (PlainBoardStep (limits_of board.now.terms) B.the_kind (B.plain board.now.terms.body))
         (sat_of (actor_of seat.old)) (sat_of (actor_of seat.new)) (R.remaining reader.old) (R.remaining reader.new) (W.contents writer.old) (W.contents writer.new) result }
 {
-    let call = |seat: &mut Seat<B>, number: u32, line: BoardLine, held: &mut Vec<u8>|
+    let call = |seat: &mut Seat<B>, number: u32, line: Line<Call>, held: &mut Vec<u8>|
         requires here { IsAt board.now.table.shared.table_id board.now.terms seat.old }
         requires room { HasRoom held.old LINE }
         ensures { IsAnswered B.folding B.operations B.the_kind B.shown_as board.entry.now.terms seat.old number line held.old seat.new held.new }

@@ -9,8 +9,8 @@ use Rattle.lv_edits.specs.Verdict.{receipt_of, verdict_of}
 use Rattle.lv_edits.specs.Ranges.{range_refusal}
 use Rattle.lv_lines.specs.declared.command.Command.{Command}
 use Rattle.lv_lines.specs.declared.command.Command.TheVariants as command
-use Rattle.lv_lines.specs.declared.command.Line.{Line}
-use Rattle.lv_lines.specs.declared.command.Line.TheVariants.{Nothing, Bad, Do}
+use Rattle.lv_lines.specs.declared.lines.Line.{Line}
+use Rattle.lv_lines.specs.declared.lines.Line.TheVariants.{Nothing, Bad, Do}
 use Rattle.lv_lines.specs.Grammar.{line_of}
 use Rattle.lv_lines.specs.Texts.{receipt_text, refused_text}
 use Rattle.lv_script.specs.PlainScript.{Plain, after, plain_after, plain_reply}
@@ -39,7 +39,7 @@ module _ (limits : Bounds) (edits : List Edit) where
   command_reply n (command.Edit e) = ap (option_map_or refused_text (verdict_of limits edits e)) (sym (append-nil (receipt_text (receipt_of edits e))))
   command_reply n _ = refl
 
-  reply_is : (n : ℕ) (line : Line) → session_reply limits edits n (known_of line) ≡ plain_reply [] there n (known_of line)
+  reply_is : (n : ℕ) (line : Line Command) → session_reply limits edits n (known_of line) ≡ plain_reply [] there n (known_of line)
   reply_is n Nothing = refl
   reply_is n Bad = refl
   reply_is n (Do c) = command_reply n c
@@ -59,7 +59,7 @@ module _ (limits : Bounds) (edits : List Edit) where
   command_kept old (command.Scan inclusive kind lo hi) = range_kept old (range_refusal edits lo hi)
   command_kept old _ = none_made old edits
 
-  kept_is : (old : Seen) (line : Line) → made_since old edits (plain_after there (known_of line)).edits ≡ seen_after limits edits old (known_of line)
+  kept_is : (old : Seen) (line : Line Command) → made_since old edits (plain_after there (known_of line)).edits ≡ seen_after limits edits old (known_of line)
   kept_is old Nothing = none_made old edits
   kept_is old Bad = none_made old edits
   kept_is old (Do c) = command_kept old c
@@ -71,7 +71,7 @@ module _ (limits : Bounds) (edits : List Edit) where
   command_wants (command.Scan inclusive kind lo hi) text = (λ f. f, λ f. f)
   command_wants _ text = (λ f. f, λ f. f)
 
-  wants_is : (line : Line) (text : List ℕ) → FindsNoMemory limits edits (known_of line) text ↔ WantsMemory there (known_of line) text
+  wants_is : (line : Line Command) (text : List ℕ) → FindsNoMemory limits edits (known_of line) text ↔ WantsMemory there (known_of line) text
   wants_is Nothing text = (λ f. f, λ f. f)
   wants_is Bad text = (λ f. f, λ f. f)
   wants_is (Do c) text = command_wants c text

@@ -24,8 +24,8 @@ use Rattle.lv_reduce.specs.declared.scans.Scan.{Scan}
 use Rattle.lv_reduce.specs.Answer.{IsAnswer, scan_of}
 use Rattle.lv_lines.specs.declared.command.Command.{Command}
 use Rattle.lv_lines.specs.declared.command.Command.TheVariants as command
-use Rattle.lv_lines.specs.declared.command.Line.{Line}
-use Rattle.lv_lines.specs.declared.command.Line.TheVariants.{Nothing, Bad, Do}
+use Rattle.lv_lines.specs.declared.lines.Line.{Line}
+use Rattle.lv_lines.specs.declared.lines.Line.TheVariants.{Nothing, Bad, Do}
 use Rattle.lv_lines.specs.declared.fault.Fault.{Fault}
 use Rattle.lv_lines.specs.Grammar.{line_of}
 use Rattle.lv_lines.specs.Replies.{Answered, Conversed}
@@ -61,13 +61,13 @@ prefix_take xs ys more = ap (take (length xs)) (sym more.1) ∙ take-append-le (
 
 module _ (limits : Bounds) where
   -- one line, by what it says, where the hub had come to some edits
-  abbrev PlainAt : List Edit → Seen → ℕ → Line → List ℕ → Seen → Type 0
+  abbrev PlainAt : List Edit → Seen → ℕ → Line Command → List ℕ → Seen → Type 0
   PlainAt before old n line text new =
       ((text ≡ session_reply limits before n line) × (new ≡ seen_after limits before old line))
       ⊎ (FindsNoMemory limits before line text × (new ≡ record old { edits = before }))
 
   -- so it was answered, and listed
-  record SaidLine (old : SessionState) (n : ℕ) (line : Line) (text : List ℕ) (new : SessionState) : Type 0 where
+  record SaidLine (old : SessionState) (n : ℕ) (line : Line Command) (text : List ℕ) (new : SessionState) : Type 0 where
     before : List Edit
     grown : IsPrefix old.seen before
     answer : PlainAt before (kept_by old) n line text (kept_by new)
@@ -185,7 +185,7 @@ module _ (limits : Bounds) where
   }
   command_said old new n _ text a = bad_said old new n text a.0 a.1
 
-  line_said : (old new : SessionState) (n : ℕ) (line : Line) (text : List ℕ) → SessionLineAnswer limits old n line text new → SaidLine old n (known_of line) text new
+  line_said : (old new : SessionState) (n : ℕ) (line : Line Command) (text : List ℕ) → SessionLineAnswer limits old n line text new → SaidLine old n (known_of line) text new
   line_said old new n Nothing text a = nothing_said old new n text a.0 a.1
   line_said old new n Bad text a = bad_said old new n text a.0 a.1
   line_said old new n (Do c) text a = command_said old new n c text a
@@ -225,7 +225,7 @@ module _ (limits : Bounds) where
   command_grows old before (command.Edit e) = edit_grows old before e (verdict_of limits before e)
   command_grows old before _ = prefix_self before
 
-  line_grows : (old : Seen) (before : List Edit) (line : Line) → IsPrefix before (seen_after limits before old line).edits
+  line_grows : (old : Seen) (before : List Edit) (line : Line Command) → IsPrefix before (seen_after limits before old line).edits
   line_grows old before Nothing = prefix_self before
   line_grows old before Bad = prefix_self before
   line_grows old before (Do c) = command_grows old before c
@@ -238,7 +238,7 @@ module _ (limits : Bounds) where
         | inr want ↦ subst (λ s. IsPrefix step.before s.edits) (sym want.1) (prefix_self step.before)
       ]
 
-  said_no_memory : (edits : List Edit) (line : Line) (text : List ℕ) → FindsNoMemory limits edits line text → text ≡ refused_text NoMemory
+  said_no_memory : (edits : List Edit) (line : Line Command) (text : List ℕ) → FindsNoMemory limits edits line text → text ≡ refused_text NoMemory
   said_no_memory edits Nothing text f = absurd f
   said_no_memory edits Bad text f = absurd f
   said_no_memory edits (Do c) text f = f.1

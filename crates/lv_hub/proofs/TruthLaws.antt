@@ -24,8 +24,8 @@ use Rattle.lv_reduce.specs.declared.reductions.Answer.{Answer}
 use Rattle.lv_reduce.specs.Answer.{IsAnswer}
 use Rattle.lv_lines.specs.declared.command.Command.{Command}
 use Rattle.lv_lines.specs.declared.command.Command.TheVariants as commands
-use Rattle.lv_lines.specs.declared.command.Line.{Line}
-use Rattle.lv_lines.specs.declared.command.Line.TheVariants.{Nothing, Bad, Do}
+use Rattle.lv_lines.specs.declared.lines.Line.{Line}
+use Rattle.lv_lines.specs.declared.lines.Line.TheVariants.{Nothing, Bad, Do}
 use Rattle.lv_lines.specs.declared.fault.Fault.{Fault}
 use Rattle.lv_lines.specs.declared.fault.Fault.TheVariants.{NoMemory, ReadFault, TooLong, WriteFault}
 use Rattle.lv_lines.specs.Grammar.{line_of}
@@ -163,7 +163,7 @@ module _ (limits : Bounds) where
   command_keeps old new n _ text a = keeps_same old new a.1
 
   -- a line
-  line_keeps : (old new : SessionState) (n : ℕ) (line : Line) (text : List ℕ) → SessionLineAnswer limits old n line text new → Keeps old new
+  line_keeps : (old new : SessionState) (n : ℕ) (line : Line Command) (text : List ℕ) → SessionLineAnswer limits old n line text new → Keeps old new
   line_keeps old new n Nothing text a = keeps_same old new a.1
   line_keeps old new n Bad text a = keeps_same old new a.1
   line_keeps old new n (Do command) text a = command_keeps old new n command text a
@@ -173,7 +173,7 @@ module _ (limits : Bounds) where
   step_keeps old new n line text a = line_keeps old new n (line_of line) text a
 
   -- a line that was answered, whether its reply could be written or not
-  pub answered_keeps : (P Q : List ℕ → Type 0) (old new : SessionState) (n : ℕ) (line : Line) (result : Result (Unit {0}) Fault)
+  pub answered_keeps : (P Q : List ℕ → Type 0) (old new : SessionState) (n : ℕ) (line : Line Command) (result : Result (Unit {0}) Fault)
       → OnOk result ((text : List ℕ) × SessionLineAnswer limits old n line text new × P text) → IfErr result (λ fault. (fault ≡ WriteFault) × (text : List ℕ) × SessionLineAnswer limits old n line text new × Q text)
       → All (IsTrueAnswer old.seen) old.answers → All (IsTrueAnswer new.seen) new.answers
   answered_keeps P Q old new n line (Ok u) ok err = (line_keeps old new n line ok.0 ok.1).all_true

@@ -4,8 +4,9 @@ use mathlib.Core.List.{IsPrefix}
 use Rattle.lv_geometry.specs.Bounds.{Bounds}
 use Rattle.lv_geometry.specs.declared.refusals.Refusal.TheVariants.{NoMemory}
 use Rattle.lv_edits.specs.declared.edit.Edit.{Edit}
-use Rattle.lv_lines.specs.declared.command.Line.{Line}
-use Rattle.lv_lines.specs.declared.command.Line.TheVariants.{Do}
+use Rattle.lv_lines.specs.declared.command.Command.{Command}
+use Rattle.lv_lines.specs.declared.lines.Line.{Line}
+use Rattle.lv_lines.specs.declared.lines.Line.TheVariants.{Do}
 use Rattle.lv_lines.specs.Texts.{refused_text}
 use Rattle.lv_script.specs.PlainScript.{Plain, plain_after, plain_reply, refusal_of}
 use Rattle.lv_hub.specs.PlainSession.{Seen, session_line_of}
@@ -19,7 +20,7 @@ abbrev pub made_since : Seen → List Edit → List Edit → Seen
 made_since old before kept = record { edits = kept; made = old.made + (length kept - length before) }
 
 -- a command that nothing else refuses was refused for want of memory
-abbrev pub WantsMemory : Plain → Line → List ℕ → Type 0
+abbrev pub WantsMemory : Plain → Line Command → List ℕ → Type 0
 WantsMemory s (Do c) text = (refusal_of s c ≡ None) × (text ≡ refused_text NoMemory)
 WantsMemory s _ text = ⊥
 

@@ -13,22 +13,22 @@ use Rattle.lv_edits.specs.Ranges.{range_refusal, slice_of}
 use Rattle.lv_lines.specs.declared.command.Command.{Command}
 use Rattle.lv_lines.specs.declared.command.Command.TheVariants as command
 use Rattle.lv_lines.specs.declared.command.Command.TheVariants.{Reduce, Scan}
-use Rattle.lv_lines.specs.declared.command.Line.{Line}
-use Rattle.lv_lines.specs.declared.command.Line.TheVariants.{Nothing, Bad, Do}
+use Rattle.lv_lines.specs.declared.lines.Line.{Line}
+use Rattle.lv_lines.specs.declared.lines.Line.TheVariants.{Nothing, Bad, Do}
 use Rattle.lv_lines.specs.Grammar.{line_of}
 use Rattle.lv_lines.specs.Texts.{answer_text, bad_text, receipt_text, refused_text, scan_text}
 use Rattle.lv_hub.specs.Counting.{ShareState}
 use Rattle.lv_script.specs.PlainScript.{scan_by}
 
 -- a line as a session reads it, by its bytes: it knows edits, reductions and scans, and any other command is bad
-abbrev pub known_of : Line → Line
+abbrev pub known_of : Line Command → Line Command
 known_of (Do (command.Edit e)) = Do (command.Edit e)
 known_of (Do (Reduce kind lo hi)) = Do (Reduce kind lo hi)
 known_of (Do (Scan inclusive kind lo hi)) = Do (Scan inclusive kind lo hi)
 known_of Nothing = Nothing
 known_of _ = Bad
 
-abbrev pub session_line_of : List ℕ → Line
+abbrev pub session_line_of : List ℕ → Line Command
 session_line_of bytes = known_of (line_of bytes)
 
 -- what is kept of a session: the edits that it has seen, a beginning of the hub's, and how many of them it made
@@ -56,19 +56,19 @@ module _ (limits : Bounds) where
   refusal_after edits _ = None
 
   -- what line n is answered there: nothing where it says nothing, its number where it says nothing known; a command by its refusal, or its reply
-  abbrev pub session_reply : List Edit → ℕ → Line → List ℕ
+  abbrev pub session_reply : List Edit → ℕ → Line Command → List ℕ
   session_reply edits n Nothing = []
   session_reply edits n Bad = bad_text n
   session_reply edits n (Do c) = option_map_or refused_text (refusal_after edits c) (reply_after edits c)
 
   -- what a session has seen and made then: an edit that nothing refuses is one more, and its own
-  abbrev pub seen_after : List Edit → Seen → Line → Seen
+  abbrev pub seen_after : List Edit → Seen → Line Command → Seen
   seen_after edits old (Do (command.Edit e)) =
       option_map_or (λ refusal. record old { edits = edits }) (verdict_of limits edits e) record { edits = edits ++ e ∷ []; made = old.made + 1 }
   seen_after edits old _ = record old { edits = edits }
 
   -- a command that nothing else refuses was refused for want of memory
-  abbrev pub FindsNoMemory : List Edit → Line → List ℕ → Type 0
+  abbrev pub FindsNoMemory : List Edit → Line Command → List ℕ → Type 0
   FindsNoMemory edits (Do c) text = (refusal_after edits c ≡ None) × (text ≡ refused_text NoMemory)
   FindsNoMemory edits _ text = ⊥
 

@@ -11,8 +11,8 @@ use Rattle.lv_reduce.specs.declared.reductions.Answer.{Answer}
 use Rattle.lv_reduce.specs.declared.scans.Scan.{Scan}
 use Rattle.lv_lines.specs.declared.command.Command.{Command}
 use Rattle.lv_lines.specs.declared.command.Command.TheVariants as commands
-use Rattle.lv_lines.specs.declared.command.Line.{Line}
-use Rattle.lv_lines.specs.declared.command.Line.TheVariants.{Nothing, Bad, Do}
+use Rattle.lv_lines.specs.declared.lines.Line.{Line}
+use Rattle.lv_lines.specs.declared.lines.Line.TheVariants.{Nothing, Bad, Do}
 use Rattle.lv_lines.specs.Grammar.{line_of}
 use Rattle.lv_lines.specs.Texts.{answer_text, bad_text, refused_text, scan_text}
 use Rattle.lv_transcript.specs.declared.claimed.Claimed.{Claimed}
@@ -78,7 +78,7 @@ module _ (limits : Bounds) where
   SessionCommandAnswer old n _ text new = (text ≡ bad_text n) × (new ≡ old)
 
   -- what a line is answered
-  abbrev pub SessionLineAnswer : SessionState → ℕ → Line → List ℕ → SessionState → Type 0
+  abbrev pub SessionLineAnswer : SessionState → ℕ → Line Command → List ℕ → SessionState → Type 0
   SessionLineAnswer old n Nothing text new = (text ≡ []) × (new ≡ old)
   SessionLineAnswer old n Bad text new = (text ≡ bad_text n) × (new ≡ old)
   SessionLineAnswer old n (Do command) text new = SessionCommandAnswer old n command text new

@@ -8,8 +8,9 @@ use Rattle.lv_edits.specs.declared.edit.Edit.{Edit}
 use Rattle.lv_edits.specs.Kept.{IsLegalInLimits}
 use Rattle.lv_edits.specs.Ranges.{slice_of}
 use Rattle.lv_lines.specs.declared.command.Command.TheVariants.{Reduce}
-use Rattle.lv_lines.specs.declared.command.Line.{Line}
-use Rattle.lv_lines.specs.declared.command.Line.TheVariants.{Do}
+use Rattle.lv_lines.specs.declared.command.Command.{Command}
+use Rattle.lv_lines.specs.declared.lines.Line.{Line}
+use Rattle.lv_lines.specs.declared.lines.Line.TheVariants.{Do}
 use Rattle.lv_lines.specs.Texts.{answer_text, refused_text}
 use Rattle.lv_transcript.specs.declared.claimed.Claimed.{Claimed}
 use Rattle.lv_hub.specs.Counting.{ShareState}
@@ -40,7 +41,7 @@ abbrev pub claim_at : List Edit → Kind → ℕ → ℕ → Claimed
 claim_at edits kind lo hi = record { edit = length edits; kind = kind; lo = lo; hi = hi; value = plain_value kind (slice_of edits lo hi) }
 
 -- after some edits a reduction was answered by its value, and listed behind the others; or it was refused. Nothing else is listed
-abbrev pub Lists : List Edit → Line → List ℕ → List Claimed → List Claimed → Type 0
+abbrev pub Lists : List Edit → Line Command → List ℕ → List Claimed → List Claimed → Type 0
 Lists edits (Do (Reduce kind lo hi)) text old new =
     ((text ≡ answer_text (length edits) kind (plain_value kind (slice_of edits lo hi))) × (new ≡ old ++ claim_at edits kind lo hi ∷ []))
     ⊎ ((refusal : Refusal) × (text ≡ refused_text refusal) × (new ≡ old))
@@ -48,7 +49,7 @@ Lists edits _ text old new = new ≡ old
 
 module _ (limits : Bounds) where
   -- an edit, a reduction or a scan was answered after edits that are legal within the limits; any other line changed nothing
-  abbrev pub IsWithin : SessionState → List Edit → Line → SessionState → Type 0
+  abbrev pub IsWithin : SessionState → List Edit → Line Command → SessionState → Type 0
   IsWithin old before (Do c) new = IsLegalInLimits (history_of limits before)
   IsWithin old before _ new = new ≡ old
 

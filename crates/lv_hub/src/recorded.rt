@@ -214,7 +214,7 @@ impl<'a, N: WithBody<Six>, T: Wait, V: Write + Drop, K: Begun, L: SessionStart> 
 }
 
 // Whether a line may be an edit or a reduction. The reply to one finds room where there is room for a line.
-fn is_minuted(line: &Line) -> bool {
+fn is_minuted(line: &Line<Command>) -> bool {
     matches!(line, Line::Do(Command::Edit(_) | Command::Reduce { .. }))
 }
 
@@ -224,7 +224,7 @@ fn answer_true<N: WithBody<Six>, T: Wait, W: Write>(
     share: &mut Share<N>,
     answers: &mut Vec<Claimed>,
     number: u32,
-    line: Line,
+    line: Line<Command>,
     outbox: &mut Outbox<'_, W>,
 ) -> Result<(), Fault>
     requires room { HasRoom outbox.old.held.now LINE }
@@ -251,7 +251,7 @@ fn answer_minuted<N: WithBody<Six>, T: Wait, W: Write, V: Write + Drop, K: Begun
     share: &mut Share<N>,
     answers: &mut Vec<Claimed>,
     number: u32,
-    line: Line,
+    line: Line<Command>,
     outbox: &mut Outbox<'_, W>,
 ) -> Result<(), Fault>
     requires room { HasRoom outbox.old.held.now LINE }

@@ -37,7 +37,7 @@ pub fn answer_line<N: WithBody<Six>, T: Wait, W: Write>(
     share: &mut Share<N>,
     answers: &mut Vec<Claimed>,
     number: u32,
-    line: Line,
+    line: Line<Command>,
     outbox: &mut Outbox<'_, W>,
 ) -> Result<(), Fault>
     requires { HasRoom outbox.old.held.now LINE }
@@ -168,7 +168,7 @@ fn put_reduction<N: WithBody<Six>, T: Wait>(
                 value,
             };
             match list(answers, place.most, reduction) {
-                Ok(()) => put_answer(held, answer.edit, kind, value),
+                Ok(()) => put_answer(held, answer.edit.into(), kind, value),
                 Err(refusal) => put_refusal(held, refusal),
             }
         }

@@ -1,16 +1,16 @@
 -- The text of a number is read as that number.
-use Rattle.std.proofs.Common.{◌≡◌, ℕ, suc, ◌^◌, ◌<◌, ◌≤◌, true, false, List, [], ◌∷◌, length, Some, None, option_map, codes, nat_eq, ℤ, pos, negsuc, neg_ℤ, refl, ap, ◌∙◌, arith, rules}
+use Rattle.std.proofs.Common.{◌≡◌, ℕ, suc, ◌^◌, ◌<◌, ◌≤◌, true, false, List, [], ◌∷◌, length, Some, None, option_map, codes, nat_eq, nat_le, ℤ, pos, negsuc, neg_ℤ, refl, ap, ◌∙◌, arith, rules}
 use Rattle.std.specs.Prelude.{decimal}
 use Rattle.std.specs.Fmt.{signed_decimal}
 use Rattle.std.specs.List.{starts_with}
 use Rattle.std.specs.Str.{all_ascii_digits}
 use Rattle.std.specs.Char.{is_ascii_digit}
-use Rattle.std.proofs.lemmas.Bool.{and_parts, and_from, and_left, leb-true, ne_eqb, lt-ltb, cond-true}
+use Rattle.std.proofs.lemmas.Bool.{and_parts, and_from, and_left, leb-true, le-leb, ne_eqb, cond-true}
 use Rattle.std.proofs.lemmas.Fmt.{digits_decimal, digits_value-decimal, decimal_nonempty}
 use Rattle.std.proofs.lemmas.Str.Parse.{IsNumeralModel, numerals_by_fold, tells_all_ascii_digits}
 use Rattle.lv_geometry.specs.Elements.{IsElement}
 use Rattle.lv_lines.specs.Words.{is_word}
-use Rattle.lv_lines.specs.Numbers.{value_of, numeral_in, number_in, element_in, allowed, is_number, is_element}
+use Rattle.lv_lines.specs.Numbers.{value_of, numeral_in, number_in, number_up_to, most_32, element_in, allowed, is_element}
 use Rattle.lv_lines.proofs.ReadDigits.{value_from, is_element_decides, signed-plain, signed-minus}
 
 -- digits and their value are std's
@@ -30,9 +30,9 @@ numeral_in-decimal n small =
 
 -- a number is read from its digits
 pub number_in-decimal : (n : ℕ) → n < 2 ^ 32 → number_in (decimal n) ≡ Some n
-unfolding number_in
+unfolding number_up_to
 number_in-decimal n small =
-    ap (allowed is_number) (numeral_in-decimal n (omega arith)) ∙ cond-true _ (Some n) None (lt-ltb n (2 ^ 32) small)
+    ap (allowed (λ n. nat_le n most_32)) (numeral_in-decimal n (omega arith)) ∙ cond-true _ (Some n) None (le-leb n most_32 (omega arith))
 
 -- a digit is from 48 to 57
 pub digit_range : (b : ℕ) → is_ascii_digit b ≡ true → (48 ≤ b) × (b ≤ 57)

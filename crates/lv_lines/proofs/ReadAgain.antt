@@ -10,9 +10,9 @@ use Rattle.lv_edits.specs.declared.edit.Edit.TheVariants as edit
 use Rattle.lv_bodies.specs.Names.{IsName}
 use Rattle.lv_lines.specs.declared.command.Command.{Command}
 use Rattle.lv_lines.specs.declared.command.Command.TheVariants.{Edit, Settle, Get, Size, Capacity, Reduce, Cost, Scan, Claim, Deliver, Forget, Watch, Unwatch, Answer}
-use Rattle.lv_lines.specs.declared.command.Line.TheVariants.{Do, Bad}
+use Rattle.lv_lines.specs.declared.lines.Line.TheVariants.{Do, Bad}
 use Rattle.lv_lines.specs.Words.{words_of, spaced}
-use Rattle.lv_lines.specs.Grammar.{kind_name, kind_in, name_in, bounds_in, range_in, command_in, line_in, line_of, is_comment}
+use Rattle.lv_lines.specs.Grammar.{kind_name, kind_in, name_in, bounds_in, bounds_up_to, range_in, range_up_to, command_in, line_by, line_in, line_of, is_comment}
 use Rattle.lv_lines.specs.Printed.{verb_of, arguments_of, range_words, printed, AreBounds, IsCommand}
 use Rattle.lv_lines.proofs.PrintedNumbers.{number_in-decimal, element_in-signed_decimal}
 use Rattle.lv_lines.proofs.PrintedWords.{IsPlainWord, IsPrintable, ArePlainWords, words_of-spaced, length-spaced, spaced_printable, without_cr-none, plain_number, plain_element, plain_name, is_plain, plain_text}
@@ -33,12 +33,12 @@ name_in-name name named = cond-true _ (Some name) None named
 
 -- two numbers are read from their digits
 pub bounds_in-decimal : (lo hi : ℕ) → AreBounds lo hi → bounds_in (decimal lo ∷ decimal hi ∷ []) ≡ Some (lo, hi)
-unfolding bounds_in
+unfolding bounds_up_to
 bounds_in-decimal lo hi small = rw (number_in-decimal lo small.0, number_in-decimal hi small.1) refl
 
 -- a kind and two numbers are read from their words
 pub range_in-range_words : (kind : Kind) (lo hi : ℕ) → AreBounds lo hi → range_in (range_words kind lo hi) ≡ Some (kind, lo, hi)
-unfolding range_in
+unfolding range_up_to
 range_in-range_words kind lo hi small = rw (kind_in-kind_name kind, bounds_in-decimal lo hi small) refl
 
 -- the words of a command are read as that command
@@ -114,7 +114,7 @@ plain_arguments (Unwatch name) fits = (plain_name name fits, tt)
 plain_arguments (Answer name) fits = (plain_name name fits, tt)
 
 -- words that are a command, of which the first begins no comment, say that command
-pub line_in-command : (verb : List ℕ) (words : List (List ℕ)) (command : Command) → is_comment verb ≡ false → command_in (verb ∷ words) ≡ Some command → line_in (verb ∷ words) ≡ Do command
+pub line_in-command : (verb : List ℕ) (words : List (List ℕ)) (command : Command) → is_comment verb ≡ false → command_in (verb ∷ words) ≡ Some command → line_in command_in (verb ∷ words) ≡ Do command
 line_in-command verb words command no_comment read = cond-false _ _ _ no_comment ∙ ap (λ found. option_map_or Do found Bad) read
 
 -- all its words are plain
@@ -132,19 +132,19 @@ printed_printable command fits = spaced_printable (verb_of command ∷ arguments
 
 -- the text of a command is read as that command
 pub line_of-printed : (command : Command) → IsCommand command → line_of (printed command) ≡ Do command
-unfolding line_of
+unfolding line_by
 line_of-printed command fits =
     let words = verb_of command ∷ arguments_of command in
     let verb = plain_verb command in
     let short : length (spaced words) ≤ 120 = omega (arith, length-printed command fits) in
     cond-false _ _ _ (le-ltb 120 _ short)
-    ∙ ap (λ bytes. line_in (words_of bytes)) (without_cr-none (spaced words) (printed_printable command fits))
-    ∙ ap line_in (words_of-spaced words (plain_words command fits))
+    ∙ ap (λ bytes. line_in command_in (words_of bytes)) (without_cr-none (spaced words) (printed_printable command fits))
+    ∙ ap (line_in command_in) (words_of-spaced words (plain_words command fits))
     ∙ line_in-command (verb_of command) (arguments_of command) command verb.no_comment (command_in-words command fits)
 
 -- a line of more than 120 bytes is bad
 pub line_of-long : (bytes : List ℕ) → 120 < length bytes → line_of bytes ≡ Bad
-unfolding line_of
+unfolding line_by
 line_of-long bytes long = cond-true _ _ _ (lt-ltb 120 (length bytes) long)
 
 -- a line may be cut behind its 121st byte

@@ -1,9 +1,9 @@
 -- How the digits of a number are read, from the left, and which values fit their types.
-use Rattle.std.proofs.Common.{◌≡◌, ℕ, ◌+◌, ◌-◌, ◌*◌, ◌^◌, ◌<◌, ◌≤◌, Bool, true, false, cond, List, [], ◌∷◌, fold, length, get_or, drop, Option, Some, None, Result, Ok, Err, ℤ, pos, negsuc, neg_ℤ, zero, suc, Decides, ◌-ℤ◌, option_map, codes, nat_eq, refl, sym, ap, ◌∙◌, arith, inl, inr}
+use Rattle.std.proofs.Common.{◌≡◌, ℕ, ◌+◌, ◌-◌, ◌*◌, ◌^◌, ◌<◌, ◌≤◌, Bool, true, false, cond, List, [], ◌∷◌, fold, length, get_or, drop, Option, Some, None, Result, Ok, Err, ℤ, pos, negsuc, neg_ℤ, zero, suc, Decides, ◌-ℤ◌, option_map, codes, nat_eq, nat_le, refl, sym, ap, ◌∙◌, arith, inl, inr}
 use Rattle.std.specs.List.{starts_with}
 use Rattle.std.specs.Str.{all_ascii_digits}
 use Rattle.std.specs.Char.{is_ascii_digit}
-use Rattle.std.proofs.lemmas.Bool.{cases_Bool, le-ltb, lt-ltb, ltb-true, ltb-false, false_from_ne_true, cond-true, cond-false}
+use Rattle.std.proofs.lemmas.Bool.{cases_Bool, le-ltb, leb-true, lt-ltb, ltb-true, ltb-false, false_from_ne_true, cond-true, cond-false}
 use Rattle.std.specs.Option.{SomeIff}
 use Rattle.std.specs.Result.{OkIff, result_ok}
 use Rattle.std.proofs.lemmas.Option.{none-some, cond_some}
@@ -11,7 +11,7 @@ use Rattle.std.proofs.Math.Nat.{pow-le-pow_right}
 use Rattle.std.proofs.lemmas.Int.{ints}
 use Rattle.std.proofs.lemmas.List.{drop_more}
 use Rattle.lv_geometry.specs.Elements.{IsElement}
-use Rattle.lv_lines.specs.Numbers.{numeral_in, signed_numeral_in, allowed, fits_64, is_number, is_element}
+use Rattle.lv_lines.specs.Numbers.{numeral_in, signed_numeral_in, allowed, fits_64, is_element}
 
 -- what digits stand for behind others that stand for n
 abbrev pub value_from : ℕ → List ℕ → ℕ
@@ -67,10 +67,10 @@ pub is_element_decides : (z : ℤ) → Decides (is_element z) (IsElement z)
 is_element_decides (pos n) = (λ h. record { sfits = ltb-true n (2 ^ 63) h }, λ fits. lt-ltb n (2 ^ 63) fits.sfits)
 is_element_decides (negsuc n) = (λ h. record { sfits = ltb-true n (2 ^ 63) h }, λ fits. lt-ltb n (2 ^ 63) fits.sfits)
 
--- what has more than 64 bits is no number
-pub no_number : (read : Option ℕ) → allowed fits_64 read ≡ None → allowed is_number read ≡ None
-no_number None h = refl
-no_number (Some n) h = cond-false _ (Some n) None (le-ltb n (2 ^ 32) (omega (arith, ltb-false n (2 ^ 64) (fails_test fits_64 n h))))
+-- what has more than 64 bits is past every bound of 64 bits
+pub no_number : (most : ℕ) (read : Option ℕ) → most < 2 ^ 64 → allowed fits_64 read ≡ None → allowed (λ n. nat_le n most) read ≡ None
+no_number most None small h = refl
+no_number most (Some n) small h = cond-false _ (Some n) None (false_from_ne_true (nat_le n most) (λ is. omega (arith, leb-true n most is, ltb-false n (2 ^ 64) (fails_test fits_64 n h))))
 
 -- nor an element
 pub no_positive : (read : Option ℕ) → allowed fits_64 read ≡ None → allowed is_element (option_map pos read) ≡ None

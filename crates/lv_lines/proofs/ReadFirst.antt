@@ -1,5 +1,5 @@
 -- How the first word of a text is read where it stands, as digits up to a space or the end.
-use Rattle.std.proofs.Common.{◌≡◌, ℕ, zero, suc, ◌<◌, ◌≤◌, true, false, List, [], ◌∷◌, ◌++◌, length, get_or, take, drop, Some, option_map, nat_eq, codes, ℤ, pos, neg_ℤ, refl, sym, ap, subst, ◌∙◌, arith, append-nil}
+use Rattle.std.proofs.Common.{◌≡◌, ℕ, zero, suc, ◌<◌, ◌≤◌, true, false, List, [], ◌∷◌, ◌++◌, length, get_or, take, drop, Some, option_map, nat_eq, nat_le, codes, ℤ, pos, neg_ℤ, refl, sym, ap, subst, ◌∙◌, arith, append-nil}
 use Rattle.std.specs.List.{starts_with}
 use Rattle.std.specs.Str.{all_ascii_digits}
 use Rattle.std.proofs.lemmas.Bool.{and_parts}
@@ -8,7 +8,7 @@ use Rattle.std.proofs.lemmas.List.{drop_more}
 use Rattle.std.proofs.lemmas.List.Sums.{position_or_len_is}
 use Rattle.lv_geometry.specs.Elements.{IsElement}
 use Rattle.lv_lines.specs.Words.{is_space, is_word, words_of}
-use Rattle.lv_lines.specs.Numbers.{allowed, element_in, is_element, is_number, number_in, numeral_in, value_of}
+use Rattle.lv_lines.specs.Numbers.{allowed, element_in, is_element, number_up_to, numeral_in, value_of}
 use Rattle.lv_lines.proofs.CutWords.{words_of-first}
 use Rattle.lv_lines.proofs.PrintedNumbers.{digits_unsigned}
 use Rattle.lv_lines.proofs.ReadDigits.{is_element_decides, numeral_from, signed-minus, signed-plain}
@@ -66,9 +66,9 @@ negative_cut text digits rest n some minus behind within none cut ends =
 -- ---- what the first word is read as
 
 -- digits are a number where their value is one
-pub number_read : (word : List ℕ) (n : ℕ) → numeral_in word ≡ Some n → number_in word ≡ allowed is_number (Some n)
-unfolding number_in
-number_read word n read = ap (allowed is_number) read
+pub number_read : (most : ℕ) (word : List ℕ) (n : ℕ) → numeral_in word ≡ Some n → number_up_to most word ≡ allowed (λ n. nat_le n most) (Some n)
+unfolding number_up_to
+number_read most word n read = ap (allowed (λ n. nat_le n most)) read
 
 -- what is a numeral has no sign
 pub unsigned_read : (word : List ℕ) (n : ℕ) → numeral_in word ≡ Some n → starts_with nat_eq word (codes "-") ≡ false

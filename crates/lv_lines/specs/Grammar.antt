@@ -9,10 +9,10 @@ use Rattle.lv_edits.specs.declared.edit.Edit.TheVariants as edit
 use Rattle.lv_bodies.specs.Names.{is_name}
 use Rattle.lv_lines.specs.declared.command.Command.{Command}
 use Rattle.lv_lines.specs.declared.command.Command.TheVariants.{Edit, Settle, Get, Size, Capacity, Reduce, Cost, Scan, Claim, Deliver, Forget, Watch, Unwatch, Answer}
-use Rattle.lv_lines.specs.declared.command.Line.{Line}
-use Rattle.lv_lines.specs.declared.command.Line.TheVariants.{Nothing, Bad, Do}
+use Rattle.lv_lines.specs.declared.lines.Line.{Line}
+use Rattle.lv_lines.specs.declared.lines.Line.TheVariants.{Nothing, Bad, Do}
 use Rattle.lv_lines.specs.Words.{words_of, only_word}
-use Rattle.lv_lines.specs.Numbers.{number_in, element_in}
+use Rattle.lv_lines.specs.Numbers.{number_in, number_up_to, most_32, element_in}
 
 infixl 10 ◌>>=◌
 -- a step, and then what follows from what it gives
@@ -52,13 +52,20 @@ first_and read others (word ∷ words) = do
   rest ← others words
   Some (first, rest)
 
--- the words `lo hi`
-unfoldable pub bounds_in : List (List ℕ) → Option (ℕ × ℕ)
-bounds_in words = first_and number_in lone_number words
+-- the words `lo hi`, two numbers up to a bound
+unfoldable pub bounds_up_to : ℕ → List (List ℕ) → Option (ℕ × ℕ)
+bounds_up_to most words = first_and (number_up_to most) (lone (number_up_to most)) words
 
 -- the words `kind lo hi`
-unfoldable pub range_in : List (List ℕ) → Option (Kind × ℕ × ℕ)
-range_in words = option_map (λ w. (w.0, w.1.0, w.1.1)) (first_and kind_in bounds_in words)
+unfoldable pub range_up_to : ℕ → List (List ℕ) → Option (Kind × ℕ × ℕ)
+range_up_to most words = option_map (λ w. (w.0, w.1.0, w.1.1)) (first_and kind_in (bounds_up_to most) words)
+
+-- the same of numbers that fit into 32 bits
+abbrev pub bounds_in : List (List ℕ) → Option (ℕ × ℕ)
+bounds_in words = bounds_up_to most_32 words
+
+abbrev pub range_in : List (List ℕ) → Option (Kind × ℕ × ℕ)
+range_in words = range_up_to most_32 words
 
 -- a command without arguments
 abbrev pub alone : {C : Type 0} → C → List (List ℕ) → Option C
@@ -116,11 +123,15 @@ without_cr bytes = if ends_with nat_eq bytes (13 ∷ []) then take (length bytes
 abbrev pub is_comment : List ℕ → Bool
 is_comment word = starts_with nat_eq word (codes "#")
 
--- what the words of a line say: nothing where there are none, or behind `#`; what is not read as a command is bad
-abbrev pub line_in : List (List ℕ) → Line
-line_in [] = Nothing
-line_in (word ∷ words) = if is_comment word then Nothing else option_map_or Do (command_in (word ∷ words)) Bad
+-- what the words of a line say, by how a command is read: nothing where there are none, or behind `#`; what is not read as a command is bad
+abbrev pub line_in : {C : Type 0} → (List (List ℕ) → Option C) → List (List ℕ) → Line C
+line_in read [] = Nothing
+line_in read (word ∷ words) = if is_comment word then Nothing else option_map_or Do (read (word ∷ words)) Bad
 
 -- what a line says, given without its LF: a line of more than 120 bytes is bad, whatever they are
-unfoldable pub line_of : List ℕ → Line
-line_of bytes = if nat_lt 120 (length bytes) then Bad else line_in (words_of (without_cr bytes))
+unfoldable pub line_by : {C : Type 0} → (List (List ℕ) → Option C) → List ℕ → Line C
+line_by read bytes = if nat_lt 120 (length bytes) then Bad else line_in read (words_of (without_cr bytes))
+
+-- what a line of a vector's script says
+abbrev pub line_of : List ℕ → Line Command
+line_of bytes = line_by command_in bytes

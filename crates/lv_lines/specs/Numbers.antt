@@ -1,5 +1,5 @@
 -- The numbers that a line may have.
-use Rattle.std.specs.Prelude.{ℕ, ◌+◌, ◌-◌, ◌*◌, ◌^◌, Bool, ◌&&◌, if◌then◌else◌, List, drop, codes, nat_eq, nat_lt, fold, Option, Some, None, option_map, ℤ, pos, negsuc, neg_ℤ}
+use Rattle.std.specs.Prelude.{ℕ, ◌+◌, ◌-◌, ◌*◌, ◌^◌, Bool, ◌&&◌, if◌then◌else◌, List, drop, codes, nat_eq, nat_le, nat_lt, fold, Option, Some, None, option_map, ℤ, pos, negsuc, neg_ℤ}
 use Rattle.std.specs.List.{starts_with}
 use Rattle.std.specs.Str.{all_ascii_digits}
 use Rattle.lv_lines.specs.Words.{is_word}
@@ -17,17 +17,21 @@ abbrev pub allowed : {X : Type 0} → (X → Bool) → Option X → Option X
 allowed test None = None
 allowed test (Some x) = if test x then Some x else None
 
--- whether a number fits into 32 bits
-abbrev pub is_number : ℕ → Bool
-is_number n = nat_lt n (2 ^ 32)
-
 -- whether a number fits into 64 bits
 abbrev pub fits_64 : ℕ → Bool
 fits_64 n = nat_lt n (2 ^ 64)
 
--- a number: one or more digits, whose value fits into 32 bits
-unfoldable pub number_in : List ℕ → Option ℕ
-number_in word = allowed is_number (numeral_in word)
+-- a number up to a bound: one or more digits, whose value is at most that
+unfoldable pub number_up_to : ℕ → List ℕ → Option ℕ
+number_up_to most word = allowed (λ n. nat_le n most) (numeral_in word)
+
+-- the most that fits into 32 bits
+abbrev pub most_32 : ℕ
+most_32 = 2 ^ 32 - 1
+
+-- a number that fits into 32 bits
+abbrev pub number_in : List ℕ → Option ℕ
+number_in word = number_up_to most_32 word
 
 -- what one or more digits stand for, behind a `-` with its sign turned
 abbrev pub signed_numeral_in : List ℕ → Option ℤ

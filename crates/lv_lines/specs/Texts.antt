@@ -19,9 +19,12 @@ use Rattle.lv_lines.specs.Words.{spaced}
 abbrev pub reply_line : List ℕ → List ℕ
 reply_line text = text ++ 10 ∷ []
 
--- what a refusal is answered by
+-- what a refusal is answered by, by its number
+abbrev pub refused_by : ℕ → List ℕ
+refused_by number = reply_line (codes "refused " ++ decimal number)
+
 abbrev pub refused_text : Refusal → List ℕ
-refused_text refusal = reply_line (codes "refused " ++ decimal (number_of refusal))
+refused_text refusal = refused_by (number_of refusal)
 
 -- the reply to a line that is not understood: its number
 abbrev pub bad_text : ℕ → List ℕ

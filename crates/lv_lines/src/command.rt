@@ -1,4 +1,4 @@
-//! What a line of a script may say: a command, a comment or an empty line.
+//! The commands of a vector's script.
 use lv_bodies::{Kind, Name};
 use lv_edits::Edit;
 
@@ -50,15 +50,4 @@ pub enum Command {
     Unwatch(Name),
     /// Show the answer that goes by the name.
     Answer(Name),
-}
-
-/// What a line of a script is.
-#[derive(Clone, Copy)]
-pub enum Line {
-    /// Blank, or a comment. It has no reply.
-    Nothing,
-    /// No line of the grammar, or too long.
-    Bad,
-    /// A command.
-    Do(Command),
 }

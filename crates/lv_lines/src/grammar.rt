@@ -1,15 +1,13 @@
-//! The grammar of lines: what words are.
-ghost use Rattle.std.specs.Prelude.{◌≡◌, ◌∷◌, drop};
+//! What words are: kinds, numbers up to a bound, elements, names, and some of them in a row.
+ghost use Rattle.std.specs.Prelude.{◌≡◌, ◌≤◌, IfSome};
 ghost use Rattle.std.specs.Str.{bytes_eq};
 ghost use Rattle.lv_lines.specs.Words.{words_of};
-ghost use Rattle.lv_lines.specs.Grammar.{kind_in, name_in, lone, lone_number, first_and, bounds_in, range_in, alone, made_of, read_by, command_in, forms};
-ghost use Rattle.lv_lines.specs.Numbers.{element_in, number_in};
+ghost use Rattle.lv_lines.specs.Grammar.{alone, bounds_in, bounds_up_to, kind_in, lone, lone_number, name_in, range_up_to};
+ghost use Rattle.lv_lines.specs.Numbers.{element_in, number_up_to};
 
-use crate::command::Command;
-use crate::numbers::{first_element, first_number};
+use crate::numbers::{MOST_32, first_element, first_up_to, narrow};
 use crate::words::{next_word, only_word};
 use lv_bodies::{Kind, Name};
-use lv_edits::Edit;
 
 /// Whether a word is this text.
 pub fn spells(word: &[u8], text: &str) -> bool
@@ -44,18 +42,28 @@ pub fn kind(word: &[u8]) -> Option<Kind>
     None
 }
 
-/// The number that the one word is; none where there are no words, or more than one.
-pub fn lone_number(words: &[u8]) -> Option<u32>
-    ensures { result ≡ lone_number (words_of words.now) }
+/// The number up to a bound that the one word is; none where there are no words, or more than one.
+pub fn lone_up_to(words: &[u8], most: u64) -> Option<u64>
+    ensures number { result ≡ lone (number_up_to most) (words_of words.now) }
+    ensures small { IfSome result (λ n. n ≤ most) }
 {
-    let (number, rest) = first_number(words)?;
+    let (number, rest) = first_up_to(words, most)?;
     match next_word(rest) {
         Some(_) => None,
         None => Some(number),
     }
 }
 
-fn lone_element(words: &[u8]) -> Option<i64>
+/// The same of a number that fits into 32 bits.
+pub fn lone_number(words: &[u8]) -> Option<u32>
+    ensures { result ≡ lone_number (words_of words.now) }
+{
+    let number = lone_up_to(words, MOST_32)?;
+    Some(narrow(number))
+}
+
+/// The element that the one word is.
+pub fn lone_element(words: &[u8]) -> Option<i64>
     ensures { result ≡ lone element_in (words_of words.now) }
 {
     let (value, rest) = first_element(words)?;
@@ -65,151 +73,52 @@ fn lone_element(words: &[u8]) -> Option<i64>
     }
 }
 
-fn lone_name(words: &[u8]) -> Option<Name>
+/// The name that the one word is.
+pub fn lone_name(words: &[u8]) -> Option<Name>
     ensures { result ≡ lone name_in (words_of words.now) }
 {
     Name::new(only_word(words)?)
 }
 
-/// The two numbers that two words are.
-#[tactic(auto, unfolding(crate::specs::Grammar::bounds_in))]
-pub fn bounds(words: &[u8]) -> Option<(u32, u32)>
-    ensures { result ≡ bounds_in (words_of words.now) }
+/// The two numbers up to a bound that two words are.
+#[tactic(auto, unfolding(crate::specs::Grammar::bounds_up_to))]
+pub fn bounds_up_to(words: &[u8], most: u64) -> Option<(u64, u64)>
+    ensures bounds { result ≡ bounds_up_to most (words_of words.now) }
+    ensures first { IfSome result (λ bounds. bounds.0 ≤ most) }
+    ensures second { IfSome result (λ bounds. bounds.1 ≤ most) }
 {
-    let (lo, rest) = first_number(words)?;
-    let hi = lone_number(rest)?;
+    let (lo, rest) = first_up_to(words, most)?;
+    let hi = lone_up_to(rest, most)?;
     Some((lo, hi))
 }
 
-#[tactic(auto, unfolding(crate::specs::Grammar::range_in))]
-fn range(words: &[u8]) -> Option<(Kind, u32, u32)>
-    ensures { result ≡ range_in (words_of words.now) }
+/// The same of two numbers that fit into 32 bits.
+pub fn bounds(words: &[u8]) -> Option<(u32, u32)>
+    ensures { result ≡ bounds_in (words_of words.now) }
+{
+    let (lo, hi) = bounds_up_to(words, MOST_32)?;
+    Some((narrow(lo), narrow(hi)))
+}
+
+/// The kind that the first word is, and the two numbers up to a bound that the others are.
+#[tactic(auto, unfolding(crate::specs::Grammar::range_up_to))]
+pub fn range_up_to(words: &[u8], most: u64) -> Option<(Kind, u64, u64)>
+    ensures range { result ≡ range_up_to most (words_of words.now) }
+    ensures first { IfSome result (λ range. range.1 ≤ most) }
+    ensures second { IfSome result (λ range. range.2 ≤ most) }
 {
     let (word, rest) = next_word(words)?;
     let kind = kind(word)?;
-    let (lo, hi) = bounds(rest)?;
+    let (lo, hi) = bounds_up_to(rest, most)?;
     Some((kind, lo, hi))
 }
 
-fn alone(command: Command, words: &[u8]) -> Option<Command>
+/// A command that no words follow.
+pub fn alone<C: Copy>(command: C, words: &[u8]) -> Option<C>
     ensures { result ≡ alone command (words_of words.now) }
 {
     if next_word(words).is_some() {
         return None;
     }
     Some(command)
-}
-
-fn write(words: &[u8]) -> Option<Command>
-    ensures { result ≡ made_of (first_and number_in (lone element_in)) (λ w. Command.Edit (Edit.Write w.0 w.1)) (words_of words.now) }
-{
-    let (index, rest) = first_number(words)?;
-    let value = lone_element(rest)?;
-    Some(Command::Edit(Edit::Write { index, value }))
-}
-
-fn swap(words: &[u8]) -> Option<Command>
-    ensures { result ≡ made_of bounds_in (λ w. Command.Edit (Edit.Swap w.0 w.1)) (words_of words.now) }
-{
-    bounds(words).map(|(first, second)| Command::Edit(Edit::Swap { first, second }))
-}
-
-fn watch(words: &[u8]) -> Option<Command>
-    ensures { result ≡ made_of (first_and name_in range_in) (λ w. Command.Watch w.0 w.1.0 w.1.1 w.1.2) (words_of words.now) }
-{
-    let (word, rest) = next_word(words)?;
-    let name = Name::new(word)?;
-    let (kind, lo, hi) = range(rest)?;
-    Some(Command::Watch { name, kind, lo, hi })
-}
-
-fn scan(inclusive: bool, words: &[u8]) -> Option<Command>
-    ensures { result ≡ made_of range_in (λ w. Command.Scan inclusive w.0 w.1 w.2) (words_of words.now) }
-{
-    range(words).map(|(kind, lo, hi)| Command::Scan {
-        inclusive,
-        kind,
-        lo,
-        hi,
-    })
-}
-
-fn other_command(verb: &[u8], words: &[u8]) -> Option<Command>
-    ensures { result ≡ read_by (drop 14 forms) verb.now (words_of words.now) }
-{
-    if spells(verb, "claim") {
-        return alone(Command::Claim, words);
-    }
-    if spells(verb, "deliver") {
-        return lone_number(words).map(Command::Deliver);
-    }
-    if spells(verb, "forget") {
-        return alone(Command::Forget, words);
-    }
-    if spells(verb, "watch") {
-        return watch(words);
-    }
-    if spells(verb, "unwatch") {
-        return lone_name(words).map(Command::Unwatch);
-    }
-    if spells(verb, "answer") {
-        return lone_name(words).map(Command::Answer);
-    }
-    None
-}
-
-fn range_command(verb: &[u8], words: &[u8]) -> Option<Command>
-    ensures { result ≡ read_by (drop 10 forms) verb.now (words_of words.now) }
-{
-    if spells(verb, "reduce") {
-        return range(words).map(|(kind, lo, hi)| Command::Reduce { kind, lo, hi });
-    }
-    if spells(verb, "cost") {
-        return bounds(words).map(|(lo, hi)| Command::Cost { lo, hi });
-    }
-    if spells(verb, "inc") {
-        return scan(true, words);
-    }
-    if spells(verb, "exc") {
-        return scan(false, words);
-    }
-    other_command(verb, words)
-}
-
-/// The command that a first word and the words after it are.
-#[tactic(auto, unfolding(crate::specs::Grammar::command_in))]
-pub fn command(verb: &[u8], words: &[u8]) -> Option<Command>
-    ensures { result ≡ command_in (verb.now ∷ words_of words.now) }
-{
-    if spells(verb, "push") {
-        return lone_element(words).map(|value| Command::Edit(Edit::Push(value)));
-    }
-    if spells(verb, "pop") {
-        return alone(Command::Edit(Edit::Pop), words);
-    }
-    if spells(verb, "write") {
-        return write(words);
-    }
-    if spells(verb, "reserve") {
-        return lone_number(words).map(|cells| Command::Edit(Edit::Reserve(cells)));
-    }
-    if spells(verb, "swap") {
-        return swap(words);
-    }
-    if spells(verb, "truncate") {
-        return lone_number(words).map(|kept| Command::Edit(Edit::Truncate(kept)));
-    }
-    if spells(verb, "settle") {
-        return alone(Command::Settle, words);
-    }
-    if spells(verb, "get") {
-        return lone_number(words).map(Command::Get);
-    }
-    if spells(verb, "size") {
-        return alone(Command::Size, words);
-    }
-    if spells(verb, "capacity") {
-        return alone(Command::Capacity, words);
-    }
-    range_command(verb, words)
 }

@@ -19,22 +19,25 @@ mod printing;
 mod progress;
 mod replies;
 mod responder;
+mod script_grammar;
 mod sender;
 mod tail;
 mod words;
 
-pub use command::{Command, Line};
+pub use command::Command;
 pub use conversation::converse;
 pub use fault::Fault;
-pub use lines::{is_comment, read_line, without_cr};
+pub use lines::{Line, LineGrammar, is_comment, read_line, read_line_by, without_cr};
 pub use named_replies::{put_named, put_note, put_unwatched, put_watching};
-pub use numbers::number;
+pub use numbers::{element, number, number_up_to};
 pub use outbox::Outbox;
 pub use printing::{COMMAND, print_command, put_command};
 pub use replies::{
-    LINE, put_answer, put_bad, put_capacity, put_receipt, put_refusal, put_settled, put_shown,
-    put_size, put_value,
+    LINE, put_answer, put_bad, put_capacity, put_counted, put_found, put_receipt, put_refusal,
+    put_refused, put_scan_head, put_settled, put_shown, put_size, put_swapped, put_value,
+    put_valued,
 };
 pub use responder::Responder;
+pub use script_grammar::ScriptGrammar;
 pub use sender::{HELD, put, put_element, put_name, put_number, put_wide, write_whole};
 pub use words::{kind_name, next_word, scan_name};

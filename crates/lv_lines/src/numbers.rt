@@ -1,9 +1,12 @@
 //! How words are read as numbers and as elements.
-ghost use Rattle.std.specs.Prelude.{◌≡◌, ℕ, ◌<◌, ◌≤◌, false, None, Some, MatchOption, drop, length, neg_ℤ, pos, slice_index, take};
+ghost use Rattle.std.specs.Prelude.{◌≡◌, ℕ, nat_le, ◌<◌, ◌≤◌, false, None, Some, IfSome, MatchOption, drop, length, neg_ℤ, pos, slice_index, take};
 ghost use Rattle.lv_lines.specs.Words.{first_read, is_space, words_of};
-ghost use Rattle.lv_lines.specs.Numbers.{allowed, element_in, fits_64, is_element, is_number, number_in, numeral_in};
+ghost use Rattle.lv_lines.specs.Numbers.{allowed, element_in, fits_64, is_element, most_32, number_in, number_up_to, numeral_in};
 
 use crate::words::{ends_word, from_word, next_word};
+
+/// The most that fits into 32 bits.
+pub(crate) const MOST_32: u64 = u32::MAX as u64;
 
 /// What one or more digits stand for, where it has 64 bits.
 fn numeral(digits: &[u8]) -> Option<u64>
@@ -41,20 +44,21 @@ fn front_digits(text: &[u8]) -> (u64, usize)
     (value, count)
 }
 
-/// The number that the first word is, and the bytes after it.
+/// The number up to a bound that the first word is, and the bytes after it.
 #[inline(always)]
-pub(crate) fn first_number(bytes: &[u8]) -> Option<(u32, &[u8])>
-    ensures { MatchOption result (first_read number_in (words_of bytes.now) ≡ None)
-        (λ read. (first_read number_in (words_of bytes.now) ≡ Some read.0) × (drop 1 (words_of bytes.now) ≡ words_of read.1.now)) }
+pub(crate) fn first_up_to(bytes: &[u8], most: u64) -> Option<(u64, &[u8])>
+    ensures read { MatchOption result (first_read (number_up_to most) (words_of bytes.now) ≡ None)
+        (λ read. (first_read (number_up_to most) (words_of bytes.now) ≡ Some read.0) × (drop 1 (words_of bytes.now) ≡ words_of read.1.now)) }
+    ensures small { IfSome result (λ read. read.0 ≤ most) }
 {
     let text = from_word(bytes)?;
     let (value, count) = front_digits(text);
     let (_, rest) = text.split_at(count);
     if 0 < count && ends_word(rest) {
-        return Some((fit_number(value)?, rest));
+        return Some((fit(value, most)?, rest));
     }
     let (word, rest) = next_word(text)?;
-    Some((number(word)?, rest))
+    Some((number_up_to(word, most)?, rest))
 }
 
 /// The element that the first word is, and the bytes after it.
@@ -110,12 +114,16 @@ fn element_at(text: &[u8]) -> Option<(i64, &[u8])>
     Some((element(word)?, rest))
 }
 
-// A value as a number, where it has 32 bits.
+// A value as a number up to a bound.
 #[inline(always)]
-fn fit_number(value: u64) -> Option<u32>
-    ensures { result ≡ allowed is_number (Some value) }
+fn fit(value: u64, most: u64) -> Option<u64>
+    ensures number { result ≡ allowed (λ n. nat_le n most) (Some value) }
+    ensures small { IfSome result (λ n. n ≤ most) }
 {
-    u32::try_from(value).ok()
+    if most < value {
+        return None;
+    }
+    Some(value)
 }
 
 // A value as an element, where it has 63 bits.
@@ -134,15 +142,33 @@ fn fit_negative(value: u64) -> Option<i64>
     0i64.checked_sub_unsigned(value)
 }
 
-/// The number that a word is.
+/// The number up to a bound that a word is.
+pub fn number_up_to(word: &[u8], most: u64) -> Option<u64>
+    ensures number { result ≡ number_up_to most word.now }
+    ensures small { IfSome result (λ n. n ≤ most) }
+{
+    fit(numeral(word)?, most)
+}
+
+/// The number that a word is, where it fits into 32 bits.
 pub fn number(word: &[u8]) -> Option<u32>
     ensures { result ≡ number_in word.now }
 {
-    u32::try_from(numeral(word)?).ok()
+    let number = number_up_to(word, MOST_32)?;
+    Some(narrow(number))
+}
+
+/// A number in 32 bits, where it fits into them.
+#[inline(always)]
+pub(crate) fn narrow(number: u64) -> u32
+    requires { number ≤ most_32 }
+    ensures { result ≡ number }
+{
+    number as u32
 }
 
 /// The element that a word is.
-pub(crate) fn element(word: &[u8]) -> Option<i64>
+pub fn element(word: &[u8]) -> Option<i64>
     ensures { result ≡ element_in word.now }
 {
     if word.starts_with(b"-") {

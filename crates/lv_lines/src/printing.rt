@@ -7,7 +7,8 @@ ghost use Rattle.lv_lines.specs.Words.{behind_spaces};
 ghost use Rattle.lv_lines.specs.Grammar.{line_of};
 ghost use Rattle.lv_lines.specs.Printed.{verb_of, arguments_of, range_words, printed, IsCommand};
 
-use crate::command::{Command, Line};
+use crate::command::Command;
+use crate::lines::Line;
 use crate::sender::{put, put_element, put_name, put_number};
 use crate::words::{kind_name, scan_name};
 use lv_bodies::{Kind, Name};

@@ -4,11 +4,11 @@ ghost use Rattle.std.specs.Fmt.{signed_decimal};
 ghost use Rattle.lv_edits.specs.declared.receipt.Receipt.TheVariants as receipt;
 ghost use Rattle.lv_lines.specs.Output.{HasRoom, KeepsRoom};
 ghost use Rattle.lv_lines.specs.Words.{spaced};
-ghost use Rattle.lv_lines.specs.Texts.{answer_text, bad_text, capacity_text, receipt_text, refused_text, reply_line, settled_text, size_text, shown_text, element_text, value_text};
+ghost use Rattle.lv_lines.specs.Texts.{answer_text, bad_text, capacity_text, receipt_text, refused_by, refused_text, reply_line, scan_head, settled_text, size_text, shown_text, element_text, value_text};
 
 use crate::sender::{put, put_element, put_number, put_wide};
 use crate::tail::Tail;
-use crate::words::kind_name;
+use crate::words::{kind_name, scan_name};
 use lv_bodies::{Kind, Shown};
 use lv_edits::Receipt;
 use lv_geometry::Refusal;
@@ -24,22 +24,26 @@ pub fn put_receipt(held: &mut Vec<u8>, receipt: Receipt)
     ensures room { KeepsRoom held.old held.new }
 {
     match receipt {
-        Receipt::Pushed { edit, index } => put_counted(held, edit, b" at ", index),
-        Receipt::Popped { edit, value } => put_valued(held, edit, b" value ", value),
-        Receipt::Written { edit, before } => put_valued(held, edit, b" was ", before),
-        Receipt::Reserved { edit, capacity } => put_counted(held, edit, b" capacity ", capacity),
+        Receipt::Pushed { edit, index } => put_counted(held, edit.into(), b" at ", index.into()),
+        Receipt::Popped { edit, value } => put_valued(held, edit.into(), b" value ", value),
+        Receipt::Written { edit, before } => put_valued(held, edit.into(), b" was ", before),
+        Receipt::Reserved { edit, capacity } => {
+            put_counted(held, edit.into(), b" capacity ", capacity.into());
+        }
         Receipt::Swapped {
             edit,
             first,
             second,
-        } => put_swapped(held, edit, first, second),
-        Receipt::Truncated { edit, dropped } => put_counted(held, edit, b" dropped ", dropped),
+        } => put_swapped(held, edit.into(), first, second),
+        Receipt::Truncated { edit, dropped } => {
+            put_counted(held, edit.into(), b" dropped ", dropped.into());
+        }
     }
 }
 
-// A line of an edit, a word, and a count behind it.
+/// A line of an edit, a word, and a count behind it.
 #[inline(always)]
-fn put_counted(held: &mut Vec<u8>, edit: u32, word: &[u8], count: u32)
+pub fn put_counted(held: &mut Vec<u8>, edit: u64, word: &[u8], count: u64)
     requires room { HasRoom held.old 80 }
     requires short { length word.now ≤ 20 }
     ensures text { held.new.items ≡ held.old.items ++ reply_line (codes "edit " ++ decimal edit ++ word.now ++ decimal count) }
@@ -47,16 +51,16 @@ fn put_counted(held: &mut Vec<u8>, edit: u32, word: &[u8], count: u32)
     ensures room { KeepsRoom held.old held.new }
 {
     let mut line = Tail::new();
-    line.put_number(count.into());
+    line.put_number(count);
     line.put(word);
-    line.put_number(edit.into());
+    line.put_number(edit);
     line.put(b"edit ");
     put(held, line.as_bytes());
 }
 
-// A line of an edit, a word, and an element behind it.
+/// A line of an edit, a word, and an element behind it.
 #[inline(always)]
-fn put_valued(held: &mut Vec<u8>, edit: u32, word: &[u8], x: i64)
+pub fn put_valued(held: &mut Vec<u8>, edit: u64, word: &[u8], x: i64)
     requires room { HasRoom held.old 80 }
     requires short { length word.now ≤ 20 }
     ensures text { held.new.items ≡ held.old.items ++ reply_line (codes "edit " ++ decimal edit ++ word.now ++ signed_decimal x) }
@@ -66,13 +70,13 @@ fn put_valued(held: &mut Vec<u8>, edit: u32, word: &[u8], x: i64)
     let mut line = Tail::new();
     line.put_element(x);
     line.put(word);
-    line.put_number(edit.into());
+    line.put_number(edit);
     line.put(b"edit ");
     put(held, line.as_bytes());
 }
 
-// A line of a swap: the elements that stand at its two indices after it.
-fn put_swapped(held: &mut Vec<u8>, edit: u32, first: i64, second: i64)
+/// A line of a swap: the elements that stand at its two indices after it.
+pub fn put_swapped(held: &mut Vec<u8>, edit: u64, first: i64, second: i64)
     requires { HasRoom held.old 80 }
     ensures text { held.new.items ≡ held.old.items ++ receipt_text (receipt.Swapped edit first second) }
     ensures len { vec_len held.new ≤ vec_len held.old + 80 }
@@ -83,19 +87,28 @@ fn put_swapped(held: &mut Vec<u8>, edit: u32, first: i64, second: i64)
     line.put(b" ");
     line.put_element(first);
     line.put(b" now ");
-    line.put_number(edit.into());
+    line.put_number(edit);
     line.put(b"edit ");
     put(held, line.as_bytes());
 }
 
-/// A refusal, by its number.
+/// A refusal.
 pub fn put_refusal(held: &mut Vec<u8>, refusal: Refusal)
     requires { HasRoom held.old LINE }
     ensures text { held.new.items ≡ held.old.items ++ refused_text refusal }
     ensures room { KeepsRoom held.old held.new }
 {
+    put_refused(held, refusal.number());
+}
+
+/// A refusal, by its number.
+pub fn put_refused(held: &mut Vec<u8>, number: u32)
+    requires { HasRoom held.old LINE }
+    ensures text { held.new.items ≡ held.old.items ++ refused_by number }
+    ensures room { KeepsRoom held.old held.new }
+{
     put(held, b"refused ");
-    put_number(held, refusal.number().into());
+    put_number(held, number.into());
     put(held, b"\n");
 }
 
@@ -126,26 +139,33 @@ pub fn put_value(held: &mut Vec<u8>, value: Result<i64, Refusal>)
     ensures room { KeepsRoom held.old held.new }
 {
     match value {
-        Ok(x) => {
-            let mut line = Tail::new();
-            line.put_element(x);
-            line.put(b"value ");
-            put(held, line.as_bytes());
-        }
+        Ok(x) => put_found(held, x),
         Err(refusal) => put_refusal(held, refusal),
     }
 }
 
+/// An element that was asked for.
+pub fn put_found(held: &mut Vec<u8>, x: i64)
+    requires { HasRoom held.old LINE }
+    ensures text { held.new.items ≡ held.old.items ++ value_text x }
+    ensures room { KeepsRoom held.old held.new }
+{
+    let mut line = Tail::new();
+    line.put_element(x);
+    line.put(b"value ");
+    put(held, line.as_bytes());
+}
+
 /// The size, and the number of the last edit.
-pub fn put_size(held: &mut Vec<u8>, size: u32, edit: u32)
+pub fn put_size(held: &mut Vec<u8>, size: u64, edit: u64)
     requires { HasRoom held.old LINE }
     ensures text { held.new.items ≡ held.old.items ++ size_text size edit }
     ensures room { KeepsRoom held.old held.new }
 {
     let mut line = Tail::new();
-    line.put_number(edit.into());
+    line.put_number(edit);
     line.put(b" edit ");
-    line.put_number(size.into());
+    line.put_number(size);
     line.put(b"size ");
     put(held, line.as_bytes());
 }
@@ -162,7 +182,7 @@ pub fn put_capacity(held: &mut Vec<u8>, cells: u32)
 }
 
 /// The value of a kind at an edit.
-pub fn put_answer(held: &mut Vec<u8>, edit: u32, kind: Kind, value: Shown)
+pub fn put_answer(held: &mut Vec<u8>, edit: u64, kind: Kind, value: Shown)
     requires { HasRoom held.old LINE }
     ensures text { held.new.items ≡ held.old.items ++ answer_text edit kind value }
     ensures room { KeepsRoom held.old held.new }
@@ -171,10 +191,28 @@ pub fn put_answer(held: &mut Vec<u8>, edit: u32, kind: Kind, value: Shown)
     head.put(b" ");
     head.put(kind_name(kind).as_bytes());
     head.put(b" ");
-    head.put_number(edit.into());
+    head.put_number(edit);
     head.put(b"at ");
     put(held, head.as_bytes());
     put_shown(held, value);
+    put(held, b"\n");
+}
+
+/// How many values a scan at an edit has.
+pub fn put_scan_head(held: &mut Vec<u8>, edit: u64, inclusive: bool, kind: Kind, count: u64)
+    requires { HasRoom held.old LINE }
+    ensures text { held.new.items ≡ held.old.items ++ scan_head edit inclusive kind count }
+    ensures len { vec_len held.new ≤ vec_len held.old + LINE }
+    ensures room { KeepsRoom held.old held.new }
+{
+    put(held, b"at ");
+    put_number(held, edit);
+    put(held, b" ");
+    put(held, scan_name(inclusive).as_bytes());
+    put(held, b" ");
+    put(held, kind_name(kind).as_bytes());
+    put(held, b" ");
+    put_number(held, count);
     put(held, b"\n");
 }
 

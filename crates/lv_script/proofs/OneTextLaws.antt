@@ -17,8 +17,8 @@ use Rattle.lv_standing.specs.declared.notes.Note.{Note}
 use Rattle.lv_standing.specs.Queries.{AreNotes, Query, query_of, watch_answer, watch_refusal}
 use Rattle.lv_lines.specs.declared.command.Command.{Command}
 use Rattle.lv_lines.specs.declared.command.Command.TheVariants as command
-use Rattle.lv_lines.specs.declared.command.Line.{Line}
-use Rattle.lv_lines.specs.declared.command.Line.TheVariants.{Nothing, Bad, Do}
+use Rattle.lv_lines.specs.declared.lines.Line.{Line}
+use Rattle.lv_lines.specs.declared.lines.Line.TheVariants.{Nothing, Bad, Do}
 use Rattle.lv_lines.specs.Grammar.{line_of}
 use Rattle.lv_lines.specs.Replies.{Answered}
 use Rattle.lv_lines.specs.Texts.{refused_text}
@@ -192,7 +192,7 @@ command_one old new after (command.Unwatch name) text told first second room had
 command_one old new after (command.Answer name) text told first second room had = tells_one old new after _ text told first second
 
 -- so has a line
-line_one : (old new after : ScriptState) (n : ℕ) (line : Line) (text told : List ℕ) → LineAnswer old n line text new → LineAnswer old n line told after → text ≢ refused_text NoMemory → told ≢ refused_text NoMemory → IsOne text told new after
+line_one : (old new after : ScriptState) (n : ℕ) (line : Line Command) (text told : List ℕ) → LineAnswer old n line text new → LineAnswer old n line told after → text ≢ refused_text NoMemory → told ≢ refused_text NoMemory → IsOne text told new after
 line_one old new after n Nothing text told first second room had = tells_one old new after _ text told first second
 line_one old new after n Bad text told first second room had = tells_one old new after _ text told first second
 line_one old new after n (Do c) text told first second room had = command_one old new after c text told first second room had

@@ -13,8 +13,8 @@ use Rattle.lv_edits.specs.declared.receipt.Receipt.TheVariants.{Pushed, Popped, 
 use Rattle.lv_edits.specs.Ranges.{range_refusal}
 use Rattle.lv_lines.specs.declared.command.Command.{Command}
 use Rattle.lv_lines.specs.declared.command.Command.TheVariants as command
-use Rattle.lv_lines.specs.declared.command.Line.{Line}
-use Rattle.lv_lines.specs.declared.command.Line.TheVariants.{Nothing, Bad, Do}
+use Rattle.lv_lines.specs.declared.lines.Line.{Line}
+use Rattle.lv_lines.specs.declared.lines.Line.TheVariants.{Nothing, Bad, Do}
 use Rattle.lv_lines.specs.declared.fault.Fault.{Fault}
 use Rattle.lv_lines.specs.Grammar.{line_of}
 use Rattle.lv_lines.specs.Input.{lines_of, whole_lines_of}
@@ -38,7 +38,7 @@ abbrev IsNoWant : List ℕ → Type 0
 IsNoWant line = reply_line line ≢ refused_text NoMemory
 
 -- what met want of memory was refused so
-want_text : (old new : Plain) (line : Line) (text : List ℕ) → MeetsWant old line text new → text ≡ refused_text NoMemory
+want_text : (old new : Plain) (line : Line Command) (text : List ℕ) → MeetsWant old line text new → text ≡ refused_text NoMemory
 want_text old new Nothing text want = absurd want
 want_text old new Bad text want = absurd want
 want_text old new (Do c) text want = want.2
@@ -122,7 +122,7 @@ decided_line told text None one is = (told, one, is)
 decided_line told text (Some refusal) one is = let line = refused_line refusal in (line.0, line.1, is ∙ line.2)
 
 -- a line takes the first answer, or none
-takes_line : (s : Plain) (told : List ℕ) (n : ℕ) (line : Line) (commands : List Command) (text : List ℕ) → IsOneLine told → text ≡ plain_reply told s n line
+takes_line : (s : Plain) (told : List ℕ) (n : ℕ) (line : Line Command) (commands : List Command) (text : List ℕ) → IsOneLine told → text ≡ plain_reply told s n line
     → Takes (plain_answers s (asked_by line ++ commands)) n line text (plain_answers (plain_after s line) commands)
 takes_line s told n Nothing commands text one is = (is, refl)
 takes_line s told n Bad commands text one is = (is, refl)
@@ -180,13 +180,13 @@ refusal_keeps s told (command.Unwatch name) refusal None is = let first : 114 �
 refusal_keeps s told (command.Answer name) refusal None is = refl
 
 -- what met want of memory changed nothing
-want_keeps : (old new : Plain) (line : Line) (text : List ℕ) → MeetsWant old line text new → new ≡ old
+want_keeps : (old new : Plain) (line : Line Command) (text : List ℕ) → MeetsWant old line text new → new ≡ old
 want_keeps old new Nothing text want = absurd want
 want_keeps old new Bad text want = absurd want
 want_keeps old new (Do c) text want = want.3
 
 -- so of a line
-line_keeps : (s : Plain) (told : List ℕ) (n : ℕ) (line : Line) (refusal : Refusal) → refused_text refusal ≡ plain_reply told s n line → plain_after s line ≡ s
+line_keeps : (s : Plain) (told : List ℕ) (n : ℕ) (line : Line Command) (refusal : Refusal) → refused_text refusal ≡ plain_reply told s n line → plain_after s line ≡ s
 line_keeps s told n Nothing refusal is = refl
 line_keeps s told n Bad refusal is = refl
 line_keeps s told n (Do c) refusal is = refusal_keeps s told c refusal (refusal_of s c) is
@@ -240,7 +240,7 @@ decided_grows s next None grows = grows
 decided_grows s next (Some refusal) grows = grows_none s
 
 -- a line
-line_grows : (s : Plain) (line : Line) → Grows s (plain_after s line)
+line_grows : (s : Plain) (line : Line Command) → Grows s (plain_after s line)
 line_grows s Nothing = grows_none s
 line_grows s Bad = grows_none s
 line_grows s (Do c) = decided_grows s (after s c) (refusal_of s c) (command_grows s c)

@@ -25,8 +25,8 @@ use Rattle.lv_standing.specs.declared.notes.Note.{Note}
 use Rattle.lv_standing.specs.Queries.{AreNotes, Query, query_of, watch_answer, without_query}
 use Rattle.lv_lines.specs.declared.command.Command.{Command}
 use Rattle.lv_lines.specs.declared.command.Command.TheVariants as command
-use Rattle.lv_lines.specs.declared.command.Line.{Line}
-use Rattle.lv_lines.specs.declared.command.Line.TheVariants.{Nothing, Bad, Do}
+use Rattle.lv_lines.specs.declared.lines.Line.{Line}
+use Rattle.lv_lines.specs.declared.lines.Line.TheVariants.{Nothing, Bad, Do}
 use Rattle.lv_lines.specs.declared.fault.Fault.{Fault}
 use Rattle.lv_lines.specs.Grammar.{line_of}
 use Rattle.lv_lines.specs.Replies.{Conversed}
@@ -98,7 +98,7 @@ has_edits old new edits limits are queries = λ i. record { limits = limits i; e
 -- ---- one line
 
 -- one line, by what it says
-abbrev PlainLine : Plain → ℕ → Line → List ℕ → Plain → Type 0
+abbrev PlainLine : Plain → ℕ → Line Command → List ℕ → Plain → Type 0
 PlainLine old n line text new =
     (told : List ℕ) × IsOneLine told × (((text ≡ plain_reply told old n line) × (new ≡ plain_after old line)) ⊎ MeetsWant old line text new)
 
@@ -222,7 +222,7 @@ command_plain old new n (command.Unwatch name) text t = unwatch_plain old new n 
 command_plain old new n (command.Answer name) text t = named_plain old new n name text (query_of old.queries name) refl t
 
 -- a line
-line_plain : (old new : ScriptState) (n : ℕ) (line : Line) (text : List ℕ) → LineAnswer old n line text new → PlainLine (plain_of old) n line text (plain_of new)
+line_plain : (old new : ScriptState) (n : ℕ) (line : Line Command) (text : List ℕ) → LineAnswer old n line text new → PlainLine (plain_of old) n line text (plain_of new)
 line_plain old new n Nothing text t = ([], refl, inl (t.0, has_queries old new old.queries t.1))
 line_plain old new n Bad text t = ([], refl, inl (t.0, has_queries old new old.queries t.1))
 line_plain old new n (Do c) text t = command_plain old new n c text t

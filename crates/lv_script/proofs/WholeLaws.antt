@@ -17,8 +17,8 @@ use Rattle.lv_edits.specs.Ranges.{slice_of}
 use Rattle.lv_standing.specs.Queries.{Query, query_of, watch_answer}
 use Rattle.lv_lines.specs.declared.command.Command.{Command}
 use Rattle.lv_lines.specs.declared.command.Command.TheVariants as command
-use Rattle.lv_lines.specs.declared.command.Line.{Line}
-use Rattle.lv_lines.specs.declared.command.Line.TheVariants.{Nothing, Bad, Do}
+use Rattle.lv_lines.specs.declared.lines.Line.{Line}
+use Rattle.lv_lines.specs.declared.lines.Line.TheVariants.{Nothing, Bad, Do}
 use Rattle.lv_lines.specs.Grammar.{kind_name}
 use Rattle.lv_lines.specs.Input.{unended_of}
 use Rattle.lv_lines.specs.Texts.{element_text, named_text, note_text, receipt_text, refused_text, reply_line, scan_head, scan_name, scan_text, scanned_text, shown_text}
@@ -104,7 +104,7 @@ whole_decided text None whole = whole
 whole_decided text (Some refusal) whole = whole_refused refusal
 
 -- the reply to a line
-pub whole_reply : (told : List ℕ) (s : Plain) (n : ℕ) (line : Line) → IsWhole (plain_reply told s n line)
+pub whole_reply : (told : List ℕ) (s : Plain) (n : ℕ) (line : Line Command) → IsWhole (plain_reply told s n line)
 whole_reply told s n Nothing = refl
 whole_reply told s n Bad = whole_line (codes "bad " ++ decimal n)
 whole_reply told s n (Do c) = whole_decided (reply_of told s c) (refusal_of s c) (whole_command told s c)

@@ -8,8 +8,8 @@ use Rattle.lv_standing.specs.Queries.{Query}
 use Rattle.lv_lines.specs.declared.command.Command.{Command}
 use Rattle.lv_lines.specs.declared.command.Command.TheVariants as command
 use Rattle.lv_lines.specs.declared.command.Command.TheVariants.{Settle, Cost, Claim, Deliver, Forget, Watch}
-use Rattle.lv_lines.specs.declared.command.Line.{Line}
-use Rattle.lv_lines.specs.declared.command.Line.TheVariants.{Nothing, Bad, Do}
+use Rattle.lv_lines.specs.declared.lines.Line.{Line}
+use Rattle.lv_lines.specs.declared.lines.Line.TheVariants.{Nothing, Bad, Do}
 use Rattle.lv_lines.specs.Grammar.{line_of}
 use Rattle.lv_lines.specs.Input.{has_end, lines_of}
 use Rattle.lv_lines.specs.Texts.{bad_text, refused_text, reply_line}
@@ -28,7 +28,7 @@ may_want (Watch name kind lo hi) = true
 may_want _ = false
 
 -- a command that nothing else refuses was refused for want of memory, and nothing has changed
-abbrev pub MeetsWant : Plain → Line → List ℕ → Plain → Type 0
+abbrev pub MeetsWant : Plain → Line Command → List ℕ → Plain → Type 0
 MeetsWant old (Do c) text new = IsTrue (may_want c) × (refusal_of old c ≡ None) × (text ≡ refused_text NoMemory) × (new ≡ old)
 MeetsWant old _ text new = ⊥
 
@@ -71,7 +71,7 @@ asks Forget = false
 asks _ = true
 
 -- the edit or query that a line is, if it is one
-abbrev pub asked_by : Line → List Command
+abbrev pub asked_by : Line Command → List Command
 asked_by (Do c) = if asks c then c ∷ [] else []
 asked_by _ = []
 
@@ -86,7 +86,7 @@ plain_answers s (c ∷ commands) = plain_reply [] s 0 (Do c) ∷ plain_answers (
 
 -- of the answers that are still to come, in order, an edit or query takes the first. A line that says nothing is answered by nothing, a bad
 -- one by its number, every other by one line
-abbrev pub Takes : List (List ℕ) → ℕ → Line → List ℕ → List (List ℕ) → Type 0
+abbrev pub Takes : List (List ℕ) → ℕ → Line Command → List ℕ → List (List ℕ) → Type 0
 Takes old n Nothing text new = (text ≡ []) × (new ≡ old)
 Takes old n Bad text new = (text ≡ bad_text n) × (new ≡ old)
 Takes old n (Do c) text new =

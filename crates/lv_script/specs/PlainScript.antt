@@ -20,8 +20,8 @@ use Rattle.lv_standing.specs.Queries.{Query, query_of, watch_answer, watch_refus
 use Rattle.lv_lines.specs.declared.command.Command.{Command}
 use Rattle.lv_lines.specs.declared.command.Command.TheVariants as command
 use Rattle.lv_lines.specs.declared.command.Command.TheVariants.{Settle, Get, Size, Capacity, Reduce, Cost, Scan, Claim, Deliver, Forget, Watch, Unwatch, Answer}
-use Rattle.lv_lines.specs.declared.command.Line.{Line}
-use Rattle.lv_lines.specs.declared.command.Line.TheVariants.{Nothing, Bad, Do}
+use Rattle.lv_lines.specs.declared.lines.Line.{Line}
+use Rattle.lv_lines.specs.declared.lines.Line.TheVariants.{Nothing, Bad, Do}
 use Rattle.lv_lines.specs.Grammar.{line_of}
 use Rattle.lv_lines.specs.Texts.{answer_text, bad_text, capacity_text, element_text, forgotten_text, named_text, note_text, receipt_text, refused_text, reply_line, scan_text, settled_text, size_text, unwatched_text, watching_text}
 
@@ -99,13 +99,13 @@ after s _ = s
 -- ---- what lines are answered
 
 -- what line n is answered: nothing where it says nothing, its number where it says nothing known; a command by its refusal, or its reply
-abbrev pub plain_reply : List ℕ → Plain → ℕ → Line → List ℕ
+abbrev pub plain_reply : List ℕ → Plain → ℕ → Line Command → List ℕ
 plain_reply told s n Nothing = []
 plain_reply told s n Bad = bad_text n
 plain_reply told s n (Do c) = option_map_or refused_text (refusal_of s c) (reply_of told s c)
 
 -- what is kept after a line. Whatever is refused changes nothing
-abbrev pub plain_after : Plain → Line → Plain
+abbrev pub plain_after : Plain → Line Command → Plain
 plain_after s (Do c) = option_map_or (λ refusal. s) (refusal_of s c) (after s c)
 plain_after s _ = s
 

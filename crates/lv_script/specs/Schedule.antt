@@ -1,5 +1,5 @@
 -- Schedules of the lock-free machine: what each line says, and what it is answered.
-use Rattle.std.specs.Prelude.{◌≡◌, ℕ, if◌then◌else◌, List, [], ◌∷◌, ◌++◌, length, nat_lt, codes, decimal, Option, Some, None, option_map, unwrap_or}
+use Rattle.std.specs.Prelude.{◌≡◌, ℕ, if◌then◌else◌, List, [], ◌∷◌, ◌++◌, codes, decimal, Option, Some, None, option_map, unwrap_or}
 use Rattle.std.specs.Str.{bytes_eq}
 use Rattle.lv_bodies.specs.declared.kinds.Kind.{Kind}
 use Rattle.lv_bodies.specs.declared.kinds.Kind.TheVariants as kind
@@ -20,12 +20,11 @@ use Rattle.lv_machine.specs.declared.outcomes.Said.TheVariants as said
 use Rattle.lv_machine.specs.Machine.{MachineState, block_refreshed, machine_step}
 use Rattle.lv_lines.specs.declared.command.Command.{Command}
 use Rattle.lv_lines.specs.declared.command.Command.TheVariants.{Edit, Get, Size}
-use Rattle.lv_lines.specs.Grammar.{◌>>=◌, bounds_in, command_in, is_comment, lone_number, without_cr}
+use Rattle.lv_lines.specs.declared.lines.Line.{Line}
+use Rattle.lv_lines.specs.declared.lines.Line.TheVariants.{Nothing, Bad, Do}
+use Rattle.lv_lines.specs.Grammar.{◌>>=◌, bounds_in, command_in, line_by, lone_number}
 use Rattle.lv_lines.specs.Numbers.{number_in}
-use Rattle.lv_lines.specs.Words.{words_of}
 use Rattle.lv_lines.specs.Texts.{answer_text, bad_text, fresh_text, receipt_text, refused_text, reply_line, size_text, value_text}
-use Rattle.lv_script.specs.declared.schedule_lines.ScheduleLine.{ScheduleLine}
-use Rattle.lv_script.specs.declared.schedule_lines.ScheduleLine.TheVariants.{Nothing, Bad, Do}
 
 -- ---- what a line says
 
@@ -67,19 +66,9 @@ event_in (verb ∷ words) =
     if bytes_eq verb (codes "call") then called_in words
     else (if bytes_eq verb (codes "step") then option_map event.Step (lone_number words) else None)
 
--- what is not read as an event is bad
-abbrev pub event_or_bad : Option Event → ScheduleLine
-event_or_bad None = Bad
-event_or_bad (Some e) = Do e
-
--- what the words of a line say: nothing where there are none, or behind `#`
-abbrev pub schedule_line_in : List (List ℕ) → ScheduleLine
-schedule_line_in [] = Nothing
-schedule_line_in (word ∷ words) = if is_comment word then Nothing else event_or_bad (event_in (word ∷ words))
-
--- what a line says, given without its LF: a line of more than 120 bytes is bad, whatever they are
-unfoldable pub schedule_line_of : List ℕ → ScheduleLine
-schedule_line_of bytes = if nat_lt 120 (length bytes) then Bad else schedule_line_in (words_of (without_cr bytes))
+-- what a line says, given without its LF
+abbrev pub schedule_line_of : List ℕ → Line Event
+schedule_line_of bytes = line_by event_in bytes
 
 -- ---- what an event is answered
 
@@ -129,13 +118,13 @@ abbrev pub event_text : SumMachine → Event → List ℕ
 event_text m e = outcome_text (actor_of e) (unwrap_or (block_refreshed m (actor_of e)) 0) (sum_step m e).1
 
 -- what a line is answered: one that says nothing by nothing, and one that says nothing known by its number
-abbrev pub line_text : SumMachine → ℕ → ScheduleLine → List ℕ
+abbrev pub line_text : SumMachine → ℕ → Line Event → List ℕ
 line_text m n Nothing = []
 line_text m n Bad = bad_text n
 line_text m n (Do e) = event_text m e
 
 -- the machine after a line
-abbrev pub machine_after : SumMachine → ScheduleLine → SumMachine
+abbrev pub machine_after : SumMachine → Line Event → SumMachine
 machine_after m Nothing = m
 machine_after m Bad = m
 machine_after m (Do e) = (sum_step m e).0

@@ -25,8 +25,8 @@ use Rattle.lv_standing.specs.Queries.{AreNotes, Query, query_of, watch_answer, w
 use Rattle.lv_lines.specs.declared.command.Command.{Command}
 use Rattle.lv_lines.specs.declared.command.Command.TheVariants as command
 use Rattle.lv_lines.specs.declared.command.Command.TheVariants.{Settle, Get, Size, Capacity, Reduce, Cost, Scan, Claim, Deliver, Forget, Watch, Unwatch, Answer}
-use Rattle.lv_lines.specs.declared.command.Line.{Line}
-use Rattle.lv_lines.specs.declared.command.Line.TheVariants.{Nothing, Bad, Do}
+use Rattle.lv_lines.specs.declared.lines.Line.{Line}
+use Rattle.lv_lines.specs.declared.lines.Line.TheVariants.{Nothing, Bad, Do}
 use Rattle.lv_lines.specs.Grammar.{line_of}
 use Rattle.lv_lines.specs.Texts.{accepted_text, answer_text, bad_text, capacity_text, cost_text, element_text, forgotten_text, idle_text, job_text, named_text, note_text, receipt_text, refused_text, scan_text, settled_text, size_text, unwatched_text, watching_text}
 use Rattle.lv_script.specs.PlainScript.{scan_by}
@@ -142,7 +142,7 @@ CommandAnswer old (Unwatch name) text new = TellsUnwatch old name (query_of old.
 CommandAnswer old (Answer name) text new = Tells old (named_answer_text old.seen.edits name (query_of old.queries name)) text new
 
 -- what a line is answered: one that says nothing by nothing, and one that says nothing known by its number
-abbrev pub LineAnswer : ScriptState → ℕ → Line → List ℕ → ScriptState → Type 0
+abbrev pub LineAnswer : ScriptState → ℕ → Line Command → List ℕ → ScriptState → Type 0
 LineAnswer old n Nothing text new = Tells old [] text new
 LineAnswer old n Bad text new = Tells old (bad_text n) text new
 LineAnswer old n (Do command) text new = CommandAnswer old command text new

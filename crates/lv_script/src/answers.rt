@@ -141,7 +141,7 @@ fn put_extent(standing: &Standing, held: &mut Vec<u8>)
     ensures room { KeepsRoom held.old held.new }
 {
     let extent = extent_of(standing.live());
-    put_size(held, extent.size, extent.edit);
+    put_size(held, extent.size.into(), extent.edit.into());
 }
 
 // How many elements fit into the open buckets.
@@ -179,7 +179,7 @@ fn put_reduced(standing: &mut Standing, kind: Kind, lo: u32, hi: u32, held: &mut
     ensures room { KeepsRoom held.old held.new }
 {
     match standing.value(kind, lo, hi) {
-        Ok(answered) => put_answer(held, answered.edit, kind, answered.value),
+        Ok(answered) => put_answer(held, answered.edit.into(), kind, answered.value),
         Err(refusal) => put_refusal(held, refusal),
     }
 }

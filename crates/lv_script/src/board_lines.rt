@@ -6,38 +6,32 @@ ghost use Rattle.lv_script.specs.BoardLine.{board_call_in, board_line_of, own_ra
 use crate::plain_calls::plain_call;
 use lv_bodies::Kind;
 use lv_lines::grammar::{bounds, spells};
-use lv_lines::{is_comment, kind_name, next_word, without_cr};
+use lv_lines::{Line, LineGrammar, kind_name, next_word, read_line_by};
 use lv_machine::Call;
-
-/// What a line of a board's session is.
-#[derive(Clone, Copy)]
-pub enum BoardLine {
-    /// Blank, or a comment. It has no reply.
-    Nothing,
-    /// No line of such a session, or too long.
-    Bad,
-    /// A call.
-    Do(Call),
-}
 
 /// What a line of a session says, on a board that reduces by one kind: a reduction of another kind is bad. The bytes are those of
 /// one line, without the LF at its end.
-#[tactic(auto, unfolding(crate::specs::BoardLine::board_line_of))]
-pub fn read_board_line(kind: Kind, bytes: &[u8]) -> BoardLine
+pub fn read_board_line(kind: Kind, bytes: &[u8]) -> Line<Call>
     ensures { result ≡ board_line_of kind bytes.now }
 {
-    if bytes.len() > 120 {
-        return BoardLine::Bad;
-    }
-    let Some((verb, rest)) = next_word(without_cr(bytes)) else {
-        return BoardLine::Nothing;
-    };
-    if is_comment(verb) {
-        return BoardLine::Nothing;
-    }
-    match board_call(kind, verb, rest) {
-        Some(call) => BoardLine::Do(call),
-        None => BoardLine::Bad,
+    read_line_by(&BoardGrammar { kind }, bytes)
+}
+
+// How the words of a line are read on a board that reduces by one kind.
+#[derive(Clone, Copy)]
+struct BoardGrammar {
+    kind: Kind,
+}
+
+impl LineGrammar for BoardGrammar {
+    type Command = Call;
+
+    ghost use Rattle.lv_script.specs.BoardLine.{board_call_in};
+
+    ghost command_in = { λ g. board_call_in g.kind };
+
+    fn command(&self, verb: &[u8], words: &[u8]) -> Option<Call> {
+        board_call(self.kind, verb, words)
     }
 }
 

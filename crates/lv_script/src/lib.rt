@@ -27,7 +27,7 @@ mod schedules;
 mod scripts;
 mod watch_replies;
 
-pub use board_lines::{BoardLine, read_board_line};
+pub use board_lines::read_board_line;
 pub use laws::{
     a_front_of_the_input_gives_a_front_of_the_text, a_front_of_the_input_has_its_first_lines,
     a_front_of_the_lines_gives_a_front_of_the_text, a_script_has_one_text,

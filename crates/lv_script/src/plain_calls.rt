@@ -4,8 +4,8 @@ ghost use Rattle.lv_lines.specs.Words.{words_of};
 ghost use Rattle.lv_script.specs.Schedule.{call_of, plain_call_in};
 
 use lv_edits::Edit;
-use lv_lines::Command;
-use lv_lines::grammar::{command, lone_number, spells};
+use lv_lines::grammar::{lone_number, spells};
+use lv_lines::{Command, LineGrammar, ScriptGrammar};
 use lv_machine::Call;
 
 /// The call that a first word and the words after it ask for beside reductions.
@@ -16,7 +16,7 @@ pub(crate) fn plain_call(verb: &[u8], words: &[u8]) -> Option<Call>
     if spells(verb, "refresh") {
         return lone_number(words).map(Call::Refresh);
     }
-    call_of(command(verb, words)?)
+    call_of(ScriptGrammar.command(verb, words)?)
 }
 
 // The call that a command of scripts asks for, where the lock-free form knows it.

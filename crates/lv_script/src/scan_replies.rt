@@ -5,7 +5,7 @@ ghost use Rattle.lv_lines.specs.Output.{HasRoom, KeepsRoom, Puts, PutsFront, Sam
 ghost use Rattle.lv_lines.specs.Texts.{scan_head, scan_text, scanned_text, values_text};
 
 use lv_bodies::{Kind, Shown, SixSummary, face};
-use lv_lines::{Fault, LINE, Outbox, kind_name, put, put_number, put_shown, scan_name};
+use lv_lines::{Fault, LINE, Outbox, put, put_scan_head, put_shown};
 use std::io::Write;
 
 /// The scan of a kind at an edit, whose values are those summaries. It may be longer than what is held: what is held is
@@ -47,26 +47,8 @@ pub fn put_head<W: Write>(
     ensures room { KeepsRoom outbox.old.held.now outbox.new.held.now }
 {
     outbox.make_room(LINE)?;
-    put_head_line(outbox.held, edit, inclusive, kind, count);
+    put_scan_head(outbox.held, edit.into(), inclusive, kind, count);
     Ok(())
-}
-
-// How many values a scan has.
-fn put_head_line(held: &mut Vec<u8>, edit: u32, inclusive: bool, kind: Kind, count: u64)
-    requires { HasRoom held.old LINE }
-    ensures text { held.new.items ≡ held.old.items ++ scan_head edit inclusive kind count }
-    ensures len { vec_len held.new ≤ vec_len held.old + LINE }
-    ensures room { KeepsRoom held.old held.new }
-{
-    put(held, b"at ");
-    put_number(held, edit.into());
-    put(held, b" ");
-    put(held, scan_name(inclusive).as_bytes());
-    put(held, b" ");
-    put(held, kind_name(kind).as_bytes());
-    put(held, b" ");
-    put_number(held, count);
-    put(held, b"\n");
 }
 
 /// The values of a scan, each on a line of its own for which room is made as the line comes.

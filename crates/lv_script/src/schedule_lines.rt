@@ -5,37 +5,29 @@ ghost use Rattle.lv_script.specs.Schedule.{call_in, called_in, event_in, schedul
 
 use crate::plain_calls::plain_call;
 use lv_lines::grammar::{bounds, lone_number, spells};
-use lv_lines::{is_comment, next_word, number, without_cr};
+use lv_lines::{Line, LineGrammar, next_word, number, read_line_by};
 use lv_machine::{Call, Event};
 
-/// What a line of a schedule is.
-#[derive(Clone, Copy)]
-pub enum ScheduleLine {
-    /// Blank, or a comment. It has no reply.
-    Nothing,
-    /// No line of a schedule, or too long.
-    Bad,
-    /// A call of an actor, or its next step.
-    Do(Event),
-}
-
-/// What a line of a schedule says. The bytes are those of one line, without the LF at its end.
-#[tactic(auto, unfolding(crate::specs::Schedule::schedule_line_of))]
-pub fn read_schedule_line(bytes: &[u8]) -> ScheduleLine
+/// What a line of a schedule says: a call of an actor, or its next step. The bytes are those of one line, without the LF at its end.
+pub fn read_schedule_line(bytes: &[u8]) -> Line<Event>
     ensures { result ≡ schedule_line_of bytes.now }
 {
-    if bytes.len() > 120 {
-        return ScheduleLine::Bad;
-    }
-    let Some((verb, rest)) = next_word(without_cr(bytes)) else {
-        return ScheduleLine::Nothing;
-    };
-    if is_comment(verb) {
-        return ScheduleLine::Nothing;
-    }
-    match event(verb, rest) {
-        Some(event) => ScheduleLine::Do(event),
-        None => ScheduleLine::Bad,
+    read_line_by(&ScheduleGrammar, bytes)
+}
+
+// How the words of a line of a schedule are read.
+#[derive(Clone, Copy)]
+struct ScheduleGrammar;
+
+impl LineGrammar for ScheduleGrammar {
+    type Command = Event;
+
+    ghost use Rattle.lv_script.specs.Schedule.{event_in};
+
+    ghost command_in = { λ _. event_in };
+
+    fn command(&self, verb: &[u8], words: &[u8]) -> Option<Event> {
+        event(verb, words)
     }
 }
 

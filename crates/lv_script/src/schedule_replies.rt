@@ -5,7 +5,7 @@ ghost use Rattle.lv_script.specs.Schedule.{outcome_text, said_shown, said_text};
 
 use crate::refresh_replies::put_fresh;
 use lv_bodies::{Kind, Shown, Single, Sum};
-use lv_lines::{LINE, put, put_answer, put_number, put_receipt, put_refusal, put_size, put_value};
+use lv_lines::{LINE, put, put_answer, put_found, put_number, put_receipt, put_refusal, put_size};
 use lv_machine::{Outcome, Said};
 use lv_reduce::Answer;
 
@@ -66,9 +66,9 @@ pub fn put_said(held: &mut Vec<u8>, kind: Kind, block: u32, said: Said<Shown>)
 {
     match said {
         Said::Did(receipt) => put_receipt(held, receipt),
-        Said::Read(read) => put_value(held, Ok(read.value)),
-        Said::Sized(sized) => put_size(held, sized.size, sized.edit),
-        Said::Answered(answer) => put_answer(held, answer.edit, kind, answer.value),
+        Said::Read(read) => put_found(held, read.value),
+        Said::Sized(sized) => put_size(held, sized.size.into(), sized.edit.into()),
+        Said::Answered(answer) => put_answer(held, answer.edit.into(), kind, answer.value),
         Said::Refreshed(refreshed) => put_fresh(held, block, refreshed.version),
         Said::Refused(refusal) => put_refusal(held, refusal),
     }

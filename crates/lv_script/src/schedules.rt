@@ -5,10 +5,10 @@ ghost use Rattle.lv_lines.specs.Replies.{Conversed};
 ghost use Rattle.lv_script.specs.Played.{Played, PlayedStep};
 ghost use Rattle.lv_script.specs.Schedule.{ScheduleStep, actor_of, event_text, line_text, machine_after, sum_step};
 
-use crate::schedule_lines::{ScheduleLine, read_schedule_line};
+use crate::schedule_lines::read_schedule_line;
 use crate::schedule_replies::{EVENT, put_outcome};
 use lv_bodies::Sum;
-use lv_lines::{Fault, Outbox, Responder, converse, put_bad};
+use lv_lines::{Fault, Line, Outbox, Responder, converse, put_bad};
 use lv_machine::{Event, Machine};
 use std::alloc::Global;
 use std::io::{Read, Write};
@@ -56,16 +56,16 @@ impl Responder for Player<'_> {
 }
 
 // Answers a line.
-fn answer_line(machine: &mut Machine<Sum>, number: u32, line: ScheduleLine, held: &mut Vec<u8>)
+fn answer_line(machine: &mut Machine<Sum>, number: u32, line: Line<Event>, held: &mut Vec<u8>)
     requires { HasRoom held.old EVENT }
     ensures machine { machine.new ≡ machine_after machine.old line }
     ensures text { held.new.items ≡ held.old.items ++ line_text machine.old number line }
     ensures room { KeepsRoom held.old held.new }
 {
     match line {
-        ScheduleLine::Nothing => {}
-        ScheduleLine::Bad => put_bad(held, number),
-        ScheduleLine::Do(event) => answer_event(machine, event, held),
+        Line::Nothing => {}
+        Line::Bad => put_bad(held, number),
+        Line::Do(event) => answer_event(machine, event, held),
     }
 }
 

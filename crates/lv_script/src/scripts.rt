@@ -16,7 +16,7 @@ use crate::answers::answer;
 use crate::watch_replies::ROOM;
 use lv_bodies::Six;
 use lv_geometry::Limits;
-use lv_lines::{Fault, Line, Outbox, Responder, converse, put_bad, read_line};
+use lv_lines::{Command, Fault, Line, Outbox, Responder, converse, put_bad, read_line};
 use lv_live::Issued;
 use lv_standing::{Note, Standing};
 use std::alloc::Global;
@@ -139,7 +139,7 @@ fn answer_line<W: Write>(
     notes: &mut Vec<Note>,
     issued: &mut Issued<Six>,
     number: u32,
-    line: Line,
+    line: Line<Command>,
     outbox: &mut Outbox<'_, W>,
 ) -> Result<(), Fault>
     requires world { IsWorld six_operations standing.old.live issued.old.jobs }

@@ -8,7 +8,7 @@ use Rattle.lv_edits.specs.declared.edit.Edit.{Edit}
 use Rattle.lv_edits.specs.History.{list_of}
 use Rattle.lv_edits.specs.Verdict.{verdict_of}
 use Rattle.lv_lines.specs.declared.command.Command.TheVariants as command
-use Rattle.lv_lines.specs.declared.command.Line.TheVariants.{Do}
+use Rattle.lv_lines.specs.declared.lines.Line.TheVariants.{Do}
 use Rattle.lv_lines.specs.Texts.{shown_text}
 use Rattle.lv_transcript.specs.declared.auditor.Stage.{Stage}
 use Rattle.lv_transcript.specs.declared.auditor.Stage.TheVariants.{Start, Edits, AnswersFollow, End, No, Bad, NoMemory}

@@ -5,7 +5,7 @@ use Rattle.std.proofs.lemmas.Bool.{cond-true}
 use Rattle.std.proofs.lemmas.List.Splits.{slice_split_at}
 use Rattle.lv_edits.specs.declared.edit.Edit.{Edit}
 use Rattle.lv_lines.specs.declared.command.Command.TheVariants as command
-use Rattle.lv_lines.specs.declared.command.Line.TheVariants.{Do}
+use Rattle.lv_lines.specs.declared.lines.Line.TheVariants.{Do}
 use Rattle.lv_lines.specs.Words.{is_space, is_word, words_of}
 use Rattle.lv_lines.specs.Grammar.{line_of, kind_name}
 use Rattle.lv_lines.proofs.PrintedNumbers.{number_in-decimal}

@@ -4,8 +4,9 @@ use Rattle.lv_geometry.specs.declared.refusals.Refusal.{Refusal}
 use Rattle.lv_geometry.specs.declared.refusals.Refusal.TheVariants as refusals
 use Rattle.lv_edits.specs.Verdict.{IsRefusal}
 use Rattle.lv_lines.specs.declared.command.Command.TheVariants.{Watch}
-use Rattle.lv_lines.specs.declared.command.Line.{Line}
-use Rattle.lv_lines.specs.declared.command.Line.TheVariants.{Nothing, Do}
+use Rattle.lv_lines.specs.declared.command.Command.{Command}
+use Rattle.lv_lines.specs.declared.lines.Line.{Line}
+use Rattle.lv_lines.specs.declared.lines.Line.TheVariants.{Nothing, Do}
 use Rattle.lv_lines.specs.declared.fault.Fault.{Fault}
 use Rattle.lv_lines.specs.Grammar.{line_of}
 use Rattle.lv_lines.specs.Replies.{Conversed}
@@ -35,13 +36,13 @@ Asks questions n q new =
     ⊎ ((refusal : Refusal) × IsRefusal (question_refusal questions q) refusal × (new ≡ damaged questions n (Some refusal)))
 
 -- line n says this, where no line before it is wrong. One that says nothing changes nothing, and one that is no `watch` is wrong
-abbrev pub Takes : List Question → ℕ → Line → Asked → Type 0
+abbrev pub Takes : List Question → ℕ → Line Command → Asked → Type 0
 Takes questions n Nothing new = new ≡ record { questions = questions; damage = None }
 Takes questions n (Do (Watch name kind lo hi)) new = Asks questions n (record { name = name; kind = kind; lo = lo; hi = hi }) new
 Takes questions n _ new = new ≡ damaged questions n None
 
 -- what stands behind a line that is wrong changes nothing
-abbrev pub TakesUnless : Option damages.Damage → Asked → ℕ → Line → Asked → Type 0
+abbrev pub TakesUnless : Option damages.Damage → Asked → ℕ → Line Command → Asked → Type 0
 TakesUnless (Some damage) old n line new = new ≡ old
 TakesUnless None old n line new = Takes old.questions n line new
 

@@ -71,7 +71,7 @@ impl Responder for Asker {
 
 impl Asker {
     // Takes a line, unless one before it is wrong.
-    fn take(&mut self, number: u32, line: Line)
+    fn take(&mut self, number: u32, line: Line<Command>)
         ensures { TakesUnless self.old.damage (record { questions = self.old.questions.items; damage = self.old.damage }) number line (record { questions = self.new.questions.items; damage = self.new.damage }) }
     {
         if self.damage.is_some() {

@@ -1,6 +1,7 @@
 -- Proof of `run_board_session`: answers the lines of a session by a seat: pushes, pops, writes, reads, sizes.
 use Rattle.std.proofs.Common.{◌∙◌}
-use Rattle.lv_script.specs.declared.board_lines.BoardLine.{BoardLine}
+use Rattle.lv_machine.specs.declared.events.Call.{Call}
+use Rattle.lv_lines.specs.declared.lines.Line.{Line}
 use Rattle.lv_board.specs.Answerer.{IsAnswered}
 use Rattle.lv_board.specs.Rule.{terms_of}
 use Rattle.lv_board.proofs.Opens.{are_terms}
@@ -15,7 +16,7 @@ hold-requires-clause-ready g c κs within s n line held stays room = ∣ (λ p q
 
 pub hold-requires-clause-right : goal.hold-requires-clause-right
 hold-requires-clause-right g c κs within s n line held u left done =
-    rw c.requires.here.terms (of_call (λ s n line held u left. BoardLine × IsAnswered g.B.BoardBody.folding g.B.Body.operations g.B.Single.the_kind g.B.Single.shown_as c.args.board.now.terms s n line held u left) s n line held u left done).1
+    rw c.requires.here.terms (of_call (λ s n line held u left. Line Call × IsAnswered g.B.BoardBody.folding g.B.Body.operations g.B.Single.the_kind g.B.Single.shown_as c.args.board.now.terms s n line held u left) s n line held u left done).1
 
 pub returns-clause-conversed : goal.returns-clause-conversed
 returns-clause-conversed g c = rw c.requires.here.terms at c.hold.ensures.conversed

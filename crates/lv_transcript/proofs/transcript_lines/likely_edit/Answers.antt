@@ -2,20 +2,20 @@
 use Rattle.std.proofs.Common.{◌≡◌, inl, inr, sym, ◌∙◌}
 use Rattle.lv_lines.specs.declared.command.Command.{Command}
 use Rattle.lv_lines.specs.declared.command.Command.TheVariants as commands
-use Rattle.lv_lines.specs.declared.command.Line.{Line}
-use Rattle.lv_lines.specs.declared.command.Line.TheVariants.{Nothing, Bad, Do}
+use Rattle.lv_lines.specs.declared.lines.Line.{Line}
+use Rattle.lv_lines.specs.declared.lines.Line.TheVariants.{Nothing, Bad, Do}
 use Rattle.lv_transcript.proofs.ReadTranscripts.{line_of-edit_line}
 use Rattle.lv_transcript.proofs.transcript_lines.likely_edit.Goals as goal
 
 -- two readings of one line say the same
-same_command : (line : Line) (one other : Command) → line ≡ Do one → line ≡ Do other → one ≡ other
+same_command : (line : Line Command) (one other : Command) → line ≡ Do one → line ≡ Do other → one ≡ other
 same_command line one other is as' = cc
 
 -- a line that says something says no nothing, and is not bad
-not_nothing : (line : Line) (command : Command) → line ≡ Nothing → line ≡ Do command → ⊥
+not_nothing : (line : Line Command) (command : Command) → line ≡ Nothing → line ≡ Do command → ⊥
 not_nothing line command is as' = absurd cc
 
-not_bad : (line : Line) (command : Command) → line ≡ Bad → line ≡ Do command → ⊥
+not_bad : (line : Line Command) (command : Command) → line ≡ Bad → line ≡ Do command → ⊥
 not_bad line command is as' = absurd cc
 
 pub returns-in-Do : goal.returns-in-Do
