@@ -13,9 +13,10 @@ use Rattle.lv_vector.specs.Shown.{Shown}
 use Rattle.lv_vector.specs.Edit.{Edit}
 use Rattle.lv_vector.specs.History.{History}
 use Rattle.lv_vector.specs.Note.{Note}
-use Rattle.lv_vector.specs.Question.{Question}
+use Rattle.lv_vector.specs.Query.{Query}
 use Rattle.lv_vector.specs.ToldType.{Told}
-use Rattle.lv_vector.specs.Notes.{AreNotesOf, HasTold, SubscriberState, answer_to}
+use Rattle.lv_vector.specs.Queries.{watch_answer}
+use Rattle.lv_vector.specs.Notes.{AreNotesOf, HasTold, SubscriberState}
 use Rattle.lv_vector.specs.Hub.{IsVector}
 use Rattle.alerts.specs.declared.running.Report.{Report}
 use Rattle.alerts.specs.Alerts.{IsNoteOf, IsTrueOf, TellsOf, edits_of, told_by, told_from, told_last}
@@ -23,16 +24,16 @@ use Rattle.alerts.specs.Followed.{Follows, KeepsFollowing}
 use Rattle.alerts.proofs.Beginnings.{prefix_length, prefix_self, prefix_trans, prefix_whole, rising_push}
 
 -- the names of questions
-abbrev pub names : List Question → List (List ℕ)
+abbrev pub names : List Query → List (List ℕ)
 names questions = map (λ q. q.name) questions
 
 -- what was told last by some tellings and one more
-told_more : (told : List Told) (t : Told) (q : Question) (before : Shown) → told_from (told ++ t ∷ []) q before ≡ told_by t.notes.items q (told_from told q before)
+told_more : (told : List Told) (t : Told) (q : Query) (before : Shown) → told_from (told ++ t ∷ []) q before ≡ told_by t.notes.items q (told_from told q before)
 told_more [] t q before = refl
 told_more (u ∷ told) t q before = told_more told t q (told_by u.notes.items q before)
 
 -- notes of other questions tell nothing of this one
-elsewhere : (q : Question) (before : Shown) (qs : List Question) (told values : List Shown) (notes : List Note) → AllByRecursion (λ name. bytes_eq q.name name ≡ false) (names qs) → AreNotesOf qs told values notes → told_by notes q before ≡ before
+elsewhere : (q : Query) (before : Shown) (qs : List Query) (told values : List Shown) (notes : List Note) → AllByRecursion (λ name. bytes_eq q.name name ≡ false) (names qs) → AreNotesOf qs told values notes → told_by notes q before ≡ before
 elsewhere q before [] told values notes apart none = ap (λ ns. told_by ns q before) none
 elsewhere q before (p ∷ qs) [] values notes apart none = ap (λ ns. told_by ns q before) none
 elsewhere q before (p ∷ qs) (b ∷ told) [] notes apart none = ap (λ ns. told_by ns q before) none
@@ -43,7 +44,7 @@ elsewhere q before (p ∷ qs) (b ∷ told) (v ∷ values) notes apart (inr note)
     ∙ elsewhere q before qs told values note.1 apart.1 note.3
 
 -- a note of another question before theirs changes nothing
-behind : (p : Question) (v : Shown) (rest : List Note) (f g : Question → Shown) (qs : List Question) → AllByRecursion (λ name. bytes_eq p.name name ≡ false) (names qs) → AllByRecursion (λ q. told_by rest q (f q) ≡ g q) qs
+behind : (p : Query) (v : Shown) (rest : List Note) (f g : Query → Shown) (qs : List Query) → AllByRecursion (λ name. bytes_eq p.name name ≡ false) (names qs) → AllByRecursion (λ q. told_by rest q (f q) ≡ g q) qs
     → AllByRecursion (λ q. told_by (record { name = p.name; value = v } ∷ rest) q (f q) ≡ g q) qs
 behind p v rest f g [] apart told = tt
 behind p v rest f g (q ∷ qs) apart told = (
@@ -52,7 +53,7 @@ behind p v rest f g (q ∷ qs) apart told = (
 )
 
 -- by the notes of values each question is told its value
-notes_tell : (f g : Question → Shown) (qs : List Question) (notes : List Note) → IsDistinct bytes_eq (names qs) → AreNotesOf qs (map f qs) (map g qs) notes → AllByRecursion (λ q. told_by notes q (f q) ≡ g q) qs
+notes_tell : (f g : Query → Shown) (qs : List Query) (notes : List Note) → IsDistinct bytes_eq (names qs) → AreNotesOf qs (map f qs) (map g qs) notes → AllByRecursion (λ q. told_by notes q (f q) ≡ g q) qs
 unfolding IsDistinct
 notes_tell f g [] notes apart none = tt
 notes_tell f g (p ∷ qs) notes apart (inl same) = (
@@ -66,7 +67,7 @@ notes_tell f g (p ∷ qs) notes apart (inr note) =
     )
 
 -- they are notes of the questions
-notes_true : (edits : List Edit) (all : List Question) (f : Question → Shown) (qs : List Question) (notes : List Note) → AllByRecursion (Contains all) qs → AreNotesOf qs (map f qs) (map (answer_to edits) qs) notes → AllByRecursion (IsNoteOf edits all) notes
+notes_true : (edits : List Edit) (all : List Query) (f : Query → Shown) (qs : List Query) (notes : List Note) → AllByRecursion (Contains all) qs → AreNotesOf qs (map f qs) (map (watch_answer edits) qs) notes → AllByRecursion (IsNoteOf edits all) notes
 notes_true edits all f [] notes asked none = subst (AllByRecursion (IsNoteOf edits all)) (sym none) tt
 notes_true edits all f (p ∷ qs) notes asked (inl same) = notes_true edits all f qs notes asked.1 same.1
 notes_true edits all f (p ∷ qs) notes asked (inr note) =
@@ -76,19 +77,19 @@ notes_true edits all f (p ∷ qs) notes asked (inr note) =
     )
 
 -- where no value is another, there are none
-none_new : (f : Question → Shown) (qs : List Question) (notes : List Note) → AreNotesOf qs (map f qs) (map f qs) notes → notes ≡ []
+none_new : (f : Query → Shown) (qs : List Query) (notes : List Note) → AreNotesOf qs (map f qs) (map f qs) notes → notes ≡ []
 none_new f [] notes none = none
 none_new f (p ∷ qs) notes (inl same) = none_new f qs notes same.1
 none_new f (p ∷ qs) notes (inr note) = absurd (note.0 refl)
 
 -- a telling of the edits that there are now, after some
-module _ (qs : List Question) (at now : List Edit) (begins : IsPrefix at now) (told : List Told) (t : Told) (edit : t.edit ≡ length now) (notes : AreNotesOf qs (map (answer_to at) qs) (map (answer_to now) qs) t.notes.items) where
+module _ (qs : List Query) (at now : List Edit) (begins : IsPrefix at now) (told : List Told) (t : Told) (edit : t.edit ≡ length now) (notes : AreNotesOf qs (map (watch_answer at) qs) (map (watch_answer now) qs) t.notes.items) where
   true_now : IsTrueOf now qs t
   true_now = record {
     first = now;
     begins = prefix_self now;
     edit = edit;
-    notes = All-from_recursion (IsNoteOf now qs) t.notes.items (notes_true now qs (answer_to at) qs t.notes.items (recursion_from_All (Contains qs) qs (λ k d inside. Contains-get_or qs k d inside)) notes);
+    notes = All-from_recursion (IsNoteOf now qs) t.notes.items (notes_true now qs (watch_answer at) qs t.notes.items (recursion_from_All (Contains qs) qs (λ k d inside. Contains-get_or qs k d inside)) notes);
   }
 
   -- what was told before is true still, and so is this
@@ -97,12 +98,12 @@ module _ (qs : List Question) (at now : List Edit) (begins : IsPrefix at now) (t
       All-push (IsTrueOf now qs) told t (All-weaker (IsTrueOf at qs) (IsTrueOf now qs) (λ u is. record { first = is.first; begins = prefix_trans is.first at now is.begins begins; edit = is.edit; notes = is.notes }) told before) true_now
 
   -- each question was told its answer
-  answers_more : IsDistinct bytes_eq (names qs) → All (λ q. told_last told q ≡ answer_to at q) qs → All (λ q. told_last (told ++ t ∷ []) q ≡ answer_to now q) qs
+  answers_more : IsDistinct bytes_eq (names qs) → All (λ q. told_last told q ≡ watch_answer at q) qs → All (λ q. told_last (told ++ t ∷ []) q ≡ watch_answer now q) qs
   answers_more apart answers k d inside =
       let q = get_or qs k d in
-      told_more told t q (answer_to [] q)
+      told_more told t q (watch_answer [] q)
       ∙ ap (told_by t.notes.items q) (answers k d inside)
-      ∙ All-from_recursion (λ p. told_by t.notes.items p (answer_to at p) ≡ answer_to now p) qs (notes_tell (answer_to at) (answer_to now) qs t.notes.items apart notes) k d inside
+      ∙ All-from_recursion (λ p. told_by t.notes.items p (watch_answer at p) ≡ watch_answer now p) qs (notes_tell (watch_answer at) (watch_answer now) qs t.notes.items apart notes) k d inside
 
   -- the edits rise yet, where this one is later
   rising_more : length at < t.edit → All (IsTrueOf at qs) told → IsStrictlyIncreasing (edits_of told) → IsStrictlyIncreasing (edits_of (told ++ t ∷ []))
@@ -111,13 +112,13 @@ module _ (qs : List Question) (at now : List Edit) (begins : IsPrefix at now) (t
       (rising_push (edits_of told) t.edit rising (All-map (λ e. e < t.edit) (λ u. u.edit) told (λ k d inside. let is = before k d inside in omega (arith, is.edit, prefix_length is.first at is.begins, later))))
 
 -- a subscriber that follows is told more
-pub tells_more : (qs : List Question) (limits : Bounds) (old new : SubscriberState) (told : List Told) (t : Told) → HasTold limits old new t → Follows qs old.share.seen old.questions old.told told → Follows qs new.share.seen new.questions new.told (told ++ t ∷ [])
+pub tells_more : (qs : List Query) (limits : Bounds) (old new : SubscriberState) (told : List Told) (t : Told) → HasTold limits old new t → Follows qs old.share.seen old.questions old.told told → Follows qs new.share.seen new.questions new.told (told ++ t ∷ [])
 tells_more qs limits old new told t has is =
     let now = new.share.seen in
     let begins = prefix_trans is.at old.share.seen now is.begins has.seen in
-    let values : new.told ≡ map (answer_to now) qs = has.answers ∙ ap (map (answer_to now)) is.watched_are in
-    let notes : AreNotesOf qs (map (answer_to is.at) qs) (map (answer_to now) qs) t.notes.items =
-    subst (λ vs. AreNotesOf qs (map (answer_to is.at) qs) vs t.notes.items) values
+    let values : new.told ≡ map (watch_answer now) qs = has.answers ∙ ap (map (watch_answer now)) is.watched_are in
+    let notes : AreNotesOf qs (map (watch_answer is.at) qs) (map (watch_answer now) qs) t.notes.items =
+    subst (λ vs. AreNotesOf qs (map (watch_answer is.at) qs) vs t.notes.items) values
     (subst (λ bs. AreNotesOf qs bs new.told t.notes.items) is.values_are (subst (λ ps. AreNotesOf ps old.told new.told t.notes.items) is.watched_are has.notes)) in record {
       at = now;
       begins = prefix_self now;
@@ -149,7 +150,7 @@ keeps_trans r s t told more all first second = record {
 }
 
 -- it follows yet where more was seen, whoever holds what it was told
-pub follows_so : (qs : List Question) (s : SubscriberState) (told : List Told) (seen : List Edit) (watched : List Question) (values : List Shown) (all : List Told) → IsPrefix s.share.seen seen → watched ≡ s.questions → values ≡ s.told → all ≡ told → Follows qs s.share.seen s.questions s.told told → Follows qs seen watched values all
+pub follows_so : (qs : List Query) (s : SubscriberState) (told : List Told) (seen : List Edit) (watched : List Query) (values : List Shown) (all : List Told) → IsPrefix s.share.seen seen → watched ≡ s.questions → values ≡ s.told → all ≡ told → Follows qs s.share.seen s.questions s.told told → Follows qs seen watched values all
 follows_so qs s told seen watched values all longer watched_are values_are all_are is =
     subst (Follows qs seen watched values) (sym all_are) record {
       at = is.at;
@@ -163,13 +164,13 @@ follows_so qs s told seen watched values all longer watched_are values_are all_a
     }
 
 -- what is told at the end
-pub tells_last : (qs : List Question) (limits : Bounds) (seen : List Edit) (watched : List Question) (values : List Shown) (history : History) (r : Report) → Follows qs seen watched values r.told.items → IsVector limits history → IsPrefix seen history.journal
-    → r.last.edit ≡ length history.journal → AreNotesOf watched values (map (answer_to history.journal) watched) r.last.notes.items → length history.journal ≡ r.accepted → TellsOf limits qs r
+pub tells_last : (qs : List Query) (limits : Bounds) (seen : List Edit) (watched : List Query) (values : List Shown) (history : History) (r : Report) → Follows qs seen watched values r.told.items → IsVector limits history → IsPrefix seen history.journal
+    → r.last.edit ≡ length history.journal → AreNotesOf watched values (map (watch_answer history.journal) watched) r.last.notes.items → length history.journal ≡ r.accepted → TellsOf limits qs r
 tells_last qs limits seen watched values history r is vector seen_so edit last counted =
     let now = history.journal in
     let begins = prefix_trans is.at seen now is.begins seen_so in
-    let notes : AreNotesOf qs (map (answer_to is.at) qs) (map (answer_to now) qs) r.last.notes.items =
-    subst (λ bs. AreNotesOf qs bs (map (answer_to now) qs) r.last.notes.items) is.values_are (subst (λ ps. AreNotesOf ps values (map (answer_to now) ps) r.last.notes.items) is.watched_are last) in record {
+    let notes : AreNotesOf qs (map (watch_answer is.at) qs) (map (watch_answer now) qs) r.last.notes.items =
+    subst (λ bs. AreNotesOf qs bs (map (watch_answer now) qs) r.last.notes.items) is.values_are (subst (λ ps. AreNotesOf ps values (map (watch_answer now) ps) r.last.notes.items) is.watched_are last) in record {
       history = history;
       vector = vector;
       told = true_more qs is.at now begins r.told.items r.last edit notes is.true_told;
@@ -180,7 +181,7 @@ tells_last qs limits seen watched values history r is vector seen_so edit last c
       counted = counted;
     }
   where
-    later_or_none : IsPrefix is.at history.journal → AreNotesOf qs (map (answer_to is.at) qs) (map (answer_to history.journal) qs) r.last.notes.items → ((length is.at < length history.journal) ⊎ (length history.journal ≤ length is.at)) → (r.last.notes.items ≡ []) ⊎ IsStrictlyIncreasing (edits_of (r.told.items ++ r.last ∷ []))
+    later_or_none : IsPrefix is.at history.journal → AreNotesOf qs (map (watch_answer is.at) qs) (map (watch_answer history.journal) qs) r.last.notes.items → ((length is.at < length history.journal) ⊎ (length history.journal ≤ length is.at)) → (r.last.notes.items ≡ []) ⊎ IsStrictlyIncreasing (edits_of (r.told.items ++ r.last ∷ []))
     later_or_none begins notes (inl more) = inr (rising_more qs is.at history.journal begins r.told.items r.last edit notes (omega (arith, edit, more)) is.true_told is.rising)
     later_or_none begins notes (inr whole) =
-        inl (none_new (answer_to is.at) qs r.last.notes.items (subst (λ es. AreNotesOf qs (map (answer_to is.at) qs) (map (answer_to es) qs) r.last.notes.items) (sym (prefix_whole is.at history.journal begins whole)) notes))
+        inl (none_new (watch_answer is.at) qs r.last.notes.items (subst (λ es. AreNotesOf qs (map (watch_answer is.at) qs) (map (watch_answer es) qs) r.last.notes.items) (sym (prefix_whole is.at history.journal begins whole)) notes))

@@ -7,11 +7,11 @@ use Rattle.std.proofs.lemmas.List.{map_push, take_more}
 use Rattle.std.proofs.lemmas.List.Elements.{All-nil}
 use Rattle.std.proofs.lemmas.Map.Keys.{IsDistinct-push}
 use Rattle.lv_vector.specs.Edit.{Edit}
-use Rattle.lv_vector.specs.Question.{Question}
+use Rattle.lv_vector.specs.Query.{Query}
 use Rattle.lv_vector.specs.ToldType.{Told}
 use Rattle.lv_vector.specs.Refusal.TheVariants.{BadRange}
-use Rattle.lv_vector.specs.Queries.{Query, name_refusal, query_of}
-use Rattle.lv_vector.specs.Notes.{SubscriberState, answer_to, query_of_question, question_refusal}
+use Rattle.lv_vector.specs.Queries.{name_refusal, query_of, watch_answer}
+use Rattle.lv_vector.specs.Notes.{SubscriberState, question_refusal}
 use Rattle.alerts.specs.Alerts.{IsTrueOf}
 use Rattle.alerts.specs.Followed.{Follows, IsWatching}
 use Rattle.alerts.proofs.Beginnings.{prefix_none}
@@ -23,13 +23,13 @@ not_first true first found none = absurd (cc none)
 not_first false first found none = (refl, none)
 
 -- where no query has a name, it is that of none of the questions
-unnamed : (qs : List Question) (name : List ℕ) → query_of (map query_of_question qs) name ≡ None → list_any (bytes_eq name) (names qs) ≡ false
+unnamed : (qs : List Query) (name : List ℕ) → query_of qs name ≡ None → list_any (bytes_eq name) (names qs) ≡ false
 unnamed [] name none = refl
 unnamed (p ∷ qs) name none =
-    let so = not_first (bytes_eq p.name name) (query_of_question p) (query_of (map query_of_question qs) name) none in
+    let so = not_first (bytes_eq p.name name) p (query_of qs name) none in
     ap (λ b. b || list_any (bytes_eq name) (names qs)) (nat_list_eq_equiv.symm name p.name ∙ so.0) ∙ unnamed qs name so.1
 
-not_found : (late : Bool) (all : List Query) (found : Option Query) → (if late then Some BadRange else name_refusal all found) ≡ None → found ≡ None
+not_found : (late : Bool) (all : List Query) (found : Option Query) → (if late then Some BadRange else name_refusal 64 all found) ≡ None → found ≡ None
 not_found true all found none = absurd (cc none)
 not_found false all (Some q) none = absurd (cc none)
 not_found false all None none = refl
@@ -39,21 +39,21 @@ unfolding IsDistinct
 watches_none s questions told = record { questions_are = questions; answers = told; apart = tt }
 
 -- one question more, which wasn't refused
-pub watches_more : (qs : List Question) (q : Question) (old new : SubscriberState) → IsWatching qs old → question_refusal old.questions q ≡ None → new.questions ≡ old.questions ++ q ∷ [] → new.told ≡ old.told ++ answer_to [] q ∷ [] → IsWatching (qs ++ q ∷ []) new
+pub watches_more : (qs : List Query) (q : Query) (old new : SubscriberState) → IsWatching qs old → question_refusal old.questions q ≡ None → new.questions ≡ old.questions ++ q ∷ [] → new.told ≡ old.told ++ watch_answer [] q ∷ [] → IsWatching (qs ++ q ∷ []) new
 watches_more qs q old new is granted questions told =
-    let found = not_found _ (map query_of_question qs) (query_of (map query_of_question qs) q.name) (subst (λ ps. question_refusal ps q ≡ None) is.questions_are granted) in record {
+    let found = not_found _ qs (query_of qs q.name) (subst (λ ps. question_refusal ps q ≡ None) is.questions_are granted) in record {
       questions_are = questions ∙ ap (λ ps. ps ++ q ∷ []) is.questions_are;
-      answers = told ∙ ap (λ vs. vs ++ answer_to [] q ∷ []) is.answers ∙ sym (map_push (answer_to []) qs q);
+      answers = told ∙ ap (λ vs. vs ++ watch_answer [] q ∷ []) is.answers ∙ sym (map_push (watch_answer []) qs q);
       apart = subst (IsDistinct bytes_eq) (sym (map_push (λ p. p.name) qs q)) (IsDistinct-push nat_list_eq_equiv (names qs) q.name is.apart (unnamed qs q.name found));
     }
 
 -- the questions up to an index and what stands there
-pub watches_next : (qs : List Question) (i : ℕ) (q : Question) (old new : SubscriberState) → i < length qs → q ≡ get_or qs i q → IsWatching (take i qs) old → question_refusal old.questions q ≡ None → new.questions ≡ old.questions ++ q ∷ [] → new.told ≡ old.told ++ answer_to [] q ∷ [] → IsWatching (take (i + 1) qs) new
+pub watches_next : (qs : List Query) (i : ℕ) (q : Query) (old new : SubscriberState) → i < length qs → q ≡ get_or qs i q → IsWatching (take i qs) old → question_refusal old.questions q ≡ None → new.questions ≡ old.questions ++ q ∷ [] → new.told ≡ old.told ++ watch_answer [] q ∷ [] → IsWatching (take (i + 1) qs) new
 watches_next qs i q old new inside is watching granted questions told =
     subst (λ ps. IsWatching ps new) (sym (take_more qs i q inside ∙ ap (λ x. take i qs ++ x ∷ []) (sym is))) (watches_more (take i qs) q old new watching granted questions told)
 
 -- a subscriber that was told nothing follows
-pub follows_new : (qs : List Question) (seen : List Edit) (s : SubscriberState) (told : List Told) → told ≡ [] → IsWatching qs s → Follows qs seen s.questions s.told told
+pub follows_new : (qs : List Query) (seen : List Edit) (s : SubscriberState) (told : List Told) → told ≡ [] → IsWatching qs s → Follows qs seen s.questions s.told told
 follows_new qs seen s told none is =
     subst (Follows qs seen s.questions s.told) (sym none) record {
       at = [];

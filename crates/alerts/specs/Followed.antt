@@ -6,34 +6,35 @@ use Rattle.std.specs.Str.{bytes_eq}
 use mathlib.Core.List.{IsPrefix}
 use Rattle.lv_vector.specs.Shown.{Shown}
 use Rattle.lv_vector.specs.Edit.{Edit}
-use Rattle.lv_vector.specs.Question.{Question}
+use Rattle.lv_vector.specs.Query.{Query}
 use Rattle.lv_vector.specs.ToldType.{Told}
 use Rattle.lv_vector.specs.Counting.{ShareState}
-use Rattle.lv_vector.specs.Notes.{SubscriberState, answer_to}
+use Rattle.lv_vector.specs.Queries.{watch_answer}
+use Rattle.lv_vector.specs.Notes.{SubscriberState}
 use Rattle.alerts.specs.Alerts.{IsTrueOf, edits_of, told_last}
 
 -- questions with names of their own, of which nothing was told yet
-pub record IsWatching (questions : List Question) (s : SubscriberState) : Type 0 where
+pub record IsWatching (questions : List Query) (s : SubscriberState) : Type 0 where
   pub questions_are : s.questions ≡ questions
-  pub answers : s.told ≡ map (answer_to []) questions
+  pub answers : s.told ≡ map (watch_answer []) questions
   pub apart : IsDistinct bytes_eq (map (λ q. q.name) questions)
 
 -- a subscriber of these questions has seen some edits and was told up to some of them
-pub record Follows (questions : List Question) (seen : List Edit) (watched : List Question) (values : List Shown) (told : List Told) : Type 0 where
+pub record Follows (questions : List Query) (seen : List Edit) (watched : List Query) (values : List Shown) (told : List Told) : Type 0 where
   pub at : List Edit
   pub begins : IsPrefix at seen
   pub watched_are : watched ≡ questions
   pub apart : IsDistinct bytes_eq (map (λ q. q.name) questions)
-  pub values_are : values ≡ map (answer_to at) questions
+  pub values_are : values ≡ map (watch_answer at) questions
   pub true_told : All (IsTrueOf at questions) told
   pub rising : IsStrictlyIncreasing (edits_of told)
-  pub answers : All (λ q. told_last told q ≡ answer_to at q) questions
+  pub answers : All (λ q. told_last told q ≡ watch_answer at q) questions
 
 -- a subscriber that follows goes on to follow, with the share that it had
 pub record KeepsFollowing (old new : SubscriberState) (told more : List Told) : Type 0 where
   pub parts : new.share.parts ≡ old.share.parts
   pub count : new.share.count ≡ old.share.count
-  pub follows : (questions : List Question) → Follows questions old.share.seen old.questions old.told told → Follows questions new.share.seen new.questions new.told more
+  pub follows : (questions : List Query) → Follows questions old.share.seen old.questions old.told told → Follows questions new.share.seen new.questions new.told more
 
 -- so many readings were offered, and a share counts those that were accepted
 pub record HasFed (offered : ℕ) (old new : ShareState) (accepted refused : ℕ) : Type 0 where

@@ -2,7 +2,7 @@
 ghost use Rattle.std.specs.Prelude.{◌≡◌, [], IfOk, OnOk};
 ghost use Rattle.alerts.specs.Followed.{Follows, IsWatching, KeepsFollowing};
 
-use lv_vector::hub::{Hub, Question, Share, Subscriber, Told, WithBody};
+use lv_vector::hub::{Hub, Query, Share, Subscriber, Told, WithBody};
 use lv_vector::{Refusal, Six};
 use std::alloc::Global;
 use std::sync::Wait;
@@ -23,7 +23,7 @@ pub struct Follower<N: WithBody<Six>> {
 pub fn begin<N: WithBody<Six>>(
     alloc: Global,
     share: Share<N>,
-    questions: &[Question],
+    questions: &[Query],
 ) -> Result<Follower<N>, Refusal>
     ensures follows { IfOk result (λ f. Follows questions.now f.subscriber.share.seen f.subscriber.questions f.subscriber.told f.told.items) }
     ensures share { IfOk result (λ f. f.subscriber.share ≡ share) }
@@ -43,7 +43,7 @@ pub fn begin<N: WithBody<Six>>(
 // Registers questions in order, where there are none yet.
 fn watch_all<N: WithBody<Six>>(
     subscriber: &mut Subscriber<N>,
-    questions: &[Question],
+    questions: &[Query],
 ) -> Result<(), Refusal>
     requires questions { subscriber.old.questions ≡ [] }
     requires told { subscriber.old.told ≡ [] }

@@ -9,7 +9,7 @@ mod feeding;
 mod following;
 mod running;
 
-use lv_vector::hub::{Question, Told};
+use lv_vector::hub::{Query, Told};
 use lv_vector::{Kind, Limits, Name, Refusal, Shown};
 use running::{Report, run};
 use std::{fmt, io};
@@ -49,9 +49,9 @@ fn main(rt: HostRuntime) -> Result<(), Failure> {
 }
 
 // A question about all readings.
-fn ask(name: &[u8], kind: Kind) -> Result<Question, Failure> {
+fn ask(name: &[u8], kind: Kind) -> Result<Query, Failure> {
     match Name::new(name) {
-        Some(name) => Ok(Question {
+        Some(name) => Ok(Query {
             name,
             kind,
             lo: 0,
@@ -62,7 +62,7 @@ fn ask(name: &[u8], kind: Kind) -> Result<Question, Failure> {
 }
 
 // Shows how many readings there were, what each question was told last, and how many notes are of an edit that doesn't rise.
-fn show<R: Print>(rt: &R, questions: &[Question], report: &Report) -> Result<(), Failure> {
+fn show<R: Print>(rt: &R, questions: &[Query], report: &Report) -> Result<(), Failure> {
     println!(rt;
         "{} readings accepted, {} refused",
         report.accepted, report.refused
@@ -76,7 +76,7 @@ fn show<R: Print>(rt: &R, questions: &[Question], report: &Report) -> Result<(),
 }
 
 // Shows what a question was told last.
-fn show_one<R: Print>(rt: &R, question: &Question, value: Option<Shown>) -> Result<(), Failure> {
+fn show_one<R: Print>(rt: &R, question: &Query, value: Option<Shown>) -> Result<(), Failure> {
     let what = match question.kind {
         Kind::Greatest => "hottest",
         Kind::Least => "coldest",
@@ -91,7 +91,7 @@ fn show_one<R: Print>(rt: &R, question: &Question, value: Option<Shown>) -> Resu
 }
 
 // What a question was told last, if anything.
-fn last_told(question: &Question, report: &Report) -> Option<Shown> {
+fn last_told(question: &Query, report: &Report) -> Option<Shown> {
     let mut last = None;
     for told in &report.told {
         last = told_by(question, told).or(last);
@@ -100,7 +100,7 @@ fn last_told(question: &Question, report: &Report) -> Option<Shown> {
 }
 
 // What a question was told at an edit, if anything.
-fn told_by(question: &Question, told: &Told) -> Option<Shown> {
+fn told_by(question: &Query, told: &Told) -> Option<Shown> {
     for note in &told.notes {
         if note.name == question.name {
             return Some(note.value);

@@ -1,13 +1,13 @@
 //! Sensors, a worker and a subscriber at one hub, and what they leave.
 ghost use Rattle.std.specs.Prelude.{◌≡◌, ◌+◌, IfOk, List, Some};
 ghost use mathlib.Core.List.{IsPrefix};
-ghost use Rattle.lv_vector.specs.Question.{Question};
+ghost use Rattle.lv_vector.specs.Query.{Query};
 ghost use Rattle.alerts.specs.Alerts.{TellsOf};
 ghost use Rattle.alerts.specs.Followed.{Follows, HasFed, KeepsFollowing};
 
 use crate::feeding::{Fed, READINGS, feed};
 use crate::following::{Follower, begin, follow};
-use lv_vector::hub::{Ended, Hub, OpenGate, Opened, Question, Share, Told, WithBody, attend};
+use lv_vector::hub::{Ended, Hub, OpenGate, Opened, Query, Share, Told, WithBody, attend};
 use lv_vector::{Limits, Refusal, Six};
 use std::alloc::Global;
 use std::marker::Brand;
@@ -58,7 +58,7 @@ pub fn run<R: Threads + Wait + Sync>(
     rt: &R,
     alloc: Global,
     limits: Limits,
-    questions: &[Question],
+    questions: &[Query],
 ) -> Result<Report, Refusal>
     ensures told { IfOk result (TellsOf limits questions.now) }
     ensures offered { IfOk result (λ report. report.accepted + report.refused ≡ READINGS + READINGS) }
@@ -79,7 +79,7 @@ fn run_as<N: WithBody<Six> + Send + Sync, R: Threads + Wait + Sync>(
     rt: &R,
     alloc: Global,
     limits: Limits,
-    questions: &[Question],
+    questions: &[Query],
     blank: Blank,
     opened: Opened,
     body: Six,
@@ -109,7 +109,7 @@ fn gather<N: WithBody<Six> + Send + Sync, R: Threads + Wait + Sync>(
     alloc: Global,
     hub: &Hub<Six, N>,
     mut share: Share<N>,
-    questions: &[Question],
+    questions: &[Query],
 ) -> Result<Gathered<N>, Refusal>
     requires parts { share.parts ≡ PARTS }
     requires count { share.count ≡ 0 }
@@ -247,7 +247,7 @@ fn join_all<N: WithBody<Six>>(done: Done<N>) -> Gathered<N>
 fn finish<N: WithBody<Six>>(hub: Hub<Six, N>, gathered: Gathered<N>) -> Report
     requires parts { gathered.share.parts ≡ N.parts }
     requires count { gathered.share.count ≡ gathered.accepted }
-    ensures told { (questions : List Question) → Follows questions gathered.share.seen gathered.ended.questions gathered.ended.told gathered.told.items → TellsOf N.limits questions result }
+    ensures told { (questions : List Query) → Follows questions gathered.share.seen gathered.ended.questions gathered.ended.told gathered.told.items → TellsOf N.limits questions result }
     ensures accepted { result.accepted ≡ gathered.accepted }
     ensures refused { result.refused ≡ gathered.refused }
 {

@@ -3,7 +3,7 @@
 use crate::failures::{Failure, FaultPlace};
 use crate::files::{Opened, Streams, Unopened};
 use lv_geometry::Refusal;
-use lv_hub::Question;
+use lv_hub::Query;
 use lv_script::Fault;
 use lv_watchers::{Damage, Unasked, read_questions};
 use std::alloc::Global;
@@ -31,7 +31,7 @@ pub fn ask_each<'a, F: Read + Drop>(
 fn questions_of<F: Read + Drop>(
     alloc: Global,
     streams: &mut Streams<F>,
-) -> Result<Vec<Question>, Failure> {
+) -> Result<Vec<Query>, Failure> {
     let number = streams.number;
     match read_questions(alloc, &mut streams.lines) {
         Ok(questions) => Ok(questions),

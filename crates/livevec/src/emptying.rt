@@ -4,7 +4,7 @@ use crate::failures::{Failure, FaultPlace};
 use crate::files::{Opened, Output, Streams, Unopened};
 use crate::parties::Parties;
 use crate::transcript_files::emptied;
-use lv_hub::Question;
+use lv_hub::Query;
 use lv_script::Fault;
 use std::fs::OpenFile;
 
@@ -38,7 +38,7 @@ fn empty_all<'a, F: OpenFile + Drop>(
 // Empties one of them.
 fn empty<F: OpenFile + Drop>(
     opened: Opened<F>,
-) -> Result<(Streams<F>, Option<Vec<Question>>), Failure> {
+) -> Result<(Streams<F>, Option<Vec<Query>>), Failure> {
     let Opened {
         streams,
         output,

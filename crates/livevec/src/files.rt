@@ -7,7 +7,7 @@ use crate::failures::{Failure, FaultPlace};
 use crate::identities::{Identity, is_written, standard_files};
 use crate::parties::Parties;
 use crate::transcript_files::open_transcript;
-use lv_hub::Question;
+use lv_hub::Query;
 use lv_script::Fault;
 use std::alloc::Global;
 use std::fs::{File, Files, Metadata, OpenFile, OpenOptions, remove_file, symlink_metadata};
@@ -48,7 +48,7 @@ pub struct Opened<F: Drop> {
     pub streams: Streams<F>,
     pub input: Identity,
     pub output: Output,
-    pub asked: Option<Vec<Question>>,
+    pub asked: Option<Vec<Query>>,
     name: String,
 }
 

@@ -1,7 +1,7 @@
 //! Sessions and subscribers, as their files are opened.
 
 use crate::files::Streams;
-use lv_hub::Question;
+use lv_hub::Query;
 use lv_watchers::Watch;
 use std::alloc::{AllocError, Global};
 
@@ -26,7 +26,7 @@ impl<F: Drop> Parties<F> {
     }
 
     /// Adds a session; or a subscriber, where it is known what its file asks. Says whether there was memory for it.
-    pub fn add(&mut self, streams: Streams<F>, asked: Option<Vec<Question>>) -> bool {
+    pub fn add(&mut self, streams: Streams<F>, asked: Option<Vec<Query>>) -> bool {
         match asked {
             None => self.streams.push(streams).is_ok(),
             Some(questions) => {

@@ -15,7 +15,7 @@ pub mod PlainAnswers
 pub mod PushedLaws
 pub mod Programs
 pub mod QueriedLaws
-pub mod QuestionLaws
+pub mod SetLaws
 pub mod Seatless
 pub mod Others
 pub mod Summing

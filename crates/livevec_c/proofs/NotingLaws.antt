@@ -7,7 +7,7 @@ use Rattle.lv_bodies.specs.declared.kinds.Shown.{Shown}
 use Rattle.lv_edits.specs.History.{list_of}
 use Rattle.livevec_c.specs.declared.queries_notes.Note.{Note}
 use Rattle.livevec_c.specs.declared.queries_notes.Noted.{Noted}
-use Rattle.livevec_c.specs.declared.questions.Question.{Question}
+use Rattle.lv_standing.specs.declared.queries.Query.{Query}
 use Rattle.livevec_c.specs.Behind.{State}
 use Rattle.livevec_c.specs.Queried.{AreNotesOf, IsAnswered, NotesInto, NotesOne, PutsNote, Tells, answer_by, note_of, unnoted}
 use Rattle.livevec_c.specs.Queries.{QueriesState}
@@ -17,7 +17,7 @@ next_of : {A : Type 0} (xs : List A) (i : ℕ) (x : A) → x ≡ get_or xs i x �
 next_of xs i x is inside = take_more xs i x inside ∙ ap (λ y. take i xs ++ y ∷ []) (sym is)
 
 -- the questions up to an index were answered, and then what stands there
-pub next_answered : (state now : State) (q : Question) (value : Shown) (questions : List Question) (values more : List Shown) (i : ℕ) → IsAnswered now q value → now ≡ state → q ≡ get_or questions i q → i < length questions
+pub next_answered : (state now : State) (q : Query) (value : Shown) (questions : List Query) (values more : List Shown) (i : ℕ) → IsAnswered now q value → now ≡ state → q ≡ get_or questions i q → i < length questions
     → more ≡ values ++ value ∷ [] → values ≡ map (answer_by state) (take i questions) → more ≡ map (answer_by state) (take (i + 1) questions)
 next_answered state now q value questions values more i one same q_is inside pushed so_far =
     pushed
@@ -27,7 +27,7 @@ next_answered state now q value questions values more i one same q_is inside pus
 
 module _ (edit size : ℕ) where
   -- the notes of some questions and those of one more are the notes of all
-  notes_more : (questions : List Question) (told values : List Shown) (notes : List Note) (q : Question) (before value : Shown) (more : List Note) → length told ≡ length questions → length values ≡ length questions
+  notes_more : (questions : List Query) (told values : List Shown) (notes : List Note) (q : Query) (before value : Shown) (more : List Note) → length told ≡ length questions → length values ≡ length questions
       → AreNotesOf edit size questions told values notes → AreNotesOf edit size (q ∷ []) (before ∷ []) (value ∷ []) more → AreNotesOf edit size (questions ++ q ∷ []) (told ++ before ∷ []) (values ++ value ∷ []) (notes ++ more)
   notes_more [] [] [] notes q before value more as_told as_values none one =
       subst (λ ns. AreNotesOf edit size (q ∷ []) (before ∷ []) (value ∷ []) (ns ++ more)) (sym none) one
@@ -41,7 +41,7 @@ module _ (edit size : ℕ) where
       inr (note.0, note.1 ++ more, ap (λ ns. ns ++ more) note.2, notes_more questions told values note.1 q before value more (omega (arith, as_told)) (omega (arith, as_values)) note.3 one)
 
   -- the notes of some values are one list
-  pub notes_alone : (questions : List Question) (told values : List Shown) (notes others : List Note) → AreNotesOf edit size questions told values notes → AreNotesOf edit size questions told values others → notes ≡ others
+  pub notes_alone : (questions : List Query) (told values : List Shown) (notes others : List Note) → AreNotesOf edit size questions told values notes → AreNotesOf edit size questions told values others → notes ≡ others
   notes_alone [] told values notes others a b = a ∙ sym b
   notes_alone (q ∷ questions) [] values notes others a b = a ∙ sym b
   notes_alone (q ∷ questions) (before ∷ told) [] notes others a b = a ∙ sym b
@@ -52,7 +52,7 @@ module _ (edit size : ℕ) where
       a.2 ∙ ap (λ ns. note_of edit size q value ∷ ns) (notes_alone questions told values a.1 b.1 a.3 b.3) ∙ sym b.2
 
   -- a note was put behind so many others
-  pub noted_one : (q : Question) (told value : Shown) (count : ℕ) (before after : List Note) (note : Note) → (value ≡ told → ⊥) → note ≡ note_of edit size q value → PutsNote note count before after → NotesOne edit size q told value count before (count + 1) after
+  pub noted_one : (q : Query) (told value : Shown) (count : ℕ) (before after : List Note) (note : Note) → (value ≡ told → ⊥) → note ≡ note_of edit size q value → PutsNote note count before after → NotesOne edit size q told value count before (count + 1) after
   noted_one q told value count before after note other is puts = record {
     added = note ∷ [];
     are = inr (other, [], ap (λ n. n ∷ []) is, refl);
@@ -63,7 +63,7 @@ module _ (edit size : ℕ) where
   }
 
   -- the questions up to an index were noted, and then what stands there
-  pub next_noted : (q : Question) (before value : Shown) (questions : List Question) (told values : List Shown) (old : List Note) (count counted : ℕ) (places next : List Note) (i : ℕ) → NotesOne edit size q before value count places counted next
+  pub next_noted : (q : Query) (before value : Shown) (questions : List Query) (told values : List Shown) (old : List Note) (count counted : ℕ) (places next : List Note) (i : ℕ) → NotesOne edit size q before value count places counted next
       → length told ≡ length questions → length values ≡ length questions → i < length questions → q ≡ get_or questions i q → before ≡ get_or told i before → value ≡ get_or values i value
       → NotesInto edit size (take i questions) (take i told) (take i values) old count places → NotesInto edit size (take (i + 1) questions) (take (i + 1) told) (take (i + 1) values) old counted next
   next_noted q before value questions told values old count counted places next i one as_told as_values inside q_is before_is value_is so_far =
@@ -92,17 +92,17 @@ module _ (edit size : ℕ) where
       }
 
   -- none were noted yet
-  pub none_noted : (questions : List Question) (told values : List Shown) (old : List Note) → NotesInto edit size (take 0 questions) (take 0 told) (take 0 values) old 0 old
+  pub none_noted : (questions : List Query) (told values : List Shown) (old : List Note) → NotesInto edit size (take 0 questions) (take 0 told) (take 0 values) old 0 old
   none_noted questions told values old = record { notes = []; are = refl; count_is = refl; few = omega arith; places = refl; written = λ room. refl }
 
   -- all were noted
-  pub all_noted : (questions : List Question) (told values : List Shown) (old : List Note) (count : ℕ) (places : List Note) (i : ℕ) → length questions ≤ i → length told ≡ length questions → length values ≡ length questions
+  pub all_noted : (questions : List Query) (told values : List Shown) (old : List Note) (count : ℕ) (places : List Note) (i : ℕ) → length questions ≤ i → length told ≡ length questions → length values ≡ length questions
       → NotesInto edit size (take i questions) (take i told) (take i values) old count places → NotesInto edit size questions told values old count places
   all_noted questions told values old count places i end as_told as_values all =
       rw (take_all i questions (omega arith), take_all i told (omega arith), take_all i values (omega arith)) at all
 
 -- the notes of the same questions and values
-notes_as : (edit edits size elements : ℕ) (questions asked : List Question) (told before values now : List Shown) (notes : List Note) → edit ≡ edits → size ≡ elements → questions ≡ asked → told ≡ before → values ≡ now
+notes_as : (edit edits size elements : ℕ) (questions asked : List Query) (told before values now : List Shown) (notes : List Note) → edit ≡ edits → size ≡ elements → questions ≡ asked → told ≡ before → values ≡ now
     → AreNotesOf edit size questions told values notes → AreNotesOf edits elements asked before now notes
 notes_as edit edits size elements questions asked told before values now notes edit_is size_is questions_are told_are values_are are =
     subst (λ e. AreNotesOf e elements asked before now notes) edit_is
@@ -112,7 +112,7 @@ notes_as edit edits size elements questions asked told before values now notes e
 
 module _ (old : QueriesState) (state : State) (edit size : ℕ) (edit_is : edit ≡ length state.history.journal) (size_is : size ≡ length (list_of state.history.journal)) where
   -- what was counted doesn't fit
-  pub tells_short : (questions : List Question) (told values : List Shown) (none after places : List Note) (count number : ℕ) (answer : Noted) → NotesInto edit size questions told values none count after → questions ≡ old.questions → told ≡ old.told → values ≡ map (answer_by state) old.questions
+  pub tells_short : (questions : List Query) (told values : List Shown) (none after places : List Note) (count number : ℕ) (answer : Noted) → NotesInto edit size questions told values none count after → questions ≡ old.questions → told ≡ old.told → values ≡ map (answer_by state) old.questions
       → length places < count → number ≡ count → answer ≡ unnoted 103 number → Tells old old state places places answer
   tells_short questions told values none after places count number answer into questions_are told_are values_are short number_is answer_is = (
     into.notes,
@@ -121,7 +121,7 @@ module _ (old : QueriesState) (state : State) (edit size : ℕ) (edit_is : edit 
   )
 
   -- what was counted fits, and was written
-  pub tells_all : (new : QueriesState) (questions asked : List Question) (told before values now : List Shown) (none after places written : List Note) (count counted number : ℕ) (answer : Noted)
+  pub tells_all : (new : QueriesState) (questions asked : List Query) (told before values now : List Shown) (none after places written : List Note) (count counted number : ℕ) (answer : Noted)
       → NotesInto edit size questions told values none count after → questions ≡ old.questions → told ≡ old.told → values ≡ map (answer_by state) old.questions
       → NotesInto edit size asked before now places counted written → asked ≡ old.questions → before ≡ old.told → now ≡ map (answer_by state) old.questions
       → count ≤ length places → number ≡ count → answer ≡ record { refusal = 0; detail = 0; edit = edit; count = number } → new.questions ≡ old.questions → new.told ≡ map (answer_by state) old.questions

@@ -10,13 +10,13 @@ use Rattle.lv_tree.specs.declared.kinds.KindAnswer.{KindAnswer}
 use Rattle.lv_tree.specs.Asked.{IsKindAnswer}
 use Rattle.lv_tree.specs.KindSummaries.{shown_of}
 use Rattle.lv_standing.proofs.RangeLaws.{range_cut}
-use Rattle.livevec_c.specs.declared.questions.Question.{Question}
+use Rattle.lv_standing.specs.declared.queries.Query.{Query}
 use Rattle.livevec_c.specs.Behind.{State}
 use Rattle.livevec_c.specs.Queried.{answer_by}
 use Rattle.livevec_c.specs.SpreadLaws.{shown-plain}
 
 -- an answer of a range that was cut at the end is that of the question
-pub answers_question : (state : State) (q : Question) (lo hi : ℕ) (answer : KindAnswer) (shown : Shown) → IsKindAnswer (table_of state.body.automaton) state.history.journal q.kind lo hi answer → shown ≡ shown_of answer.summary
+pub answers_question : (state : State) (q : Query) (lo hi : ℕ) (answer : KindAnswer) (shown : Shown) → IsKindAnswer (table_of state.body.automaton) state.history.journal q.kind lo hi answer → shown ≡ shown_of answer.summary
     → hi ≡ min q.hi (length (list_of state.history.journal)) → lo ≡ min q.lo hi → shown ≡ answer_by state q
 answers_question state q lo hi answer shown is shows end start =
     let es = state.history.journal in

@@ -13,7 +13,7 @@ use Rattle.livevec_c.specs.declared.objects.Object.{Object}
 use Rattle.livevec_c.specs.declared.objects.Object.TheVariants.{Queries, Vector}
 use Rattle.livevec_c.specs.declared.queries_notes.Note.{Note}
 use Rattle.livevec_c.specs.declared.queries_notes.Noted.{Noted}
-use Rattle.livevec_c.specs.declared.questions.Question.{Question}
+use Rattle.lv_standing.specs.declared.queries.Query.{Query}
 use Rattle.livevec_c.specs.declared.results.Reduced.{Reduced}
 use Rattle.livevec_c.specs.Answers.{unreduced}
 use Rattle.livevec_c.specs.Behind.{State}
@@ -33,30 +33,30 @@ OpensQueries number None new = ((number ≡ 6) × (new ≡ None)) ⊎ ((number �
 -- ---- questions come and go
 
 -- the question that a caller asks for, or the number for why there is none: no name, then no kind
-abbrev pub question_named : Bool → List ℕ → Option Kind → ℕ → ℕ → Result Question ℕ
+abbrev pub question_named : Bool → List ℕ → Option Kind → ℕ → ℕ → Result Query ℕ
 question_named false name kind lo hi = Err 114
 question_named true name None lo hi = Err 113
 question_named true name (Some kind) lo hi = Ok (record { name = name; kind = kind; lo = lo; hi = hi })
 
-abbrev pub question_in : List ℕ → ℕ → ℕ → ℕ → Result Question ℕ
+abbrev pub question_in : List ℕ → ℕ → ℕ → ℕ → Result Query ℕ
 question_in name kind lo hi = question_named (is_name name) name (kind_at kind) lo hi
 
 -- a question was registered, or there was no memory, or it is refused, and nothing has changed
-abbrev pub WatchesUnless : Option Refusal → Question → ℕ → QueriesState → QueriesState → Type 0
+abbrev pub WatchesUnless : Option Refusal → Query → ℕ → QueriesState → QueriesState → Type 0
 WatchesUnless (Some refusal) q number old new = (number ≡ number_of refusal) × (new ≡ old)
 WatchesUnless None q number old new = ((number ≡ 6) × (new ≡ old)) ⊎ ((number ≡ 0) × (new ≡ with_question old q))
 
 -- at an object: at a set only
-abbrev pub WatchesObject : Question → ℕ → Object → Object → Type 0
+abbrev pub WatchesObject : Query → ℕ → Object → Object → Type 0
 WatchesObject q number (Queries old) new = (set : QueriesState) × (new ≡ Queries set) × WatchesUnless (question_refusal old.questions q) q number old set
 WatchesObject q number other new = (number ≡ 101) × (new ≡ other)
 
-abbrev pub WatchesBehind : Question → ℕ → Option Object → Option Object → Type 0
+abbrev pub WatchesBehind : Query → ℕ → Option Object → Option Object → Type 0
 WatchesBehind q number None new = (number ≡ 101) × (new ≡ None)
 WatchesBehind q number (Some old) new = (object : Object) × (new ≡ Some object) × WatchesObject q number old object
 
 -- at what lies behind a slot, where what is asked for is a question
-abbrev pub Watches : Result Question ℕ → ℕ → Option Object → Option Object → Type 0
+abbrev pub Watches : Result Query ℕ → ℕ → Option Object → Option Object → Type 0
 Watches (Err refusal) number old new = (number ≡ refusal) × (new ≡ old)
 Watches (Ok q) number old new = WatchesBehind q number old new
 
@@ -84,59 +84,59 @@ Unwatches name number old new = UnwatchesIf (is_name name) name number old new
 -- ---- an answer
 
 -- what a question is answered by a vector: the plain value of the elements that its range has, by the vector's own table
-abbrev pub answer_by : State → Question → Shown
+abbrev pub answer_by : State → Query → Shown
 answer_by state q = plain_value_with (table_of state.body.automaton) q.kind (slice_range (list_of state.history.journal) q.lo q.hi)
 
 -- whether a question's range has an element of a vector of this size
-abbrev pub has_some : ℕ → Question → Bool
+abbrev pub has_some : ℕ → Query → Bool
 has_some size q = nat_lt q.lo (min q.hi size)
 
 -- the question of a name, or the number for why there is none: no set, then no such name
-abbrev pub found_there : Option Question → Result Question ℕ
+abbrev pub found_there : Option Query → Result Query ℕ
 found_there None = Err 11
 found_there (Some q) = Ok q
 
-abbrev pub found_at : Option ℕ → List Question → Result Question ℕ
+abbrev pub found_at : Option ℕ → List Query → Result Query ℕ
 found_at None questions = Err 11
 found_at (Some place) questions = found_there (slice_get questions place)
 
-abbrev pub found_in : List ℕ → Object → Result Question ℕ
+abbrev pub found_in : List ℕ → Object → Result Query ℕ
 found_in name (Queries set) = found_at (place_of set.questions name) set.questions
 found_in name other = Err 101
 
-abbrev pub found_behind : List ℕ → Option Object → Result Question ℕ
+abbrev pub found_behind : List ℕ → Option Object → Result Query ℕ
 found_behind name None = Err 101
 found_behind name (Some object) = found_in name object
 
-abbrev pub found_if : Bool → List ℕ → Option Object → Result Question ℕ
+abbrev pub found_if : Bool → List ℕ → Option Object → Result Query ℕ
 found_if false name slot = Err 114
 found_if true name slot = found_behind name slot
 
-abbrev pub question_of : List ℕ → Option Object → Result Question ℕ
+abbrev pub question_of : List ℕ → Option Object → Result Query ℕ
 question_of name slot = found_if (is_name name) name slot
 
 -- what a vector answers a question that it may be asked: the plain value now, and its edit
-abbrev pub answered_if : Bool → Question → State → Reduced
+abbrev pub answered_if : Bool → Query → State → Reduced
 answered_if true q state = valued None (length state.history.journal) (has_some (length (list_of state.history.journal)) q) (answer_by state q)
 answered_if false q state = unreduced 113 0
 
-abbrev pub object_answered : Question → Object → Reduced
+abbrev pub object_answered : Query → Object → Reduced
 object_answered q (Vector state only) = answered_if (is_asked_by only (Some q.kind)) q state
 object_answered q other = unreduced 101 0
 
-abbrev pub answered_behind : Question → Option Object → Reduced
+abbrev pub answered_behind : Query → Option Object → Reduced
 answered_behind q None = unreduced 101 0
 answered_behind q (Some object) = object_answered q object
 
 -- where there is a question of that name
-abbrev pub answered : Result Question ℕ → Option Object → Reduced
+abbrev pub answered : Result Query ℕ → Option Object → Reduced
 answered (Err refusal) slot = unreduced refusal 0
 answered (Ok q) slot = answered_behind q slot
 
 -- ---- notes
 
 -- the first question that a vector, of one kind or of all six, may not be asked, if there is one
-abbrev pub first_refused : Option Kind → List Question → Option ℕ
+abbrev pub first_refused : Option Kind → List Query → Option ℕ
 first_refused only questions = position (λ q. not (is_asked_by only (Some q.kind))) questions
 
 -- the 17 bytes of a name for C, which end in a zero
@@ -144,11 +144,11 @@ abbrev pub name_for : List ℕ → List ℕ
 name_for name = name ++ replicate (17 - length name) 0
 
 -- the note of a value, by a vector of this size after this edit
-abbrev pub note_of : ℕ → ℕ → Question → Shown → Note
+abbrev pub note_of : ℕ → ℕ → Query → Shown → Note
 note_of edit size q value = record { name = name_for q.name; kind = number_of_kind q.kind; edit = edit; values = values_for (has_some size q) value }
 
 -- the notes of some values: one for each question, in order, whose value is another than it was told, with that value
-abbrev pub AreNotesOf : ℕ → ℕ → List Question → List Shown → List Shown → List Note → Type 0
+abbrev pub AreNotesOf : ℕ → ℕ → List Query → List Shown → List Shown → List Note → Type 0
 AreNotesOf edit size [] told values notes = notes ≡ []
 AreNotesOf edit size (q ∷ questions) [] values notes = notes ≡ []
 AreNotesOf edit size (q ∷ questions) (before ∷ told) [] notes = notes ≡ []
@@ -215,7 +215,7 @@ TellsAll (Some old) new vector before after answer = (object : Object) × (new �
 -- ---- what the code passes on, one question after another
 
 -- a value is the answer of a question by a vector
-pub record IsAnswered (state : State) (q : Question) (value : Shown) : Type 0 where
+pub record IsAnswered (state : State) (q : Query) (value : Shown) : Type 0 where
   pub is : value ≡ answer_by state q
 
 -- a note was put at a place, where there is such a place; the others stay
@@ -224,7 +224,7 @@ pub record PutsNote (note : Note) (place : ℕ) (before after : List Note) : Typ
   pub written : place < length before → after ≡ take place before ++ note ∷ drop (place + 1) before
 
 -- a question was noted behind so many notes: it was counted where it has a note, which was written where there is a place for it
-pub record NotesOne (edit size : ℕ) (q : Question) (told value : Shown) (count : ℕ) (before : List Note) (counted : ℕ) (after : List Note) : Type 0 where
+pub record NotesOne (edit size : ℕ) (q : Query) (told value : Shown) (count : ℕ) (before : List Note) (counted : ℕ) (after : List Note) : Type 0 where
   pub added : List Note
   pub are : AreNotesOf edit size (q ∷ []) (told ∷ []) (value ∷ []) added
   pub count_is : counted ≡ count + length added
@@ -233,7 +233,7 @@ pub record NotesOne (edit size : ℕ) (q : Question) (told value : Shown) (count
   pub written : counted ≤ length before → after ≡ take count before ++ (added ++ drop counted before)
 
 -- questions were noted: their notes were counted, and written where there are places for all of them
-pub record NotesInto (edit size : ℕ) (questions : List Question) (told values : List Shown) (before : List Note) (counted : ℕ) (after : List Note) : Type 0 where
+pub record NotesInto (edit size : ℕ) (questions : List Query) (told values : List Shown) (before : List Note) (counted : ℕ) (after : List Note) : Type 0 where
   pub notes : List Note
   pub are : AreNotesOf edit size questions told values notes
   pub count_is : counted ≡ length notes

@@ -3,17 +3,20 @@ ghost use Rattle.std.specs.Prelude.{◌≡◌, ◌<◌, ◌+◌, ◌≤◌, [], 
 ghost use Rattle.lv_edits.specs.Verdict.{IsRefusal};
 ghost use Rattle.livevec_c.specs.Queries.{place_of, question_refusal, with_question, without_place};
 
-use crate::questions::Question;
 use lv_bodies::{Name, Shown};
 use lv_geometry::Refusal;
+use lv_standing::Query;
 use std::alloc::{AllocError, Global};
 use std::marker::Model;
 
-/// Questions by name, in the order in which they were named, and what each was told last. A question that wasn't told of counts as told
+/// How many queries a set has at most.
+const MOST: usize = 64;
+
+/// Queries by name, in the order in which they were named, and what each was told last. A question that wasn't told of counts as told
 /// its answer of no elements.
 #[derive(Drop)]
 pub struct Queries {
-    pub(crate) questions: Vec<Question>,
+    pub(crate) questions: Vec<Query>,
     pub(crate) told: Vec<Shown>,
     // Room for answers.
     pub(crate) values: Vec<Shown>,
@@ -32,7 +35,7 @@ impl Model for Queries {
 
 // Makes room for one question more, for what it was told, and for the values of all.
 fn make_room(
-    questions: &mut Vec<Question>,
+    questions: &mut Vec<Query>,
     told: &mut Vec<Shown>,
     values: &mut Vec<Shown>,
 ) -> Result<(), AllocError>
@@ -64,19 +67,19 @@ impl Queries {
     }
 
     /// Registers a question. Refused with `BadRange`, `NameTaken`, `TooMany`, then `NoMemory`, and nothing has changed then.
-    pub fn watch(&mut self, question: &Question) -> Result<(), Refusal>
+    pub fn watch(&mut self, question: &Query) -> Result<(), Refusal>
         ensures ok { OnOk result ((question_refusal self.old.questions question.now ≡ None) × (self.new ≡ with_question self.old question.now)) }
         ensures err { IfErr result (λ refusal. IsRefusal (question_refusal self.old.questions question.now) refusal) }
         ensures unchanged { OnErr result (self.new ≡ self.old) }
     {
-        match question.refusal_among(&self.questions) {
+        match question.refusal_among(&self.questions, MOST) {
             Some(refusal) => Err(refusal),
             None => self.add(question),
         }
     }
 
     // Registers a question that may stand behind those that there are. Refused with `NoMemory`.
-    fn add(&mut self, question: &Question) -> Result<(), Refusal>
+    fn add(&mut self, question: &Query) -> Result<(), Refusal>
         requires { question_refusal self.old.questions question.now ≡ None }
         ensures ok { OnOk result ((question_refusal self.old.questions question.now ≡ None) × (self.new ≡ with_question self.old question.now)) }
         ensures err { IfErr result (λ refusal. IsRefusal (question_refusal self.old.questions question.now) refusal) }
@@ -108,7 +111,7 @@ impl Queries {
     }
 
     /// The question at a place, if there is one.
-    pub fn question(&self, place: usize) -> Option<Question>
+    pub fn question(&self, place: usize) -> Option<Query>
         ensures { result ≡ slice_get self.now.questions place }
     {
         self.questions.get(place).copied()

@@ -8,14 +8,14 @@ use crate::queries::Queries;
 use crate::queries_calls::{BAD_NAME, NO_SUCH_NAME};
 use crate::queries_notes::{Note, Noted, not_noted};
 use crate::queries_told::answer_asked;
-use crate::questions::Question;
 use crate::results::{NO_HANDLE, Reduced, not_reduced};
 use crate::slots::{Slot, put, take};
 use lv_bodies::Name;
+use lv_standing::Query;
 use std::alloc::Global;
 
 // The question of a name in a set.
-fn find_in_set(set: &Queries, name: &Name) -> Result<Question, u32>
+fn find_in_set(set: &Queries, name: &Name) -> Result<Query, u32>
     ensures { result ≡ found_at (place_of set.now.questions name.now) set.now.questions }
 {
     match set.place(name) {
@@ -28,7 +28,7 @@ fn find_in_set(set: &Queries, name: &Name) -> Result<Question, u32>
 }
 
 // The question of a name at an object.
-fn find_in(object: &Object, name: &Name) -> Result<Question, u32>
+fn find_in(object: &Object, name: &Name) -> Result<Query, u32>
     ensures { result ≡ found_in name.now object.now }
 {
     match object {
@@ -38,7 +38,7 @@ fn find_in(object: &Object, name: &Name) -> Result<Question, u32>
 }
 
 // The question of a name at what lies behind a slot.
-fn find_held(alloc: Global, slot: &mut Slot, name: &Name) -> Result<Question, u32>
+fn find_held(alloc: Global, slot: &mut Slot, name: &Name) -> Result<Query, u32>
     ensures found { result ≡ found_behind name.now slot.old.raw.inner }
     ensures same { slot.new.raw.inner ≡ slot.old.raw.inner }
 {
@@ -53,7 +53,7 @@ fn find_held(alloc: Global, slot: &mut Slot, name: &Name) -> Result<Question, u3
 }
 
 // The same of bytes that may be a name.
-fn question_of(alloc: Global, slot: &mut Slot, name: &[u8]) -> Result<Question, u32>
+fn question_of(alloc: Global, slot: &mut Slot, name: &[u8]) -> Result<Query, u32>
     ensures found { result ≡ question_of name.now slot.old.raw.inner }
     ensures same { slot.new.raw.inner ≡ slot.old.raw.inner }
 {
@@ -64,7 +64,7 @@ fn question_of(alloc: Global, slot: &mut Slot, name: &[u8]) -> Result<Question, 
 }
 
 // What a question is answered by an object.
-fn answer_object(object: &mut Object, question: &Question) -> Reduced
+fn answer_object(object: &mut Object, question: &Query) -> Reduced
     ensures answer { result ≡ object_answered question.now object.old }
     ensures same { object.new ≡ object.old }
 {
@@ -75,7 +75,7 @@ fn answer_object(object: &mut Object, question: &Question) -> Reduced
 }
 
 // What a question is answered by what lies behind a slot.
-fn answer_held(alloc: Global, slot: &mut Slot, question: &Question) -> Reduced
+fn answer_held(alloc: Global, slot: &mut Slot, question: &Query) -> Reduced
     ensures answer { result ≡ answered_behind question.now slot.old.raw.inner }
     ensures same { slot.new.raw.inner ≡ slot.old.raw.inner }
 {

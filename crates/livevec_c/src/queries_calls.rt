@@ -7,10 +7,10 @@ ghost use Rattle.livevec_c.specs.declared.objects.Object.TheVariants as objects;
 use crate::boards::kind_of;
 use crate::objects::Object;
 use crate::queries::Queries;
-use crate::questions::Question;
 use crate::results::{BAD_KIND, IN_USE, NO_HANDLE, NO_MEMORY};
 use crate::slots::{Slot, is_full, put, take};
 use lv_bodies::Name;
+use lv_standing::Query;
 use std::alloc::{AllocError, Global};
 
 /// The number for bytes that are no name.
@@ -44,7 +44,7 @@ pub extern "C" fn livevec_proved_queries_new(alloc: Global, slot: &mut Slot) -> 
 }
 
 // The question that a caller asks for, or the number for why there is none.
-fn question_in(name: &[u8], kind: u32, lo: u32, hi: u32) -> Result<Question, u32>
+fn question_in(name: &[u8], kind: u32, lo: u32, hi: u32) -> Result<Query, u32>
     ensures { result ≡ question_in name.now kind lo hi }
 {
     let Some(name) = Name::new(name) else {
@@ -53,11 +53,11 @@ fn question_in(name: &[u8], kind: u32, lo: u32, hi: u32) -> Result<Question, u32
     let Some(kind) = kind_of(kind) else {
         return Err(BAD_KIND);
     };
-    Ok(Question { name, kind, lo, hi })
+    Ok(Query { name, kind, lo, hi })
 }
 
 // Registers a question at an object.
-fn watch_object(object: &mut Object, question: &Question) -> u32
+fn watch_object(object: &mut Object, question: &Query) -> u32
     ensures { WatchesObject question.now result object.old object.new }
 {
     match object {
@@ -70,7 +70,7 @@ fn watch_object(object: &mut Object, question: &Question) -> u32
 }
 
 // Registers a question at what lies behind a slot.
-fn watch_held(alloc: Global, slot: &mut Slot, question: &Question) -> u32
+fn watch_held(alloc: Global, slot: &mut Slot, question: &Query) -> u32
     ensures { WatchesBehind question.now result slot.old.raw.inner slot.new.raw.inner }
 {
     match take(alloc, slot) {

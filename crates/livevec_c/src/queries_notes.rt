@@ -3,10 +3,10 @@ ghost use Rattle.std.specs.Prelude.{◌≡◌, ◌≤◌, length};
 ghost use Rattle.livevec_c.specs.Queried.{NotesInto, NotesOne, PutsNote, has_some, name_for, note_of, unnoted};
 
 use crate::only::number_of;
-use crate::questions::Question;
 use crate::said::shown_values;
 use crate::values::PlainValues;
 use lv_bodies::{Name, Shown};
+use lv_standing::Query;
 
 /// That the answer of a query is another than it was told: its name, a zero behind it, its kind, after which edit, and its answer.
 #[repr(C)]
@@ -41,7 +41,7 @@ pub fn not_noted(refusal: u32, detail: u32) -> Noted
 }
 
 /// Whether a question's range has an element of a vector of this size.
-pub fn has_some(question: &Question, size: u32) -> bool
+pub fn has_some(question: &Query, size: u32) -> bool
     ensures { result ≡ has_some size question.now }
 {
     question.lo < question.hi.min(size)
@@ -58,7 +58,7 @@ fn name_for(name: &Name) -> [u8; 17]
 }
 
 // The note of a value, by a vector of this size after this edit.
-fn note_of(question: &Question, value: Shown, size: u32, edit: u32) -> Note
+fn note_of(question: &Query, value: Shown, size: u32, edit: u32) -> Note
     ensures { result ≡ note_of edit size question.now value }
 {
     Note {
@@ -81,7 +81,7 @@ fn put_note(notes: &mut [Note], place: usize, note: Note)
 // Notes a question where its value is another than it was told, behind so many notes, and tells how many there are then. Where there is
 // no room for it, it is counted only.
 fn note_one(
-    question: &Question,
+    question: &Query,
     before: &Shown,
     value: &Shown,
     size: u32,
@@ -102,7 +102,7 @@ fn note_one(
 /// Notes each question whose value is another than it was told, at the front of the notes' places, and tells how many these are. Where
 /// there are more than places, what lies in the places is nothing to rely on.
 pub fn note_all(
-    questions: &[Question],
+    questions: &[Query],
     told: &[Shown],
     values: &[Shown],
     size: u32,

@@ -7,14 +7,14 @@ use crate::kind_vectors::KindVector;
 use crate::only::may_ask;
 use crate::queries::Queries;
 use crate::queries_notes::{Note, Noted, has_some, not_noted, note_all};
-use crate::questions::Question;
 use crate::results::{BAD_KIND, Reduced, SHORT_BUFFER, not_reduced};
 use crate::said::shown_values;
 use lv_bodies::{Kind, Shown};
+use lv_standing::Query;
 use std::mem;
 
 // What a question is answered by a vector. Of its range what exists is asked, and is cheap until an edit touches it. Takes no memory.
-fn answer_one(vector: &mut KindVector, question: &Question) -> Shown
+fn answer_one(vector: &mut KindVector, question: &Query) -> Shown
     ensures value { IsAnswered vector.old question.now result }
     ensures same { vector.new ≡ vector.old }
 {
@@ -27,7 +27,7 @@ fn answer_one(vector: &mut KindVector, question: &Question) -> Shown
 }
 
 // What each question is answered by a vector, in place of the values that there were. The room was made before.
-fn answer_each(vector: &mut KindVector, questions: &[Question], values: &mut Vec<Shown>)
+fn answer_each(vector: &mut KindVector, questions: &[Query], values: &mut Vec<Shown>)
     requires { length questions.now ≤ vec_capacity values.old }
     ensures values { values.new.items ≡ map (answer_by vector.old) questions.now }
     ensures capacity { vec_capacity values.new ≡ vec_capacity values.old }
@@ -41,7 +41,7 @@ fn answer_each(vector: &mut KindVector, questions: &[Question], values: &mut Vec
 }
 
 /// What a question is answered by a vector, which is of one kind or of all six.
-pub fn answer_asked(vector: &mut KindVector, only: Option<Kind>, question: &Question) -> Reduced
+pub fn answer_asked(vector: &mut KindVector, only: Option<Kind>, question: &Query) -> Reduced
     ensures answer { result ≡ answered_if (is_asked_by only (Some question.now.kind)) question.now vector.old }
     ensures same { vector.new ≡ vector.old }
 {

@@ -1,4 +1,4 @@
--- The notes of values, one question after another, and which questions are refused.
+-- The notes of values, one query after another.
 use Rattle.std.proofs.Common.{◌≡◌, ◌<◌, ◌≤◌, ◌+◌, ℕ, Bool, true, false, cond, ◌||◌, Some, None, List, [], ◌∷◌, ◌++◌, length, map, take, get_or, refl, ap, sym, subst, ◌∙◌, inl, inr, arith}
 use Rattle.std.specs.Prelude.{nat_lt}
 use Rattle.std.specs.List.{list_any}
@@ -9,13 +9,13 @@ use Rattle.lv_geometry.specs.declared.refusals.Refusal.TheVariants.{NameTaken, T
 use Rattle.lv_bodies.specs.declared.kinds.Shown.{Shown}
 use Rattle.lv_edits.specs.declared.edit.Edit.{Edit}
 use Rattle.lv_standing.specs.declared.notes.Note.{Note}
-use Rattle.lv_standing.specs.Queries.{Query, name_refusal, query_of}
-use Rattle.lv_hub.specs.declared.questions.Question.{Question}
-use Rattle.lv_hub.specs.Notes.{AreNotesOf, answer_to, query_of_question, question_refusal}
+use Rattle.lv_standing.specs.declared.queries.Query.{Query}
+use Rattle.lv_standing.specs.Queries.{watch_answer, name_refusal, query_of}
+use Rattle.lv_hub.specs.Notes.{AreNotesOf, question_refusal}
 use Rattle.lv_hub.specs.Noting.{IsAnswered, NotesOne}
 
 -- the notes of some questions and those of one more are the notes of all
-pub notes_more : (questions : List Question) (told values : List Shown) (notes : List Note) (q : Question) (before value : Shown) (more : List Note) → length told ≡ length questions → length values ≡ length questions
+pub notes_more : (questions : List Query) (told values : List Shown) (notes : List Note) (q : Query) (before value : Shown) (more : List Note) → length told ≡ length questions → length values ≡ length questions
     → AreNotesOf questions told values notes → AreNotesOf (q ∷ []) (before ∷ []) (value ∷ []) more → AreNotesOf (questions ++ q ∷ []) (told ++ before ∷ []) (values ++ value ∷ []) (notes ++ more)
 notes_more [] [] [] notes q before value more as_told as_values none one =
     subst (λ ns. AreNotesOf (q ∷ []) (before ∷ []) (value ∷ []) (ns ++ more)) (sym none) one
@@ -28,44 +28,12 @@ notes_more (p ∷ questions) (b ∷ told) (v ∷ values) notes q before value mo
 notes_more (p ∷ questions) (b ∷ told) (v ∷ values) notes q before value more as_told as_values (inr note) one =
     inr (note.0, note.1 ++ more, ap (λ ns. ns ++ more) note.2, notes_more questions told values note.1 q before value more (omega (arith, as_told)) (omega (arith, as_values)) note.3 one)
 
--- a question is refused for its name where one of them has it, else where they are as many as may be
-pub refused_by_name : (all : List Query) (questions : List Question) (name : List ℕ) → name_refusal all (query_of (map query_of_question questions) name) ≡ cond (list_any (λ q. bytes_eq q.name name) questions) (Some NameTaken) (cond (nat_lt (length all) 64) None (Some TooMany))
-refused_by_name all [] name = refl
-refused_by_name all (q ∷ questions) name =
-    elim (bytes_eq q.name name) as (λ same. name_refusal all (cond same (Some (query_of_question q)) (query_of (map query_of_question questions) name)) ≡ cond (same || list_any (λ q. bytes_eq q.name name) questions) (Some NameTaken) (cond (nat_lt (length all) 64) None (Some TooMany))) [
-      | true ↦ refl
-      | false ↦ refused_by_name all questions name
-    ]
-
--- whether a question's name is that of one of some
-abbrev pub is_named : List Question → Question → Bool
-is_named questions q = list_any (λ other. bytes_eq other.name q.name) questions
-
--- why it is refused, where its range isn't backwards
-refused_so : (questions : List Question) (q : Question) → q.lo ≤ q.hi → question_refusal questions q ≡ cond (is_named questions q) (Some NameTaken) (cond (nat_lt (length (map query_of_question questions)) 64) None (Some TooMany))
-refused_so questions q order = cond-false _ _ _ (le-ltb q.hi q.lo order) ∙ refused_by_name (map query_of_question questions) questions q.name
-
-pub name_taken : (questions : List Question) (q : Question) → q.lo ≤ q.hi → is_named questions q ≡ true → question_refusal questions q ≡ Some NameTaken
-name_taken questions q order named = refused_so questions q order ∙ ap (λ b. cond b (Some NameTaken) (cond (nat_lt (length (map query_of_question questions)) 64) None (Some TooMany))) named
-
-pub not_refused : (questions : List Question) (q : Question) → q.lo ≤ q.hi → is_named questions q ≡ false → length questions < 64 → question_refusal questions q ≡ None
-not_refused questions q order named few =
-    refused_so questions q order
-    ∙ ap (λ b. cond b (Some NameTaken) (cond (nat_lt (length (map query_of_question questions)) 64) None (Some TooMany))) named
-    ∙ ap (λ b. cond b None (Some TooMany)) (ap (λ n. nat_lt n 64) (length-map questions query_of_question) ∙ lt-ltb (length questions) 64 few)
-
-pub name_refused : (questions : List Question) (q : Question) → q.lo ≤ q.hi → is_named questions q ≡ false → 64 ≤ length questions → question_refusal questions q ≡ Some TooMany
-name_refused questions q order named many =
-    refused_so questions q order
-    ∙ ap (λ b. cond b (Some NameTaken) (cond (nat_lt (length (map query_of_question questions)) 64) None (Some TooMany))) named
-    ∙ ap (λ b. cond b None (Some TooMany)) (ap (λ n. nat_lt n 64) (length-map questions query_of_question) ∙ le-ltb (length questions) 64 many)
-
 -- a list up to an index, and what stands there
 next_of : {A : Type 0} (xs : List A) (i : ℕ) (x : A) → x ≡ get_or xs i x → i < length xs → take (i + 1) xs ≡ take i xs ++ x ∷ []
 next_of xs i x is inside = take_more xs i x inside ∙ ap (λ y. take i xs ++ y ∷ []) (sym is)
 
 -- the questions up to an index were noted, and then what stands there
-pub next_noted : (q : Question) (before value : Shown) (questions : List Question) (told values : List Shown) (notes more : List Note) (i : ℕ) → NotesOne q before value notes more
+pub next_noted : (q : Query) (before value : Shown) (questions : List Query) (told values : List Shown) (notes more : List Note) (i : ℕ) → NotesOne q before value notes more
     → length told ≡ length questions → length values ≡ length questions → i < length questions → q ≡ get_or questions i q → before ≡ get_or told i before → value ≡ get_or values i value
     → AreNotesOf (take i questions) (take i told) (take i values) notes → AreNotesOf (take (i + 1) questions) (take (i + 1) told) (take (i + 1) values) more
 next_noted q before value questions told values notes more i one as_told as_values inside q_is before_is value_is so_far =
@@ -75,10 +43,10 @@ next_noted q before value questions told values notes more i one as_told as_valu
     rw (next_of questions i q q_is inside, next_of told i before before_is (omega arith), next_of values i value value_is (omega arith), one.all) all
 
 -- the questions up to an index were answered, and then what stands there
-pub next_answered : (q : Question) (value : Shown) (edits now : List Edit) (questions : List Question) (values more : List Shown) (i : ℕ) → IsAnswered now q value → now ≡ edits → q ≡ get_or questions i q → i < length questions
-    → more ≡ values ++ value ∷ [] → values ≡ map (answer_to edits) (take i questions) → more ≡ map (answer_to edits) (take (i + 1) questions)
+pub next_answered : (q : Query) (value : Shown) (edits now : List Edit) (questions : List Query) (values more : List Shown) (i : ℕ) → IsAnswered now q value → now ≡ edits → q ≡ get_or questions i q → i < length questions
+    → more ≡ values ++ value ∷ [] → values ≡ map (watch_answer edits) (take i questions) → more ≡ map (watch_answer edits) (take (i + 1) questions)
 next_answered q value edits now questions values more i one same q_is inside pushed so_far =
     pushed
     ∙ ap (λ vs. vs ++ value ∷ []) so_far
-    ∙ ap (λ v. map (answer_to edits) (take i questions) ++ v ∷ []) (one.is ∙ ap (λ es. answer_to es q) same)
-    ∙ sym (ap (map (answer_to edits)) (next_of questions i q q_is inside) ∙ map-append (answer_to edits) (take i questions) (q ∷ []))
+    ∙ ap (λ v. map (watch_answer edits) (take i questions) ++ v ∷ []) (one.is ∙ ap (λ es. watch_answer es q) same)
+    ∙ sym (ap (map (watch_answer edits)) (next_of questions i q q_is inside) ∙ map-append (watch_answer edits) (take i questions) (q ∷ []))

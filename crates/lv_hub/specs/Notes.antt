@@ -7,37 +7,29 @@ use Rattle.lv_bodies.specs.declared.kinds.Shown.{Shown}
 use Rattle.lv_edits.specs.declared.edit.Edit.{Edit}
 use Rattle.lv_edits.specs.Kept.{IsLegalInLimits}
 use Rattle.lv_standing.specs.declared.notes.Note.{Note}
-use Rattle.lv_standing.specs.Queries.{Query, watch_answer, watch_refusal}
-use Rattle.lv_hub.specs.declared.questions.Question.{Question}
+use Rattle.lv_standing.specs.declared.queries.Query.{Query}
+use Rattle.lv_standing.specs.Queries.{query_refusal, watch_answer}
 use Rattle.lv_hub.specs.declared.told.Told.{Told}
 use Rattle.lv_hub.specs.Counting.{ShareState, having_seen}
 use Rattle.lv_hub.specs.Told.{history_of}
 
--- the standing query that a question is
-abbrev pub query_of_question : Question → Query
-query_of_question q = record { name = q.name; kind = q.kind; lo = q.lo; hi = q.hi }
-
--- what a question is answered after some edits: the plain value of the elements that its range has
-abbrev pub answer_to : List Edit → Question → Shown
-answer_to edits q = watch_answer edits (query_of_question q)
-
--- why a question is refused, want of memory apart, as a standing query is
-abbrev pub question_refusal : List Question → Question → Option Refusal
-question_refusal questions q = watch_refusal (map query_of_question questions) q.name q.lo q.hi
+-- why a subscriber refuses a query, want of memory apart: it has at most 64
+abbrev pub question_refusal : List Query → Query → Option Refusal
+question_refusal queries q = query_refusal 64 queries q
 
 -- a subscriber: its share of the hub, its questions in the order that they came, and what each was told last
 pub record SubscriberState : Type 0 where
   pub share : ShareState
-  pub questions : List Question
+  pub questions : List Query
   pub told : List Shown
 
 -- a subscriber that has ended
 pub record EndedState : Type 0 where
-  pub questions : List Question
+  pub questions : List Query
   pub told : List Shown
 
 -- the notes of some values: one for each question, in order, whose value is another than it was told before, with that value
-abbrev pub AreNotesOf : List Question → List Shown → List Shown → List Note → Type 0
+abbrev pub AreNotesOf : List Query → List Shown → List Shown → List Note → Type 0
 AreNotesOf [] told values notes = notes ≡ []
 AreNotesOf (q ∷ questions) [] values notes = notes ≡ []
 AreNotesOf (q ∷ questions) (before ∷ told) [] notes = notes ≡ []
@@ -54,7 +46,7 @@ pub record HasTold (limits : Bounds) (old new : SubscriberState) (told : Told) :
   pub within : IsLegalInLimits (history_of limits new.share.seen)
   pub share : new.share ≡ having_seen old.share new.share.seen
   pub questions : new.questions ≡ old.questions
-  pub answers : new.told ≡ map (answer_to new.share.seen) old.questions
+  pub answers : new.told ≡ map (watch_answer new.share.seen) old.questions
   pub notes : AreNotesOf old.questions old.told new.told told.notes.items
 
 -- either there was nothing to tell, and nothing has changed; or it was told

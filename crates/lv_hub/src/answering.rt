@@ -4,7 +4,7 @@ ghost use mathlib.Core.List.{IsPrefix};
 ghost use Rattle.lv_edits.specs.Kept.{IsLegalInLimits};
 ghost use Rattle.lv_live.specs.State.{SameLive};
 ghost use Rattle.lv_hub.specs.Counting.{having_seen};
-ghost use Rattle.lv_hub.specs.Notes.{answer_to};
+ghost use Rattle.lv_standing.specs.Queries.{watch_answer};
 ghost use Rattle.lv_hub.specs.Noting.{IsAnswered};
 ghost use Rattle.lv_hub.specs.Told.{IsVector, history_of};
 
@@ -12,14 +12,14 @@ use crate::desk_with_history::DeskWithHistory;
 use crate::desks::Desk;
 use crate::hubs::Hub;
 use crate::naming::{Naming, WithBody};
-use crate::questions::Question;
 use crate::shares::Share;
 use lv_bodies::{Shown, Six, face};
 use lv_live::Live;
+use lv_standing::Query;
 use std::sync::Wait;
 
 // What a question is answered by a vector. Of its range what exists is asked, and is cheap until an edit touches it. Takes no memory.
-fn answer_one(live: &mut Live<Six>, question: &Question) -> Shown
+fn answer_one(live: &mut Live<Six>, question: &Query) -> Shown
     requires { IsLegalInLimits live.old.history }
     ensures value { IsAnswered live.old.history.journal question.now result }
     ensures same { SameLive live.old live.new }
@@ -33,10 +33,10 @@ fn answer_one(live: &mut Live<Six>, question: &Question) -> Shown
 }
 
 /// What each question is answered by a vector, in place of the values that there were. The room was made before.
-pub fn answer_each(live: &mut Live<Six>, questions: &[Question], values: &mut Vec<Shown>)
+pub fn answer_each(live: &mut Live<Six>, questions: &[Query], values: &mut Vec<Shown>)
     requires limits { IsLegalInLimits live.old.history }
     requires room { length questions.now ≤ vec_capacity values.old }
-    ensures values { values.new.items ≡ map (answer_to live.old.history.journal) questions.now }
+    ensures values { values.new.items ≡ map (watch_answer live.old.history.journal) questions.now }
     ensures capacity { vec_capacity values.new ≡ vec_capacity values.old }
     ensures same { SameLive live.old live.new }
 {
@@ -49,9 +49,9 @@ pub fn answer_each(live: &mut Live<Six>, questions: &[Question], values: &mut Ve
 
 impl<N: Naming> Desk<Six, N> {
     /// What each question is answered, in place of the values that there were. Takes no memory.
-    pub fn answer_all(&mut self, questions: &[Question], values: &mut Vec<Shown>)
+    pub fn answer_all(&mut self, questions: &[Query], values: &mut Vec<Shown>)
         requires { length questions.now ≤ vec_capacity values.old }
-        ensures values { values.new.items ≡ map (answer_to self.old.history.journal) questions.now }
+        ensures values { values.new.items ≡ map (watch_answer self.old.history.journal) questions.now }
         ensures capacity { vec_capacity values.new ≡ vec_capacity values.old }
         ensures same { SameLive self.old self.new }
         ensures vector { IsVector N.limits self.old.history }
@@ -65,14 +65,14 @@ impl<N: WithBody<Six>> DeskWithHistory<Six, N> {
     pub fn answer_all(
         &mut self,
         share: &mut Share<N>,
-        questions: &[Question],
+        questions: &[Query],
         values: &mut Vec<Shown>,
     ) -> u32
         requires { length questions.now ≤ vec_capacity values.old }
         ensures begins { IsPrefix share.old.seen share.new.seen }
         ensures within { IsLegalInLimits (history_of N.limits share.new.seen) }
         ensures edit { result ≡ length share.new.seen }
-        ensures values { values.new.items ≡ map (answer_to share.new.seen) questions.now }
+        ensures values { values.new.items ≡ map (watch_answer share.new.seen) questions.now }
         ensures capacity { vec_capacity values.new ≡ vec_capacity values.old }
         ensures share { share.new ≡ having_seen share.old share.new.seen }
     {
@@ -89,14 +89,14 @@ impl<N: WithBody<Six>> Hub<Six, N> {
         &self,
         rt: &R,
         share: &mut Share<N>,
-        questions: &[Question],
+        questions: &[Query],
         values: &mut Vec<Shown>,
     ) -> u32
         requires { length questions.now ≤ vec_capacity values.old }
         ensures begins { IsPrefix share.old.seen share.new.seen }
         ensures within { IsLegalInLimits (history_of N.limits share.new.seen) }
         ensures edit { result ≡ length share.new.seen }
-        ensures values { values.new.items ≡ map (answer_to share.new.seen) questions.now }
+        ensures values { values.new.items ≡ map (watch_answer share.new.seen) questions.now }
         ensures capacity { vec_capacity values.new ≡ vec_capacity values.old }
         ensures share { share.new ≡ having_seen share.old share.new.seen }
     {

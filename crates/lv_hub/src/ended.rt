@@ -2,21 +2,21 @@
 ghost use Rattle.std.specs.Prelude.{◌≡◌, ◌≤◌, length, map, vec_capacity};
 ghost use Rattle.lv_edits.specs.Kept.{IsLegalInLimits};
 ghost use Rattle.lv_live.specs.State.{SameLive};
-ghost use Rattle.lv_hub.specs.Notes.{AreNotesOf, answer_to};
+ghost use Rattle.lv_standing.specs.Queries.{watch_answer};
+ghost use Rattle.lv_hub.specs.Notes.{AreNotesOf};
 
 use crate::answering::answer_each;
 use crate::noting::note_all;
-use crate::questions::Question;
 use crate::told::Told;
 use lv_bodies::{Shown, Six};
 use lv_live::Live;
-use lv_standing::Note;
+use lv_standing::{Note, Query};
 use std::marker::Model;
 
 /// A subscriber that has ended: its questions, and what each was told last.
 #[derive(Drop)]
 pub struct Ended {
-    questions: Vec<Question>,
+    questions: Vec<Query>,
     told: Vec<Shown>,
     // Room for answers and notes.
     values: Vec<Shown>,
@@ -37,7 +37,7 @@ impl Model for Ended {
 impl Ended {
     // What a subscriber leaves, with room for as many values and notes as it has questions.
     pub(crate) fn new(
-        questions: Vec<Question>,
+        questions: Vec<Query>,
         told: Vec<Shown>,
         values: Vec<Shown>,
         notes: Vec<Note>,
@@ -60,7 +60,7 @@ impl Ended {
     pub fn tell(self, live: &mut Live<Six>) -> Told
         requires { IsLegalInLimits live.old.history }
         ensures edit { result.edit ≡ length live.old.history.journal }
-        ensures notes { AreNotesOf self.questions self.told (map (answer_to live.old.history.journal) self.questions) result.notes.items }
+        ensures notes { AreNotesOf self.questions self.told (map (watch_answer live.old.history.journal) self.questions) result.notes.items }
         ensures same { SameLive live.old live.new }
     {
         let Ended {

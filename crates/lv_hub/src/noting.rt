@@ -3,14 +3,13 @@ ghost use Rattle.std.specs.Prelude.{◌≡◌, ◌+◌, ◌≤◌, OnOk, length,
 ghost use Rattle.lv_hub.specs.Notes.{AreNotesOf};
 ghost use Rattle.lv_hub.specs.Noting.{NotesOne};
 
-use crate::questions::Question;
 use lv_bodies::Shown;
-use lv_standing::Note;
+use lv_standing::{Note, Query};
 use std::alloc::AllocError;
 
 /// Notes each question whose value is another than it was told before, in place of the notes that there were. The room was made
 /// before.
-pub fn note_all(questions: &[Question], told: &[Shown], values: &[Shown], notes: &mut Vec<Note>)
+pub fn note_all(questions: &[Query], told: &[Shown], values: &[Shown], notes: &mut Vec<Note>)
     requires told { length told.now ≡ length questions.now }
     requires values { length values.now ≡ length questions.now }
     requires room { length questions.now ≤ vec_capacity notes.old }
@@ -23,7 +22,7 @@ pub fn note_all(questions: &[Question], told: &[Shown], values: &[Shown], notes:
 }
 
 // Notes a question where its value is another than it was told before.
-fn note_one(question: &Question, before: &Shown, value: &Shown, notes: &mut Vec<Note>)
+fn note_one(question: &Query, before: &Shown, value: &Shown, notes: &mut Vec<Note>)
     requires { vec_len notes.old + 1 ≤ vec_capacity notes.old }
     ensures noted { NotesOne question.now before.now value.now notes.old.items notes.new.items }
     ensures few { vec_len notes.new ≤ vec_len notes.old + 1 }
@@ -40,7 +39,7 @@ fn note_one(question: &Question, before: &Shown, value: &Shown, notes: &mut Vec<
 
 /// Makes room for one question more, for what it was told, and for the values and the notes of all.
 pub fn make_room(
-    questions: &mut Vec<Question>,
+    questions: &mut Vec<Query>,
     told: &mut Vec<Shown>,
     values: &mut Vec<Shown>,
     notes: &mut Vec<Note>,

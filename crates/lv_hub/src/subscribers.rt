@@ -1,24 +1,27 @@
 //! Threads that are told of the edits that change the answers to their questions.
 ghost use Rattle.std.specs.Prelude.{◌≡◌, ◌++◌, ◌∷◌, [], None, IfErr, IfOk, OnErr, OnOk};
 ghost use Rattle.lv_edits.specs.Verdict.{IsRefusal};
-ghost use Rattle.lv_hub.specs.Notes.{IsToldIf, answer_to, question_refusal};
+ghost use Rattle.lv_standing.specs.Queries.{watch_answer};
+ghost use Rattle.lv_hub.specs.Notes.{IsToldIf, question_refusal};
 
 use crate::ended::Ended;
 use crate::hubs::Hub;
 use crate::naming::WithBody;
 use crate::noting::{make_room, note_all};
-use crate::questions::Question;
 use crate::shares::Share;
 use crate::told::Told;
 use lv_bodies::{Shown, Six};
 use lv_geometry::Refusal;
-use lv_standing::Note;
+use lv_standing::{Note, Query};
 use std::alloc::Global;
 use std::marker::Model;
 use std::mem;
 use std::sync::Wait;
 use std::thread::Parker;
 use std::time::Duration;
+
+// How many queries a subscriber has at most.
+const MOST: usize = 64;
 
 // How long a subscriber pauses between two looks, unless it is told otherwise.
 const PAUSE_MICROSECONDS: u64 = 1000;
@@ -30,7 +33,7 @@ const PAUSE_MICROSECONDS: u64 = 1000;
 #[derive(Drop)]
 pub struct Subscriber<N: WithBody<Six>> {
     share: Share<N>,
-    questions: Vec<Question>,
+    questions: Vec<Query>,
     told: Vec<Shown>,
     // Room for answers, and for the last notes.
     values: Vec<Shown>,
@@ -73,26 +76,26 @@ impl<N: WithBody<Six>> Subscriber<N> {
 
     /// Registers a question, which is told of with the next look that finds an edit. Refused with `BadRange`, `NameTaken`, `TooMany`,
     /// then `NoMemory`.
-    pub fn watch(&mut self, question: &Question) -> Result<(), Refusal>
+    pub fn watch(&mut self, question: &Query) -> Result<(), Refusal>
         ensures ok { OnOk result ((question_refusal self.old.questions question.now ≡ None)
             × (self.new.questions ≡ self.old.questions ++ question.now ∷ [])
-            × (self.new.told ≡ self.old.told ++ answer_to [] question.now ∷ [])) }
+            × (self.new.told ≡ self.old.told ++ watch_answer [] question.now ∷ [])) }
         ensures err { IfErr result (λ refusal. IsRefusal (question_refusal self.old.questions question.now) refusal) }
         ensures unchanged { OnErr result (self.new ≡ self.old) }
         ensures share { self.new.share ≡ self.old.share }
     {
-        match question.refusal_among(&self.questions) {
+        match question.refusal_among(&self.questions, MOST) {
             Some(refusal) => Err(refusal),
             None => self.add(question),
         }
     }
 
     // Registers a question that may stand behind those that there are. Refused with `NoMemory`.
-    fn add(&mut self, question: &Question) -> Result<(), Refusal>
+    fn add(&mut self, question: &Query) -> Result<(), Refusal>
         requires { question_refusal self.old.questions question.now ≡ None }
         ensures ok { OnOk result ((question_refusal self.old.questions question.now ≡ None)
             × (self.new.questions ≡ self.old.questions ++ question.now ∷ [])
-            × (self.new.told ≡ self.old.told ++ answer_to [] question.now ∷ [])) }
+            × (self.new.told ≡ self.old.told ++ watch_answer [] question.now ∷ [])) }
         ensures err { IfErr result (λ refusal. IsRefusal (question_refusal self.old.questions question.now) refusal) }
         ensures unchanged { OnErr result (self.new ≡ self.old) }
         ensures share { self.new.share ≡ self.old.share }
@@ -107,7 +110,7 @@ impl<N: WithBody<Six>> Subscriber<N> {
             return Err(Refusal::NoMemory);
         };
         self.questions.push_reserved(*question);
-        self.told.push_reserved(question.answer_to_nothing());
+        self.told.push_reserved(question.untold());
         Ok(())
     }
 

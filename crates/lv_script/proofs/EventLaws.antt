@@ -27,7 +27,8 @@ use Rattle.lv_live.specs.State.{HasNoClaims, SameLive, SameRefresh, recorded, wi
 use Rattle.lv_live.specs.Step.{Costs, Reduces, Step, accepted_reply, numbered_reply, reduction_reply}
 use Rattle.lv_live.proofs.WorldLaws.{step_edit, step_forget, step_reduction, step_settle}
 use Rattle.lv_standing.specs.declared.notes.Note.{Note}
-use Rattle.lv_standing.specs.Queries.{AreNotes, Query}
+use Rattle.lv_standing.specs.declared.queries.Query.{Query}
+use Rattle.lv_standing.specs.Queries.{AreNotes}
 use Rattle.lv_standing.specs.Standings.{StandingState}
 use Rattle.lv_lines.specs.declared.fault.Fault.{Fault}
 use Rattle.lv_lines.specs.declared.fault.Fault.TheVariants.{WriteFault}

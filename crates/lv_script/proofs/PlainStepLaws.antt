@@ -22,7 +22,8 @@ use Rattle.lv_live.specs.declared.events.Event.TheVariants as event
 use Rattle.lv_live.specs.Step.{EditStep, Reduces, job_of, reduction_reply}
 use Rattle.lv_live.proofs.RunLaws.{claimed_edits, delivered_edits}
 use Rattle.lv_standing.specs.declared.notes.Note.{Note}
-use Rattle.lv_standing.specs.Queries.{AreNotes, Query, query_of, watch_answer, without_query}
+use Rattle.lv_standing.specs.declared.queries.Query.{Query}
+use Rattle.lv_standing.specs.Queries.{AreNotes, query_of, watch_answer, without_query}
 use Rattle.lv_lines.specs.declared.command.Command.{Command}
 use Rattle.lv_lines.specs.declared.command.Command.TheVariants as command
 use Rattle.lv_lines.specs.declared.lines.Line.{Line}

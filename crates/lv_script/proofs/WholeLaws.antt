@@ -14,7 +14,8 @@ use Rattle.lv_edits.specs.Capacity.{capacity_after}
 use Rattle.lv_edits.specs.History.{list_of}
 use Rattle.lv_edits.specs.Verdict.{element_at, receipt_of}
 use Rattle.lv_edits.specs.Ranges.{slice_of}
-use Rattle.lv_standing.specs.Queries.{Query, query_of, watch_answer}
+use Rattle.lv_standing.specs.declared.queries.Query.{Query}
+use Rattle.lv_standing.specs.Queries.{query_of, watch_answer}
 use Rattle.lv_lines.specs.declared.command.Command.{Command}
 use Rattle.lv_lines.specs.declared.command.Command.TheVariants as command
 use Rattle.lv_lines.specs.declared.lines.Line.{Line}

@@ -4,7 +4,7 @@ use Rattle.std.specs.List.{flat_map}
 use Rattle.lv_geometry.specs.Bounds.{Bounds}
 use Rattle.lv_geometry.specs.declared.refusals.Refusal.TheVariants.{NoMemory}
 use Rattle.lv_edits.specs.declared.edit.Edit.{Edit}
-use Rattle.lv_standing.specs.Queries.{Query}
+use Rattle.lv_standing.specs.declared.queries.Query.{Query}
 use Rattle.lv_lines.specs.declared.command.Command.{Command}
 use Rattle.lv_lines.specs.declared.command.Command.TheVariants as command
 use Rattle.lv_lines.specs.declared.command.Command.TheVariants.{Settle, Cost, Claim, Deliver, Forget, Watch}

@@ -18,7 +18,8 @@ use Rattle.lv_edits.specs.declared.edit.Edit.{Edit}
 use Rattle.lv_edits.specs.History.{list_of}
 use Rattle.lv_standing.specs.declared.changes.Changed.{Changed}
 use Rattle.lv_standing.specs.declared.watches.Watch.{Watch}
-use Rattle.lv_standing.specs.Queries.{Query, name_refusal, query_of, watch_refusal, without_query}
+use Rattle.lv_standing.specs.declared.queries.Query.{Query}
+use Rattle.lv_standing.specs.Queries.{name_refusal, query_of, watch_refusal, without_query}
 use Rattle.lv_standing.specs.Inner.{asked, has_changed, refreshed}
 use Rattle.lv_tree.specs.KindSummaries.{kind_of}
 use Rattle.lv_standing.specs.Standings.{IsCurrent, queries_of, query_at}
@@ -119,16 +120,16 @@ pub query_there : (entries : List (List ℕ × Watch)) (name : List ℕ) (w : Wa
 query_there entries name w found = query_looked_up entries name ∙ ap (option_map (query_by name)) found
 
 -- why a query is refused, by what a look-up of its name answers and by how many there are
-pub refusal_by : (entries : List (List ℕ × Watch)) (name : List ℕ) (lo hi : ℕ) → lo ≤ hi → watch_refusal (queries_of entries) name lo hi ≡ name_refusal (queries_of entries) (option_map (query_by name) (lookup (bytes_eq name) entries))
+pub refusal_by : (entries : List (List ℕ × Watch)) (name : List ℕ) (lo hi : ℕ) → lo ≤ hi → watch_refusal (queries_of entries) name lo hi ≡ name_refusal 64 (queries_of entries) (option_map (query_by name) (lookup (bytes_eq name) entries))
 refusal_by entries name lo hi order =
-    ap (λ b. cond b (Some BadRange) (name_refusal (queries_of entries) (query_of (queries_of entries) name))) (le-ltb hi lo order)
-    ∙ ap (name_refusal (queries_of entries)) (query_looked_up entries name)
+    ap (λ b. cond b (Some BadRange) (name_refusal 64 (queries_of entries) (query_of (queries_of entries) name))) (le-ltb hi lo order)
+    ∙ ap (name_refusal 64 (queries_of entries)) (query_looked_up entries name)
 
 -- a name that has a watch is taken
 pub refused_taken : (entries : List (List ℕ × Watch)) (name : List ℕ) (lo hi : ℕ) → lo ≤ hi → is_some (lookup (bytes_eq name) entries) ≡ true → watch_refusal (queries_of entries) name lo hi ≡ Some NameTaken
 refused_taken entries name lo hi order taken = refusal_by entries name lo hi order ∙ by (lookup (bytes_eq name) entries) taken
   where
-    by : (found : Option Watch) → is_some found ≡ true → name_refusal (queries_of entries) (option_map (query_by name) found) ≡ Some NameTaken
+    by : (found : Option Watch) → is_some found ≡ true → name_refusal 64 (queries_of entries) (option_map (query_by name) found) ≡ Some NameTaken
     by None h = absurd (false≢true h)
     by (Some w) h = refl
 
@@ -141,14 +142,14 @@ not_found (Some w) h = absurd (false≢true (sym h))
 pub refused_many : (entries : List (List ℕ × Watch)) (name : List ℕ) (lo hi : ℕ) → lo ≤ hi → lookup (bytes_eq name) entries ≡ None → 64 ≤ length entries → watch_refusal (queries_of entries) name lo hi ≡ Some TooMany
 refused_many entries name lo hi order none many =
     refusal_by entries name lo hi order
-    ∙ ap (λ found. name_refusal (queries_of entries) (option_map (query_by name) found)) none
+    ∙ ap (λ found. name_refusal 64 (queries_of entries) (option_map (query_by name) found)) none
     ∙ ap (λ b. cond b None (Some TooMany)) (ap (λ n. ltb n 64) (length-map entries query_at) ∙ le-ltb (length entries) 64 many)
 
 -- and else nothing refuses it
 pub refused_not : (entries : List (List ℕ × Watch)) (name : List ℕ) (lo hi : ℕ) → lo ≤ hi → lookup (bytes_eq name) entries ≡ None → length entries < 64 → watch_refusal (queries_of entries) name lo hi ≡ None
 refused_not entries name lo hi order none few =
     refusal_by entries name lo hi order
-    ∙ ap (λ found. name_refusal (queries_of entries) (option_map (query_by name) found)) none
+    ∙ ap (λ found. name_refusal 64 (queries_of entries) (option_map (query_by name) found)) none
     ∙ ap (λ b. cond b None (Some TooMany)) (ap (λ n. ltb n 64) (length-map entries query_at) ∙ lt-ltb (length entries) 64 few)
 
 -- a name with a watch has a query

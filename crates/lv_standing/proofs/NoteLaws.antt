@@ -11,7 +11,8 @@ use Rattle.lv_edits.specs.History.{list_of}
 use Rattle.lv_standing.specs.declared.notes.Note.{Note}
 use Rattle.lv_standing.specs.declared.changes.Changed.{Changed}
 use Rattle.lv_standing.specs.declared.watches.Watch.{Watch}
-use Rattle.lv_standing.specs.Queries.{AreNotes, Query, watch_answer}
+use Rattle.lv_standing.specs.declared.queries.Query.{Query}
+use Rattle.lv_standing.specs.Queries.{AreNotes, watch_answer}
 use Rattle.lv_tree.specs.declared.kind_summaries.KindSummary.{KindSummary}
 use Rattle.lv_standing.specs.Inner.{AddsNotes, AreTold, IsKeptAs, IsNoted, IsToldAt, SameElsewhere, asked, has_changed, refreshed}
 use Rattle.lv_tree.specs.KindSummaries.{kind_of, shown_of, summary_of}

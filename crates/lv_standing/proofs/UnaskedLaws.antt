@@ -10,7 +10,7 @@ use Rattle.lv_tree.specs.Kinds.{IsLeftOrFollows, KindsState, LeavesAll, LeavesOr
 use Rattle.lv_tree.proofs.KeptLaws.{LeavesOrFollows-same}
 use Rattle.lv_tree.specs.KindSummaries.{kind_of}
 use Rattle.lv_standing.specs.declared.watches.Watch.{Watch}
-use Rattle.lv_standing.specs.Queries.{Query}
+use Rattle.lv_standing.specs.declared.queries.Query.{Query}
 use Rattle.lv_standing.specs.Standings.{IsUnasked, LeavesOrFollowsUnasked, LeavesUnasked, queries_of, query_at}
 
 -- what holds of all holds of the one at an index

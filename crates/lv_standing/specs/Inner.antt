@@ -22,7 +22,8 @@ use Rattle.lv_tree.specs.KindSummaries.{kind_of, shown_of}
 use Rattle.lv_standing.specs.declared.changes.Changed.{Changed}
 use Rattle.lv_standing.specs.declared.watches.Watch.{Watch}
 use Rattle.lv_standing.specs.declared.notes.Note.{Note}
-use Rattle.lv_standing.specs.Queries.{AreNotes, Query, TellsNotes}
+use Rattle.lv_standing.specs.declared.queries.Query.{Query}
+use Rattle.lv_standing.specs.Queries.{AreNotes, TellsNotes}
 use Rattle.lv_standing.specs.Standings.{IsCurrent, IsStanding, LeavesUnasked, queries_of, query_at, summary_at}
 
 -- the entry with the summary after these edits

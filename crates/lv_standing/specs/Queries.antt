@@ -12,6 +12,7 @@ use Rattle.lv_edits.specs.History.{list_of}
 use Rattle.lv_edits.specs.Ranges.{range_refusal, slice_of}
 use Rattle.lv_standing.specs.declared.notes.Answered.{Answered}
 use Rattle.lv_standing.specs.declared.notes.Note.{Note}
+use Rattle.lv_standing.specs.declared.queries.Query.{Query}
 
 -- what is shown of a range at the last edit, by what is shown of a list: nothing refuses the range
 pub record IsShown (plain : List ℤ → Shown) (edits : List Edit) (lo hi : ℕ) (answered : Answered) : Type 0 where
@@ -22,13 +23,6 @@ pub record IsShown (plain : List ℤ → Shown) (edits : List Edit) (lo hi : ℕ
 -- the value of a kind over a range: the plain value of its elements
 abbrev pub IsValue : List Edit → Kind → ℕ → ℕ → Answered → Type 0
 IsValue edits kind = IsShown (plain_value kind) edits
-
--- a standing query: its name, and the kind and range that it asks for
-pub record Query : Type 0 where
-  pub name : List ℕ
-  pub kind : Kind
-  pub lo : ℕ
-  pub hi : ℕ
 
 -- what a query answers after some edits: the plain value of the elements that its range has
 abbrev pub watch_answer : List Edit → Query → Shown
@@ -58,11 +52,20 @@ query_of (q ∷ queries) name = if bytes_eq q.name name then Some q else query_o
 abbrev pub without_query : List Query → List ℕ → List Query
 without_query queries name = filter (λ q. not (bytes_eq q.name name)) queries
 
--- a name is taken where a query has it, else there may be 64 queries already
-abbrev pub name_refusal : List Query → Option Query → Option Refusal
-name_refusal queries (Some q) = Some NameTaken
-name_refusal queries None = if nat_lt (length queries) 64 then None else Some TooMany
+-- what a query counts as told before its first note: its answer of no elements
+abbrev pub untold : Query → Shown
+untold q = plain_value q.kind []
 
--- why a query is refused, want of memory apart: its range is backwards, or its name is taken, or there are 64 queries
+-- a name is taken where a query has it, else there may be as many queries as are allowed already
+abbrev pub name_refusal : ℕ → List Query → Option Query → Option Refusal
+name_refusal most queries (Some q) = Some NameTaken
+name_refusal most queries None = if nat_lt (length queries) most then None else Some TooMany
+
+-- why a query is refused among others, of which so many are allowed, want of memory apart: its range is backwards, or its name is
+-- taken, or there are as many as are allowed
+abbrev pub query_refusal : ℕ → List Query → Query → Option Refusal
+query_refusal most queries q = if nat_lt q.hi q.lo then Some BadRange else name_refusal most queries (query_of queries q.name)
+
+-- the same at a vector with standing queries, of which it has at most 64
 abbrev pub watch_refusal : List Query → List ℕ → ℕ → ℕ → Option Refusal
-watch_refusal queries name lo hi = if nat_lt hi lo then Some BadRange else name_refusal queries (query_of queries name)
+watch_refusal queries name lo hi = if nat_lt hi lo then Some BadRange else name_refusal 64 queries (query_of queries name)

@@ -13,7 +13,7 @@ use Rattle.lv_tree.specs.declared.kind_summaries.KindSummary.{KindSummary}
 use Rattle.lv_tree.specs.Kinds.{AreReady, HaveRoomFor, IsLeftOrFollows, KindsState, blocks_of, followed_by}
 use Rattle.lv_tree.specs.KindSummaries.{kind_of, summary_of}
 use Rattle.lv_standing.specs.declared.watches.Watch.{Watch}
-use Rattle.lv_standing.specs.Queries.{Query}
+use Rattle.lv_standing.specs.declared.queries.Query.{Query}
 
 -- a live vector of all six bodies, its standing queries in order of registration, and what it keeps by kind of what it was asked
 pub record StandingState : Type 0 where

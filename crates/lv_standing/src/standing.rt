@@ -18,7 +18,8 @@ ghost use Rattle.lv_live.specs.Step.{Step, accepted_reply, numbered_reply};
 ghost use Rattle.lv_live.specs.declared.events.Event.TheVariants as event;
 ghost use Rattle.lv_tree.specs.Kinds.{IsCaughtUp, IsNear, LeavesOthers};
 ghost use Rattle.lv_standing.specs.Standings.{LeavesOrFollowsUnasked};
-ghost use Rattle.lv_standing.specs.Queries.{AreNotes, Query, TellsNotes, query_of, watch_answer, watch_refusal, without_query, IsValue};
+ghost use Rattle.lv_standing.specs.declared.queries.Query.{Query};
+ghost use Rattle.lv_standing.specs.Queries.{AreNotes, TellsNotes, query_of, watch_answer, watch_refusal, without_query, IsValue};
 
 mod searches;
 

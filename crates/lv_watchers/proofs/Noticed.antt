@@ -7,9 +7,10 @@ use Rattle.lv_geometry.specs.Bounds.{Bounds}
 use Rattle.lv_bodies.specs.declared.kinds.Shown.{Shown}
 use Rattle.lv_edits.specs.declared.edit.Edit.{Edit}
 use Rattle.lv_hub.specs.Counting.{ShareState}
-use Rattle.lv_hub.specs.declared.questions.Question.{Question}
+use Rattle.lv_standing.specs.declared.queries.Query.{Query}
 use Rattle.lv_hub.specs.declared.told.Told.{Told}
-use Rattle.lv_hub.specs.Notes.{AreNotesOf, HasTold, IsToldIf, SubscriberState, answer_to}
+use Rattle.lv_standing.specs.Queries.{watch_answer}
+use Rattle.lv_hub.specs.Notes.{AreNotesOf, HasTold, IsToldIf, SubscriberState}
 use Rattle.lv_watchers.specs.Noticing.{AreTold, NoticesState, WatcherState, Watches, WritesMore, WroteOrPart, all_told_text, told_text}
 use Rattle.lv_watchers.specs.Watched.{AreToldOf, WatchState, answers_at}
 use Rattle.lv_watchers.specs.Watchers.{watcher_at}
@@ -83,7 +84,7 @@ pub taken : (n : ℕ) (xs all : List Edit) → n ≡ length xs → IsPrefix xs a
 taken n xs all many begun = ap (λ n. take n all) many ∙ ap (take (length xs)) (sym begun.1) ∙ take_front xs begun.0
 
 -- the same things told, said by other words for them
-told_as : (edits : List Edit) (questions asked : List Question) (since from : ℕ) (before told : List Shown) (tolds : List Told) (after : List Shown)
+told_as : (edits : List Edit) (questions asked : List Query) (since from : ℕ) (before told : List Shown) (tolds : List Told) (after : List Shown)
     → questions ≡ asked → since ≡ from → before ≡ told → AreToldOf edits questions since before tolds after → AreToldOf edits asked from told tolds after
 told_as edits questions asked since from before told tolds after questions_are since_is before_is are =
     subst (λ qs. AreToldOf edits qs from told tolds after) questions_are
@@ -100,7 +101,7 @@ module _ (limits : Bounds) (edits : List Edit) where
       let begun_mid = prefix_trans mid.share.seen new.share.seen edits (seen_grows limits mid new tolds told.2) begun in
       let rest = told_of mid new tolds told.2 begun in
       let there : take t.edit edits ≡ mid.share.seen = taken t.edit mid.share.seen edits has.edit begun_mid in
-      let answers : mid.told ≡ answers_at edits t.edit old.questions = has.answers ∙ ap (λ es. map (answer_to es) old.questions) (sym there) in (
+      let answers : mid.told ≡ answers_at edits t.edit old.questions = has.answers ∙ ap (λ es. map (watch_answer es) old.questions) (sym there) in (
         (
           omega (arith, has.later),
           omega (arith, has.edit, prefix_length mid.share.seen edits begun_mid),
@@ -111,12 +112,12 @@ module _ (limits : Bounds) (edits : List Edit) where
       )
 
 -- the last was told too, at the end of the edits
-pub told_last : (edits : List Edit) (questions : List Question) (since : ℕ) (before mid : List Shown) (tolds : List Told) (last : Told)
-    → AreToldOf edits questions since before tolds mid → since ≤ length edits → last.edit ≡ length edits → AreNotesOf questions mid (map (answer_to edits) questions) last.notes.items
-    → AreToldOf edits questions since before (tolds ++ last ∷ []) (map (answer_to edits) questions)
+pub told_last : (edits : List Edit) (questions : List Query) (since : ℕ) (before mid : List Shown) (tolds : List Told) (last : Told)
+    → AreToldOf edits questions since before tolds mid → since ≤ length edits → last.edit ≡ length edits → AreNotesOf questions mid (map (watch_answer edits) questions) last.notes.items
+    → AreToldOf edits questions since before (tolds ++ last ∷ []) (map (watch_answer edits) questions)
 told_last edits questions since before mid [] last told within edit notes =
     let all : take last.edit edits ≡ edits = taken last.edit edits edits edit (prefix_self edits) in
-    let answers : answers_at edits last.edit questions ≡ map (answer_to edits) questions = ap (λ es. map (answer_to es) questions) all in (
+    let answers : answers_at edits last.edit questions ≡ map (watch_answer edits) questions = ap (λ es. map (watch_answer es) questions) all in (
       omega (arith, within, edit),
       omega (arith, edit),
       subst (λ bs. AreNotesOf questions bs (answers_at edits last.edit questions) last.notes.items) told (subst (λ values. AreNotesOf questions mid values last.notes.items) (sym answers) notes),
@@ -135,28 +136,28 @@ pub watches_still : (limits : Bounds) (old : WatcherState) (subscriber : Subscri
 watches_still limits old subscriber same = subst (λ s. Watches limits old (record { subscriber = s; notices = old.notices })) (sym same) (watches_nothing limits old)
 
 -- one question more is asked
-pub asks_more : (questions asked more : List Question) (i : ℕ) (d q : Question) → i < length questions → q ≡ get_or questions i d → asked ≡ take i questions → more ≡ asked ++ q ∷ [] → more ≡ take (i + 1) questions
+pub asks_more : (questions asked more : List Query) (i : ℕ) (d q : Query) → i < length questions → q ≡ get_or questions i d → asked ≡ take i questions → more ≡ asked ++ q ∷ [] → more ≡ take (i + 1) questions
 asks_more questions asked more i d q within is so_far pushed =
     pushed ∙ ap (λ qs. qs ++ q ∷ []) so_far ∙ ap (λ q. take i questions ++ q ∷ []) is ∙ sym (take_more questions i d within)
 
 -- and counts as told its answer of no elements
-pub told_more : (questions : List Question) (told more : List Shown) (i : ℕ) (d q : Question) → i < length questions → q ≡ get_or questions i d → told ≡ map (answer_to []) (take i questions) → more ≡ told ++ answer_to [] q ∷ []
-    → more ≡ map (answer_to []) (take (i + 1) questions)
+pub told_more : (questions : List Query) (told more : List Shown) (i : ℕ) (d q : Query) → i < length questions → q ≡ get_or questions i d → told ≡ map (watch_answer []) (take i questions) → more ≡ told ++ watch_answer [] q ∷ []
+    → more ≡ map (watch_answer []) (take (i + 1) questions)
 told_more questions told more i d q within is so_far pushed =
-    pushed ∙ ap (λ vs. vs ++ answer_to [] q ∷ []) so_far ∙ sym (map-append (answer_to []) (take i questions) (q ∷ []))
-    ∙ ap (λ q. map (answer_to []) (take i questions ++ q ∷ [])) is ∙ ap (map (answer_to [])) (sym (take_more questions i d within))
+    pushed ∙ ap (λ vs. vs ++ watch_answer [] q ∷ []) so_far ∙ sym (map-append (watch_answer []) (take i questions) (q ∷ []))
+    ∙ ap (λ q. map (watch_answer []) (take i questions ++ q ∷ [])) is ∙ ap (map (watch_answer [])) (sym (take_more questions i d within))
 
 -- all are asked
-pub asked_all : (old new : SubscriberState) (questions : List Question) → new.share ≡ old.share → new.questions ≡ questions → new.told ≡ map (answer_to []) questions → new ≡ record old { questions = questions; told = map (answer_to []) questions }
+pub asked_all : (old new : SubscriberState) (questions : List Query) → new.share ≡ old.share → new.questions ≡ questions → new.told ≡ map (watch_answer []) questions → new ≡ record old { questions = questions; told = map (watch_answer []) questions }
 asked_all old new questions share asked told = λ i. record { share = share i; questions = asked i; told = told i }
 
 -- a subscriber with a share of its own that asks all
 pub subscribed : (watch : WatchState) (share : ShareState) (notices : NoticesState) (old new : SubscriberState) → notices ≡ record { contents = watch.contents; failed = false } → old ≡ record { share = share; questions = []; told = [] }
-    → new ≡ record old { questions = watch.questions; told = map (answer_to []) watch.questions } → share.parts ≡ 1 → share.count ≡ 0 → share.seen ≡ []
+    → new ≡ record old { questions = watch.questions; told = map (watch_answer []) watch.questions } → share.parts ≡ 1 → share.count ≡ 0 → share.seen ≡ []
     → record { subscriber = new; notices = notices } ≡ watcher_at watch
 subscribed watch share notices old new notices_is old_is new_is parts count seen =
     let same : share ≡ record { parts = 1; count = 0; seen = [] } = λ i. record { parts = parts i; count = count i; seen = seen i } in
-    let all : new ≡ record { share = record { parts = 1; count = 0; seen = [] }; questions = watch.questions; told = map (answer_to []) watch.questions } =
-    new_is ∙ ap (λ (s : SubscriberState). record s { questions = watch.questions; told = map (answer_to []) watch.questions }) old_is
-    ∙ ap (λ (share : ShareState). record { share = share; questions = watch.questions; told = map (answer_to []) watch.questions }) same in
+    let all : new ≡ record { share = record { parts = 1; count = 0; seen = [] }; questions = watch.questions; told = map (watch_answer []) watch.questions } =
+    new_is ∙ ap (λ (s : SubscriberState). record s { questions = watch.questions; told = map (watch_answer []) watch.questions }) old_is
+    ∙ ap (λ (share : ShareState). record { share = share; questions = watch.questions; told = map (watch_answer []) watch.questions }) same in
     λ i. record { subscriber = all i; notices = notices_is i }

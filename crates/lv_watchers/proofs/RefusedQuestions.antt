@@ -3,7 +3,7 @@ use Rattle.std.proofs.Common.{◌≡◌, ◌⊎◌, ℕ, ◌+◌, ◌<◌, suc, 
 use Rattle.std.proofs.lemmas.List.{map-append}
 use Rattle.lv_geometry.specs.declared.refusals.Refusal.{Refusal}
 use Rattle.lv_edits.specs.Verdict.{IsRefusal}
-use Rattle.lv_hub.specs.declared.questions.Question.{Question}
+use Rattle.lv_standing.specs.declared.queries.Query.{Query}
 use Rattle.lv_hub.specs.Notes.{question_refusal}
 use Rattle.lv_watchers.specs.Asking.{IsRefusedFor, first_refusal, refusal_behind, refusal_of_all}
 
@@ -20,7 +20,7 @@ some_first : (known other : Option Refusal) (refusal : Refusal) → known ≡ So
 some_first known other refusal some = subst (λ known. first_refusal known other ≡ Some refusal) (sym some) refl
 
 -- some that are fit, and others behind them
-pub behind_both : (before xs ys : List Question) → refusal_behind before xs ≡ None → refusal_behind before (xs ++ ys) ≡ refusal_behind (before ++ xs) ys
+pub behind_both : (before xs ys : List Query) → refusal_behind before xs ≡ None → refusal_behind before (xs ++ ys) ≡ refusal_behind (before ++ xs) ys
 behind_both before [] ys fit = ap (λ b. refusal_behind b ys) (sym (append-nil before))
 behind_both before (x ∷ xs) ys fit =
     let parts = no_first (question_refusal before x) (refusal_behind (before ++ x ∷ []) xs) fit in
@@ -29,7 +29,7 @@ behind_both before (x ∷ xs) ys fit =
     ∙ ap (λ b. refusal_behind b ys) (append_assoc before (x ∷ []) xs)
 
 -- one more is fit
-pub fit_more : (asked more : List Question) (q : Question) → refusal_behind [] asked ≡ None → question_refusal asked q ≡ None → more ≡ asked ++ q ∷ [] → refusal_behind [] more ≡ None
+pub fit_more : (asked more : List Query) (q : Query) → refusal_behind [] asked ≡ None → question_refusal asked q ≡ None → more ≡ asked ++ q ∷ [] → refusal_behind [] more ≡ None
 fit_more asked more q fit one pushed = ap (refusal_behind []) pushed ∙ behind_both [] asked (q ∷ []) fit ∙ none_first (question_refusal asked q) None one
 
 -- a list goes on from a place with what stands there
@@ -39,7 +39,7 @@ rest_from (x ∷ xs) zero d within = (xs, refl)
 rest_from (x ∷ xs) (suc i) d within = let r = rest_from xs i d (omega (arith, within)) in (r.0, ap (λ ys. x ∷ ys) r.1)
 
 -- one is refused
-pub refused_one : (questions asked : List Question) (i : ℕ) (d q : Question) (refusal : Refusal) → i < length questions → q ≡ get_or questions i d → asked ≡ take i questions → refusal_behind [] asked ≡ None
+pub refused_one : (questions asked : List Query) (i : ℕ) (d q : Query) (refusal : Refusal) → i < length questions → q ≡ get_or questions i d → asked ≡ take i questions → refusal_behind [] asked ≡ None
     → IsRefusal (question_refusal asked q) refusal → IsRefusedFor (refusal_behind [] questions) refusal
 refused_one questions asked i d q refusal within is so_far fit refused =
     elim refused [
@@ -51,19 +51,19 @@ refused_one questions asked i d q refusal within is so_far fit refused =
     ]
 
 -- some that are fit, and the others
-pub all_both : (xs ys : List (List Question)) → refusal_of_all xs ≡ None → refusal_of_all (xs ++ ys) ≡ refusal_of_all ys
+pub all_both : (xs ys : List (List Query)) → refusal_of_all xs ≡ None → refusal_of_all (xs ++ ys) ≡ refusal_of_all ys
 all_both [] ys fit = refl
 all_both (x ∷ xs) ys fit =
     let parts = no_first (refusal_behind [] x) (refusal_of_all xs) fit in
     none_first (refusal_behind [] x) (refusal_of_all (xs ++ ys)) parts.0 ∙ all_both xs ys parts.1
 
 -- the next is fit
-pub all_more : {W : Type 0} (asks : W → List Question) (some : List W) (one : W) → refusal_of_all (map asks some) ≡ None → refusal_behind [] (asks one) ≡ None → refusal_of_all (map asks (some ++ one ∷ [])) ≡ None
+pub all_more : {W : Type 0} (asks : W → List Query) (some : List W) (one : W) → refusal_of_all (map asks some) ≡ None → refusal_behind [] (asks one) ≡ None → refusal_of_all (map asks (some ++ one ∷ [])) ≡ None
 all_more asks some one fit next =
     ap refusal_of_all (map-append asks some (one ∷ [])) ∙ all_both (map asks some) (asks one ∷ []) fit ∙ none_first (refusal_behind [] (asks one)) None next
 
 -- the next is refused
-pub all_refused : {W : Type 0} (asks : W → List Question) (all some : List W) (one : W) (refusal : Refusal) → (length some < length all) × (one ≡ get_or all (length some) one) → some ≡ take (length some) all
+pub all_refused : {W : Type 0} (asks : W → List Query) (all some : List W) (one : W) (refusal : Refusal) → (length some < length all) × (one ≡ get_or all (length some) one) → some ≡ take (length some) all
     → refusal_of_all (map asks some) ≡ None → IsRefusedFor (refusal_behind [] (asks one)) refusal → IsRefusedFor (refusal_of_all (map asks all)) refusal
 all_refused asks all some one refusal turn so_far fit refused =
     elim refused [

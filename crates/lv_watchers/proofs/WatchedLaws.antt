@@ -7,7 +7,8 @@ use mathlib.Core.List.{IsPrefix}
 use Rattle.lv_geometry.specs.Bounds.{Bounds}
 use Rattle.lv_edits.specs.declared.edit.Edit.{Edit}
 use Rattle.lv_hub.specs.Counting.{AreTogether, ShareState}
-use Rattle.lv_hub.specs.Notes.{AreNotesOf, answer_to}
+use Rattle.lv_standing.specs.Queries.{watch_answer}
+use Rattle.lv_hub.specs.Notes.{AreNotesOf}
 use Rattle.lv_watchers.specs.Noticing.{NoticesState, WatcherState, Watches, WroteOrPart, all_told_text}
 use Rattle.lv_watchers.specs.Watched.{AreWatched, IsWatched, ServedWatched, ToldOf, WatchState}
 use Rattle.lv_watchers.specs.Watchers.{AllTellLast, AreLeft, AreWatchedFrom, ClosesTelling, LeftState, TakesWatchers, TellsLast, left_by, watcher_at}
@@ -95,7 +96,7 @@ tells_one_more edits left told more one new all last is = subst (AllTellLast edi
 -- what was told up to the end, and then the last
 watched_so : (edits : List Edit) (watch : WatchState) (l : LeftState) (new : NoticesState) → l.ended.questions ≡ watch.questions → ToldOf edits watch l.ended.told l.notices → TellsLast edits l new → IsWatched edits watch new
 watched_so edits watch l new questions told last =
-    let asked = subst (λ qs. AreNotesOf qs l.ended.told (map (answer_to edits) qs) last.told.notes.items) questions last.notes in record {
+    let asked = subst (λ qs. AreNotesOf qs l.ended.told (map (watch_answer edits) qs) last.told.notes.items) questions last.notes in record {
       tolds = told.tolds ++ last.told ∷ [];
       told = told_last edits watch.questions 0 _ l.ended.told told.tolds last.told told.told (omega arith) last.edit asked;
       written = subst (WroteOrPart new.failed watch.contents new.contents) (ap (λ text. all_told_text told.tolds ++ text) (sym (text_of_one last.told)) ∙ sym (text_of_both told.tolds (last.told ∷ [])))

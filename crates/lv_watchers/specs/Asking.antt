@@ -10,7 +10,7 @@ use Rattle.lv_lines.specs.declared.lines.Line.TheVariants.{Nothing, Do}
 use Rattle.lv_lines.specs.declared.fault.Fault.{Fault}
 use Rattle.lv_lines.specs.Grammar.{line_of}
 use Rattle.lv_lines.specs.Replies.{Conversed}
-use Rattle.lv_hub.specs.declared.questions.Question.{Question}
+use Rattle.lv_standing.specs.declared.queries.Query.{Query}
 use Rattle.lv_hub.specs.Notes.{question_refusal}
 use Rattle.lv_watchers.specs.declared.queries.Damage as damages
 use Rattle.lv_watchers.specs.declared.queries.Unasked.{Unasked}
@@ -18,7 +18,7 @@ use Rattle.lv_watchers.specs.declared.queries.Unasked.TheVariants as unasked
 
 -- what was read: the questions in the order of their lines, and what is wrong with the first line that is wrong
 pub record Asked : Type 0 where
-  pub questions : List Question
+  pub questions : List Query
   pub damage : Option damages.Damage
 
 -- before the first line
@@ -26,17 +26,17 @@ abbrev pub no_questions : Asked
 no_questions = record { questions = []; damage = None }
 
 -- some questions, and a line that is wrong
-abbrev pub damaged : List Question → ℕ → Option Refusal → Asked
+abbrev pub damaged : List Query → ℕ → Option Refusal → Asked
 damaged questions n refusal = record { questions = questions; damage = Some (record { line = n; refusal = refusal }) }
 
 -- line n asks a question: it stands behind the others, unless it is refused
-abbrev pub Asks : List Question → ℕ → Question → Asked → Type 0
+abbrev pub Asks : List Query → ℕ → Query → Asked → Type 0
 Asks questions n q new =
     ((question_refusal questions q ≡ None) × (new ≡ record { questions = questions ++ q ∷ []; damage = None }))
     ⊎ ((refusal : Refusal) × IsRefusal (question_refusal questions q) refusal × (new ≡ damaged questions n (Some refusal)))
 
 -- line n says this, where no line before it is wrong. One that says nothing changes nothing, and one that is no `watch` is wrong
-abbrev pub Takes : List Question → ℕ → Line Command → Asked → Type 0
+abbrev pub Takes : List Query → ℕ → Line Command → Asked → Type 0
 Takes questions n Nothing new = new ≡ record { questions = questions; damage = None }
 Takes questions n (Do (Watch name kind lo hi)) new = Asks questions n (record { name = name; kind = kind; lo = lo; hi = hi }) new
 Takes questions n _ new = new ≡ damaged questions n None
@@ -57,17 +57,17 @@ pub record AsksAll {T : Type 0} (remaining_old remaining_new : Option (List ℕ)
   pub conversed : Conversed AskStep no_questions asked remaining_old remaining_new before after result
 
 -- what is found once all lines were taken
-abbrev pub Finds : {Z : Type 0} → Asked → Result (Vec Question Z) Unasked → Type 0
+abbrev pub Finds : {Z : Type 0} → Asked → Result (Vec Query Z) Unasked → Type 0
 Finds asked (Ok questions) = asked ≡ record { questions = questions.items; damage = None }
 Finds asked (Err (unasked.Damage damage)) = asked.damage ≡ Some damage
 Finds asked (Err (unasked.Fault fault)) = ⊥
 
 -- how the questions of an input were read: all lines are right; or the first that is wrong is told; or there was a fault
-abbrev pub ReadsQuestions : {Z : Type 0} → Option (List ℕ) → Option (List ℕ) → Result (Vec Question Z) Unasked → Type 0
+abbrev pub ReadsQuestions : {Z : Type 0} → Option (List ℕ) → Option (List ℕ) → Result (Vec Query Z) Unasked → Type 0
 ReadsQuestions remaining_old remaining_new (Ok questions) =
     AsksAll {T = Unit {0}} remaining_old remaining_new (record { questions = questions.items; damage = None }) (Ok tt)
 ReadsQuestions remaining_old remaining_new (Err (unasked.Damage damage)) =
-    (questions : List Question) × AsksAll {T = Unit {0}} remaining_old remaining_new (record { questions = questions; damage = Some damage }) (Ok tt)
+    (questions : List Query) × AsksAll {T = Unit {0}} remaining_old remaining_new (record { questions = questions; damage = Some damage }) (Ok tt)
 ReadsQuestions remaining_old remaining_new (Err (unasked.Fault fault)) =
     (asked : Asked) × AsksAll {T = Unit {0}} remaining_old remaining_new asked (Err fault)
 
@@ -79,12 +79,12 @@ first_refusal (Some refusal) other = Some refusal
 first_refusal None other = other
 
 -- why questions that come in turn behind others are refused, want of memory apart: as the first that is
-abbrev pub refusal_behind : List Question → List Question → Option Refusal
+abbrev pub refusal_behind : List Query → List Query → Option Refusal
 refusal_behind before [] = None
 refusal_behind before (q ∷ questions) = first_refusal (question_refusal before q) (refusal_behind (before ++ q ∷ []) questions)
 
 -- why those of several subscribers are, who have none before: as the first that is
-abbrev pub refusal_of_all : List (List Question) → Option Refusal
+abbrev pub refusal_of_all : List (List Query) → Option Refusal
 refusal_of_all [] = None
 refusal_of_all (questions ∷ rest) = first_refusal (refusal_behind [] questions) (refusal_of_all rest)
 

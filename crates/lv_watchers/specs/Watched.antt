@@ -5,23 +5,24 @@ use Rattle.lv_bodies.specs.declared.kinds.Shown.{Shown}
 use Rattle.lv_edits.specs.declared.edit.Edit.{Edit}
 use Rattle.lv_transcript.specs.declared.claimed.Claimed.{Claimed}
 use Rattle.lv_transcript.specs.Transcript.{transcript_text}
-use Rattle.lv_hub.specs.declared.questions.Question.{Question}
+use Rattle.lv_standing.specs.declared.queries.Query.{Query}
 use Rattle.lv_hub.specs.declared.told.Told.{Told}
-use Rattle.lv_hub.specs.Notes.{AreNotesOf, answer_to}
+use Rattle.lv_standing.specs.Queries.{watch_answer}
+use Rattle.lv_hub.specs.Notes.{AreNotesOf}
 use Rattle.lv_watchers.specs.Noticing.{NoticesState, WroteOrPart, all_told_text}
 
 -- what is to be told: its questions, and what the writer of its lines has got
 pub record WatchState : Type 0 where
-  pub questions : List Question
+  pub questions : List Query
   pub contents : Option (List ℕ)
 
 -- what questions are answered after the first so many edits of a list
-abbrev pub answers_at : List Edit → ℕ → List Question → List Shown
-answers_at edits n questions = map (answer_to (take n edits)) questions
+abbrev pub answers_at : List Edit → ℕ → List Query → List Shown
+answers_at edits n questions = map (watch_answer (take n edits)) questions
 
 -- of one list of edits, some questions were told of, each counting as told a value before: at edits that don't fall, the plain values
 -- that are others than were told before. Afterwards these values are what was told
-abbrev pub AreToldOf : List Edit → List Question → ℕ → List Shown → List Told → List Shown → Type 0
+abbrev pub AreToldOf : List Edit → List Query → ℕ → List Shown → List Told → List Shown → Type 0
 AreToldOf edits questions since before [] after = after ≡ before
 AreToldOf edits questions since before (told ∷ tolds) after =
     (since ≤ told.edit)
@@ -33,12 +34,12 @@ AreToldOf edits questions since before (told ∷ tolds) after =
 -- were written, or a write has failed after no more than a front of them
 pub record ToldOf (edits : List Edit) (old : WatchState) (after : List Shown) (new : NoticesState) : Type 0 where
   pub tolds : List Told
-  pub told : AreToldOf edits old.questions 0 (map (answer_to []) old.questions) tolds after
+  pub told : AreToldOf edits old.questions 0 (map (watch_answer []) old.questions) tolds after
   pub written : WroteOrPart new.failed old.contents new.contents (all_told_text tolds)
 
 -- and at the end each question's answer after all edits is as told
 abbrev pub IsWatched : List Edit → WatchState → NoticesState → Type 0
-IsWatched edits old new = ToldOf edits old (map (answer_to edits) old.questions) new
+IsWatched edits old new = ToldOf edits old (map (watch_answer edits) old.questions) new
 
 -- so it was of each of several
 abbrev pub AreWatched : List Edit → List WatchState → List NoticesState → Type 0

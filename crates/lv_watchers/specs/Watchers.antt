@@ -8,14 +8,15 @@ use Rattle.lv_transcript.specs.declared.claimed.Claimed.{Claimed}
 use Rattle.lv_transcript.specs.Transcript.{transcript_text}
 use Rattle.lv_hub.specs.declared.told.Told.{Told}
 use Rattle.lv_hub.specs.Counting.{ShareState}
-use Rattle.lv_hub.specs.Notes.{AreNotesOf, EndedState, answer_to}
+use Rattle.lv_standing.specs.Queries.{watch_answer}
+use Rattle.lv_hub.specs.Notes.{AreNotesOf, EndedState}
 use Rattle.lv_watchers.specs.Noticing.{NoticesState, WatcherState, Watches, WritesMore, told_text}
 use Rattle.lv_watchers.specs.Watched.{ToldOf, WatchState}
 
 -- a subscriber that has one part of a hub, and has seen and told nothing
 abbrev pub watcher_at : WatchState → WatcherState
 watcher_at watch = record {
-  subscriber = record { share = record { parts = 1; count = 0; seen = [] }; questions = watch.questions; told = map (answer_to []) watch.questions };
+  subscriber = record { share = record { parts = 1; count = 0; seen = [] }; questions = watch.questions; told = map (watch_answer []) watch.questions };
   notices = record { contents = watch.contents; failed = false };
 }
 
@@ -52,7 +53,7 @@ AreLeft seen _ _ = ⊥
 pub record TellsLast (edits : List Edit) (old : LeftState) (new : NoticesState) : Type 0 where
   pub told : Told
   pub edit : told.edit ≡ length edits
-  pub notes : AreNotesOf old.ended.questions old.ended.told (map (answer_to edits) old.ended.questions) told.notes.items
+  pub notes : AreNotesOf old.ended.questions old.ended.told (map (watch_answer edits) old.ended.questions) told.notes.items
   pub written : WritesMore (told_text told) old.notices new
 
 -- so does each of several

@@ -4,7 +4,7 @@ ghost use Rattle.std.specs.Prelude.{◌≡◌, None, Some};
 ghost use Rattle.lv_watchers.specs.Asking.{AskStep, Asked, Asks, Finds, ReadsQuestions, Takes, TakesUnless};
 
 use lv_geometry::Refusal;
-use lv_hub::Question;
+use lv_hub::Query;
 use lv_lines::{Command, Fault, Line, Outbox, Responder, converse, read_line};
 use std::alloc::Global;
 use std::io;
@@ -31,7 +31,7 @@ pub enum Unasked {
 /// Reads a file to its end: lines `watch NAME KIND LO HI`, blank ones and comments. Nothing else is kept. A fault of reading comes
 /// before a line that is wrong, of which the first is told: a question is refused with `BadRange`, `NameTaken`, `TooMany`, then
 /// `NoMemory`.
-pub fn read_questions<R: Read>(alloc: Global, reader: &mut R) -> Result<Vec<Question>, Unasked>
+pub fn read_questions<R: Read>(alloc: Global, reader: &mut R) -> Result<Vec<Query>, Unasked>
     ensures { ReadsQuestions (R.remaining reader.old) (R.remaining reader.new) result }
 {
     let mut asker = Asker {
@@ -47,7 +47,7 @@ pub fn read_questions<R: Read>(alloc: Global, reader: &mut R) -> Result<Vec<Ques
 // What was read so far.
 #[derive(Drop)]
 struct Asker {
-    questions: Vec<Question>,
+    questions: Vec<Query>,
     damage: Option<Damage>,
 }
 
@@ -91,7 +91,7 @@ impl Asker {
     {
         match command {
             Command::Watch { name, kind, lo, hi } => {
-                let question = Question { name, kind, lo, hi };
+                let question = Query { name, kind, lo, hi };
                 self.ask(number, &question);
             }
             _ => self.damage = damage_at(number, None),
@@ -99,7 +99,7 @@ impl Asker {
     }
 
     // Takes a question.
-    fn ask(&mut self, number: u32, question: &Question)
+    fn ask(&mut self, number: u32, question: &Query)
         requires { self.old.damage ≡ None }
         ensures { Asks self.old.questions.items number question.now (record { questions = self.new.questions.items; damage = self.new.damage }) }
     {
@@ -115,7 +115,7 @@ impl Asker {
 }
 
 // The questions, or what is wrong.
-fn found(asker: Asker) -> Result<Vec<Question>, Unasked>
+fn found(asker: Asker) -> Result<Vec<Query>, Unasked>
     ensures { Finds (record { questions = asker.questions.items; damage = asker.damage }) result }
 {
     let Asker { questions, damage } = asker;

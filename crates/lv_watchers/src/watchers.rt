@@ -3,14 +3,14 @@
 ghost use Rattle.std.specs.Prelude.{◌≡◌, ◌+◌, ◌≤◌, IfErr, IfOk, None, OnOk, [], map, vec_len};
 ghost use Rattle.lv_watchers.specs.Asking.{IsRefusedFor, refusal_behind, refusal_of_all};
 ghost use Rattle.lv_watchers.specs.Noticing.{Watches};
-ghost use Rattle.lv_hub.specs.Notes.{answer_to};
+ghost use Rattle.lv_standing.specs.Queries.{watch_answer};
 ghost use Rattle.lv_watchers.specs.Watchers.{left_by, watcher_at};
 
 use crate::leaving::Left;
 use crate::notices::Notices;
 use lv_bodies::Six;
 use lv_geometry::Refusal;
-use lv_hub::{Hub, Question, Share, Subscriber, WithBody};
+use lv_hub::{Hub, Query, Share, Subscriber, WithBody};
 use std::alloc::Global;
 use std::io::Write;
 use std::marker::Model;
@@ -22,7 +22,7 @@ pub struct Watch<F: Drop> {
     /// A number that the caller knows it by.
     pub number: usize,
     /// What it asks.
-    pub questions: Vec<Question>,
+    pub questions: Vec<Query>,
     /// Where its lines go.
     pub notes: F,
 }
@@ -146,11 +146,11 @@ fn subscribe<N: WithBody<Six>, F: Write + Drop>(
 // Has a subscriber without questions ask these. Refused as `Subscriber::watch` is.
 fn ask_all<N: WithBody<Six>>(
     subscriber: &mut Subscriber<N>,
-    questions: &[Question],
+    questions: &[Query],
 ) -> Result<(), Refusal>
     requires none { subscriber.old.questions ≡ [] }
     requires untold { subscriber.old.told ≡ [] }
-    ensures asked { IfOk result (λ done. subscriber.new ≡ record subscriber.old { questions = questions.now; told = map (answer_to []) questions.now }) }
+    ensures asked { IfOk result (λ done. subscriber.new ≡ record subscriber.old { questions = questions.now; told = map (watch_answer []) questions.now }) }
     ensures fit { OnOk result (refusal_behind [] questions.now ≡ None) }
     ensures refused { IfErr result (λ refusal. IsRefusedFor (refusal_behind [] questions.now) refusal) }
 {

@@ -3,7 +3,8 @@ use Rattle.std.proofs.Common.{◌≡◌, ◌++◌, ◌∙◌, Ok, List, [], ap}
 use Rattle.std.proofs.lemmas.List.{append_assoc}
 use Rattle.lv_bodies.specs.Six.{six_operations}
 use Rattle.lv_edits.specs.declared.edit.Edit.{Edit}
-use Rattle.lv_standing.specs.Queries.{Query, TellsNotes}
+use Rattle.lv_standing.specs.declared.queries.Query.{Query}
+use Rattle.lv_standing.specs.Queries.{TellsNotes}
 use Rattle.lv_standing.specs.declared.notes.Note.{Note}
 use Rattle.lv_live.proofs.WorldLaws.{world_edit}
 use Rattle.lv_lines.specs.Texts.{receipt_text}

@@ -2,7 +2,7 @@
 use Rattle.std.proofs.Common.{◌≡◌, ◌∙◌, [], ap, map, sym, take, arith}
 use Rattle.std.proofs.lemmas.List.{take_all}
 use Rattle.std.proofs.lemmas.Result.{err_from_is_err_and}
-use Rattle.lv_hub.specs.Notes.{answer_to}
+use Rattle.lv_standing.specs.Queries.{watch_answer}
 use Rattle.lv_watchers.specs.Asking.{refusal_behind}
 use Rattle.lv_watchers.proofs.RefusedQuestions.{fit_more, refused_one}
 use Rattle.lv_watchers.proofs.Noticed.{asked_all, asks_more, told_more}
@@ -35,4 +35,4 @@ pub returns-clause-asked : goal.returns-clause-asked
 returns-clause-asked g c =
     let i = c.loop-question.invariant in
     let all : take c.loop-question.question-index c.args.questions.now ≡ c.args.questions.now = take_all c.loop-question.question-index c.args.questions.now (omega (arith, c.loop-question-test.false)) in
-    asked_all c.args.subscriber.now c.loop-question.subscriber c.args.questions.now i.share (i.questions ∙ all) (i.told ∙ ap (map (answer_to [])) all)
+    asked_all c.args.subscriber.now c.loop-question.subscriber c.args.questions.now i.share (i.questions ∙ all) (i.told ∙ ap (map (watch_answer [])) all)

@@ -1,6 +1,6 @@
 -- What the loop keeps in `ask_all`: has a subscriber without questions ask these.
 use Rattle.std.proofs.Common.{◌≡◌, [], None, map, take}
-use Rattle.lv_hub.specs.Notes.{answer_to}
+use Rattle.lv_standing.specs.Queries.{watch_answer}
 use Rattle.lv_watchers.specs.Asking.{refusal_behind}
 use Rattle.lv_watchers.proofs.watchers.ask_all.Given as goal
 
@@ -10,5 +10,5 @@ invariant-loop-question g l = record {
   share : l.subscriber.share ≡ l.initial.subscriber.share;
   questions : l.subscriber.questions ≡ take l.question-index l.questions;
   fit : refusal_behind [] l.subscriber.questions ≡ None;
-  told : l.subscriber.told ≡ map (answer_to []) (take l.question-index l.questions);
+  told : l.subscriber.told ≡ map (watch_answer []) (take l.question-index l.questions);
 }

@@ -1,6 +1,6 @@
 -- Proof of `Queries::add`: registers a question that may stand behind those that there are.
 use Rattle.std.proofs.Common.{◌∙◌, ◌++◌, ◌∷◌, [], ap, refl, inr}
-use Rattle.livevec_c.proofs.QuestionLaws.{same_set}
+use Rattle.livevec_c.proofs.SetLaws.{same_set}
 use Rattle.livevec_c.proofs.queries.Queries.add.Goals as goal
 
 pub returns-in_default-clause-err : goal.returns-in_default-clause-err

@@ -1,4 +1,4 @@
--- Proof of `Question::answer_to_nothing`: what it is answered by an empty vector.
+-- Proof of `Query::untold`: what it counts as told before its first note.
 use Rattle.std.proofs.Common.{◌≡◌, ◌∙◌, ◌-◌, ℕ, [], ap, sym, take, take_all, arith}
 use Rattle.std.specs.Prelude.{ℤ}
 use Rattle.std.specs.List.{slice_range}
@@ -7,14 +7,17 @@ use Rattle.std.proofs.lemmas.List.Elements.{All-nil}
 use Rattle.lv_geometry.specs.Elements.{IsElement}
 use Rattle.lv_bodies.specs.Plain.{plain_value}
 use Rattle.lv_edits.specs.History.{list_of, replayed}
-use Rattle.lv_hub.proofs.questions.Question.answer_to_nothing.Goals as goal
+use Rattle.lv_standing.proofs.queries.Query.untold.Goals as goal
 
 -- a range of nothing is nothing
 nothing_there : (lo hi : ℕ) → slice_range {X = ℤ} [] lo hi ≡ []
 nothing_there lo hi = ap (take (hi - lo)) (drop_all lo [] (omega arith)) ∙ take_all (hi - lo) [] (omega arith)
 
-pub returns : goal.returns
+pub returns-clause-value : goal.returns-clause-value
+returns-clause-value c = c.face.ensures.plain [] (record { few = omega arith; elements = All-nil IsElement }) c.identity.ensures
+
+pub returns-clause-none : goal.returns-clause-none
 unfolding list_of replayed
-returns c =
+returns-clause-none c =
     let q = c.args.self.now in
     c.face.ensures.plain [] (record { few = omega arith; elements = All-nil IsElement }) c.identity.ensures ∙ ap (plain_value q.kind) (sym (nothing_there q.lo q.hi))

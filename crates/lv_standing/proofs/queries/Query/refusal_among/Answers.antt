@@ -1,29 +1,29 @@
--- Proof of `Question::refusal_among`: why a set that has these questions refuses it, want of memory apart: `BadRange`, `NameTaken`, then `TooMany`, if it does.
+-- Proof of `Query::refusal_among`: why a set that has these queries refuses it, want of memory apart: `BadRange`, `NameTaken`, then `TooMany`, if it does.
 use Rattle.std.proofs.Common.{◌≡◌, ◌∙◌, sym, rules, tests, arith}
 use Rattle.std.specs.List.{list_any}
 use Rattle.std.specs.Str.{bytes_eq}
 use Rattle.std.proofs.lemmas.Iterator.{YieldsList-from_slice}
 use Rattle.std.proofs.lemmas.Iterator.Search.{any_from_yields_List}
-use Rattle.livevec_c.proofs.QuestionLaws.{name_refused, name_taken, not_refused}
-use Rattle.livevec_c.proofs.questions.Question.refusal_among.Goals as goal
+use Rattle.lv_standing.proofs.QueryLaws.{name_refused, name_taken, not_refused}
+use Rattle.lv_standing.proofs.queries.Query.refusal_among.Goals as goal
 
 pub returns-then-any : goal.returns-then-any
 returns-then-any c =
-    let qs = c.args.questions.now in
+    let qs = c.args.queries.now in
     let found : c.any.result ≡ list_any (λ q. bytes_eq q.name c.args.self.now.name) qs =
     any_from_yields_List (λ q. bytes_eq q.name c.args.self.now.name) _ _ c.any.result c.any.ensures.ran (YieldsList-from_slice qs cc) (λ x b q k. search (rules, tests)) in
-    sym (name_taken qs c.args.self.now (omega arith) (sym found ∙ c.if-any.true))
+    sym (name_taken c.args.most qs c.args.self.now (omega arith) (sym found ∙ c.if-any.true))
 
 pub returns : goal.returns
 returns c =
-    let qs = c.args.questions.now in
+    let qs = c.args.queries.now in
     let found : c.any.result ≡ list_any (λ q. bytes_eq q.name c.args.self.now.name) qs =
     any_from_yields_List (λ q. bytes_eq q.name c.args.self.now.name) _ _ c.any.result c.any.ensures.ran (YieldsList-from_slice qs cc) (λ x b q k. search (rules, tests)) in
-    sym (not_refused qs c.args.self.now (omega arith) (sym found ∙ c.if-any.false) (omega arith))
+    sym (not_refused c.args.most qs c.args.self.now (omega arith) (sym found ∙ c.if-any.false) (omega arith))
 
-pub returns-then-questions-ge-MOST : goal.returns-then-questions-ge-MOST
-returns-then-questions-ge-MOST c =
-    let qs = c.args.questions.now in
+pub returns-then-queries-most : goal.returns-then-queries-most
+returns-then-queries-most c =
+    let qs = c.args.queries.now in
     let found : c.any.result ≡ list_any (λ q. bytes_eq q.name c.args.self.now.name) qs =
     any_from_yields_List (λ q. bytes_eq q.name c.args.self.now.name) _ _ c.any.result c.any.ensures.ran (YieldsList-from_slice qs cc) (λ x b q k. search (rules, tests)) in
-    sym (name_refused qs c.args.self.now (omega arith) (sym found ∙ c.if-any.false) (omega arith))
+    sym (name_refused c.args.most qs c.args.self.now (omega arith) (sym found ∙ c.if-any.false) (omega arith))
