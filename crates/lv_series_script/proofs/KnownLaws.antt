@@ -1,5 +1,5 @@
 -- What a command is answered, by what the calls below gave.
-use Rattle.std.proofs.Common.{◌≡◌, ℕ, ◌+◌, ◌≤◌, All, Bool, None, Result, Ok, Err, OnOk, IfErr, List, [], ◌∷◌, ◌++◌, length, map, flat_map, option_map, refl, sym, ap, ap₂, ◌∙◌, subst, inl, arith}
+use Rattle.std.proofs.Common.{◌≡◌, ℕ, ◌+◌, ◌≤◌, All, Bool, IsTrue, Option, Some, None, Result, Ok, Err, OnOk, IfErr, List, [], ◌∷◌, ◌++◌, length, map, flat_map, option_map, refl, sym, ap, ap₂, ◌∙◌, subst, inl, inr, arith}
 use Rattle.std.specs.Option.{option_map_or}
 use Rattle.std.proofs.lemmas.List.{length-map, length_push}
 use Rattle.std.proofs.lemmas.List.Elements.{All-push}
@@ -12,23 +12,36 @@ use Rattle.lv_script.specs.PlainScript.{scan_by}
 use Rattle.lv_series.specs.declared.edits.LongEdit.{LongEdit}
 use Rattle.lv_series.specs.declared.edits.LongEdit.TheVariants.{Push, Pop, Write, Expire, Swap, Truncate}
 use Rattle.lv_series.specs.declared.receipts.LongReceipt.{LongReceipt}
+use Rattle.lv_series.specs.declared.refusals.LongRefusal.{LongRefusal}
+use Rattle.lv_tree.specs.declared.places.Bound.{Bound}
 use Rattle.lv_series.specs.Numbers.{number_of}
-use Rattle.lv_series.specs.Series.{Accepts, SeriesState, changed, range_refused, receipt_of, slice_of}
+use Rattle.lv_series.specs.Series.{Accepts, IsRefusal, SeriesState, changed, range_refused, receipt_of, slice_of}
 use Rattle.lv_series_script.specs.declared.long_commands.LongCommand.{LongCommand}
 use Rattle.lv_series_script.specs.declared.long_commands.LongCommand.TheVariants as command
+use Rattle.lv_series_script.specs.declared.long_commands.Search.{Search}
 use Rattle.lv_series_script.specs.declared.long_commands.Span.{Span}
 use Rattle.lv_series_script.specs.declared.watched.Watched.{Watched}
 use Rattle.lv_series_script.specs.Inside.{IsCurrent, IsReady, Told, brought_up, known_of, queries_of, then_known, told_of}
-use Rattle.lv_series_script.specs.LongQueries.{long_answer}
-use Rattle.lv_series_script.specs.LongTexts.{long_receipt_text, refused_by}
+use Rattle.lv_series_script.specs.LongQueries.{span_of}
+use Rattle.lv_series_script.specs.LongTexts.{index_text, long_receipt_text, refused_by, run_text}
 use Rattle.lv_series_script.specs.PlainSeriesScript.{Known, note_of, refusal_of, reply_of, series_of}
-use Rattle.lv_series_script.specs.Values.{without_trees}
+use Rattle.lv_series_script.specs.Searched.{best_run, index_of}
+use Rattle.lv_series_script.specs.SeriesRuns.{may_want}
+use Rattle.lv_series_script.specs.Values.{Seeks, without_trees}
 use Rattle.lv_series_script.proofs.Notes.{brought_current, brought_queries, told_notes}
 
 -- a command that nothing refuses
 granted : (old new : Known) (c : LongCommand) (text : List ℕ) → refusal_of old c ≡ None → text ≡ reply_of old c → new ≡ then_known old c → Told old c text new
 granted old new c text free is then =
     inl (is ∙ ap (λ o. option_map_or refused_by o (reply_of old c)) (sym free), then ∙ ap (λ o. option_map_or (λ number. old) o (then_known old c)) (sym free))
+
+-- one whose range is refused, or that there was no memory for
+turned_away : (old new : Known) (c : LongCommand) (why : Option LongRefusal) (refusal : LongRefusal) (text : List ℕ) → IsTrue (may_want c) → refusal_of old c ≡ option_map number_of why → IsRefusal why refusal
+    → text ≡ refused_by (number_of refusal) → new ≡ old → Told old c text new
+turned_away old new c why refusal text may by (inl known) is same =
+    let number : refusal_of old c ≡ Some (number_of refusal) = by ∙ ap (option_map number_of) known in
+    inl (is ∙ ap (λ o. option_map_or refused_by o (reply_of old c)) (sym number), same ∙ ap (λ o. option_map_or (λ number. old) o (then_known old c)) (sym number))
+turned_away old new c why refusal text may by (inr (free, out)) is same = inr (may, by ∙ ap (option_map number_of) free, is ∙ ap (λ r. refused_by (number_of r)) out, same)
 
 -- ---- trees
 
@@ -81,10 +94,10 @@ module _ (old new : SeriesState) (ws : List Watched) (e : LongEdit) where
 
 -- ---- queries
 
-module _ (s : SeriesState) (ws : List Watched) (name : List ℕ) (kind : Kind) (span : Span) where
+module _ (s : SeriesState) (ws : List Watched) (name : List ℕ) (kind : Kind) (span : Span) (bound : Option Bound) where
   -- the entry of a query that was registered
   abbrev entry : Watched
-  entry = record { name = name; kind = kind; span = span; value = long_answer s.held record { name = name; kind = kind; span = span } }
+  entry = record { name = name; kind = kind; span = span; bound = bound; value = plain_value kind (span_of s.held span) }
 
   -- all is ready after it was
   pub watch_ready : (after : List Watched) → IsReady s ws → length ws + 1 ≤ 64 → after ≡ ws ++ entry ∷ [] → IsReady s after
@@ -93,6 +106,33 @@ module _ (s : SeriesState) (ws : List Watched) (name : List ℕ) (kind : Kind) (
     current = subst (All (IsCurrent s.held)) (sym then) (All-push (IsCurrent s.held) ws entry ready.current refl);
     few = omega (arith, few, ap length then, length_push ws entry);
   }
+
+-- ---- searches
+
+module _ (old new : SeriesState) (lo hi : ℕ) where
+  -- the index of what was looked for, or why there is no answer
+  pub find_granted : (sought : Search) (index : Option ℕ) (text : List ℕ) → Seeks (index_of sought) old lo hi (Ok index) new → text ≡ index_text old.edits index
+      → (ws : List Watched) → Told (known_of old ws) (command.Find sought lo hi) text (known_of new ws)
+  find_granted sought index text s is ws =
+      told_still old new ws s.2 (known_of old ws) (command.Find sought lo hi) text
+      (granted (known_of old ws) (known_of old ws) (command.Find sought lo hi) text (ap (option_map number_of) s.0) (is ∙ ap (index_text old.edits) s.1) refl)
+
+  pub find_refused : (sought : Search) (refusal : LongRefusal) (text : List ℕ) → Seeks (index_of sought) old lo hi (Err refusal) new → text ≡ refused_by (number_of refusal)
+      → (ws : List Watched) → Told (known_of old ws) (command.Find sought lo hi) text (known_of new ws)
+  find_refused sought refusal text s is ws =
+      turned_away (known_of old ws) (known_of new ws) (command.Find sought lo hi) (range_refused old.held lo hi) refusal text refl refl s.0 is (known_still old new ws s.1)
+
+  -- the best run, or why there is none
+  pub run_granted : (run : Option (ℕ × ℕ)) (text : List ℕ) → Seeks best_run old lo hi (Ok run) new → text ≡ run_text old.edits run
+      → (ws : List Watched) → Told (known_of old ws) (command.BestRun lo hi) text (known_of new ws)
+  run_granted run text s is ws =
+      told_still old new ws s.2 (known_of old ws) (command.BestRun lo hi) text
+      (granted (known_of old ws) (known_of old ws) (command.BestRun lo hi) text (ap (option_map number_of) s.0) (is ∙ ap (run_text old.edits) s.1) refl)
+
+  pub run_refused : (refusal : LongRefusal) (text : List ℕ) → Seeks best_run old lo hi (Err refusal) new → text ≡ refused_by (number_of refusal)
+      → (ws : List Watched) → Told (known_of old ws) (command.BestRun lo hi) text (known_of new ws)
+  run_refused refusal text s is ws =
+      turned_away (known_of old ws) (known_of new ws) (command.BestRun lo hi) (range_refused old.held lo hi) refusal text refl refl s.0 is (known_still old new ws s.1)
 
 -- ---- ranges
 

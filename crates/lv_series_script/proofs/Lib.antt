@@ -1,10 +1,12 @@
 -- Names the files of lemmas of `lv_series_script`.
 mod Finding
+mod FoundLaws
 mod KnownLaws
 mod LongShown
 mod Longs
 mod Notes
 mod Scanning
+mod SearchedLaws
 mod Simulation
 mod Telling
 mod ValueLaws

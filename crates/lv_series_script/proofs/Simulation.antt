@@ -32,7 +32,9 @@ command_known s command.Size = refl
 command_known s (command.Get i) = refl
 command_known s (command.Reduce kind lo hi) = refl
 command_known s (command.Scan inclusive kind lo hi) = refl
-command_known s (command.Watch name kind span) = refl
+command_known s (command.Find sought lo hi) = refl
+command_known s (command.BestRun lo hi) = refl
+command_known s (command.Watch name kind span bound) = refl
 command_known s (command.Unwatch name) = refl
 command_known s (command.Answer name) = refl
 

@@ -20,7 +20,7 @@ use Rattle.lv_lines.specs.Replies.{Answered, Conversed}
 use Rattle.lv_lines.specs.Texts.{named_text, note_text, refused_text, reply_line, scan_head, scan_name, scan_text, scanned_text, shown_text}
 use Rattle.lv_lines.proofs.InputLemmas.{lines_of-append, unended_of-append, whole_lines_of-ended}
 use Rattle.lv_script.specs.PlainRuns.{NeverWants}
-use Rattle.lv_script.specs.PlainScript.{same_value, scan_by}
+use Rattle.lv_script.specs.PlainScript.{scan_by}
 use Rattle.lv_script.proofs.OneLineLaws.{refused_bytes, refused_one}
 use Rattle.lv_script.proofs.WholeLaws.{IsWhole, whole_line}
 use Rattle.lv_series_script.specs.declared.long_commands.LongCommand.{LongCommand}
@@ -28,9 +28,10 @@ use Rattle.lv_series_script.specs.declared.long_commands.LongCommand.TheVariants
 use Rattle.lv_series_script.specs.declared.long_commands.LongLine.{LongLine}
 use Rattle.lv_series_script.specs.declared.long_commands.LongLine.TheVariants.{Nothing, Bad, Do}
 use Rattle.lv_series_script.specs.LongGrammar.{long_line_of}
-use Rattle.lv_series_script.specs.LongQueries.{LongQuery, long_answer, long_query_of}
-use Rattle.lv_series_script.specs.LongTexts.{long_element_text, long_receipt_text, refused_by}
+use Rattle.lv_series_script.specs.LongQueries.{LongQuery, is_due, long_answer, long_query_of}
+use Rattle.lv_series_script.specs.LongTexts.{index_text, long_element_text, long_receipt_text, refused_by, run_text}
 use Rattle.lv_series_script.specs.PlainSeriesScript.{Known, Plain, known_by, note_of, plain_after, plain_text, refusal_of, reply_of, reply_to, series_of, start}
+use Rattle.lv_series_script.specs.Searched.{best_run, index_of}
 use Rattle.lv_series_script.specs.SeriesRuns.{IsPlainText, MeetsWant, PlainStep}
 
 -- ---- replies are whole lines
@@ -63,14 +64,24 @@ whole_element (Ok x) = whole_line (codes "value " ++ signed_decimal x)
 whole_element (Err refusal) = whole_refused (number_of refusal)
 
 -- a note, or none
-whole_note : (same : Bool) (name : List ℕ) (value : Shown) → IsWhole (if same then [] else note_text name value)
-whole_note true name value = refl
-whole_note false name value = whole_line (codes "note " ++ name ++ codes " " ++ shown_text value)
+whole_note : (due : Bool) (name : List ℕ) (value : Shown) → IsWhole (if due then note_text name value else [])
+whole_note true name value = whole_line (codes "note " ++ name ++ codes " " ++ shown_text value)
+whole_note false name value = refl
 
 -- what a query answers, if there is one
 whole_named : (k : Known) (name : List ℕ) (o : Option LongQuery) → IsWhole (option_map_or (λ q. named_text k.edit name (long_answer k.held q)) o [])
 whole_named k name None = refl
 whole_named k name (Some q) = whole_line (codes "at " ++ decimal k.edit ++ codes " " ++ name ++ codes " " ++ shown_text (long_answer k.held q))
+
+-- an index, or none
+whole_index : (edit : ℕ) (index : Option ℕ) → IsWhole (index_text edit index)
+whole_index edit None = whole_line (codes "at " ++ decimal edit ++ codes " none")
+whole_index edit (Some i) = whole_line (codes "at " ++ decimal edit ++ codes " index " ++ decimal i)
+
+-- a run, or none
+whole_run : (edit : ℕ) (run : Option (ℕ × ℕ)) → IsWhole (run_text edit run)
+whole_run edit None = whole_line (codes "at " ++ decimal edit ++ codes " none")
+whole_run edit (Some run) = whole_line (codes "at " ++ decimal edit ++ codes " from " ++ decimal run.0 ++ codes " to " ++ decimal run.1)
 
 -- a scan
 whole_scan : (edit : ℕ) (inclusive : Bool) (kind : Kind) (values : List Shown) → IsWhole (scan_text edit inclusive kind values)
@@ -84,14 +95,16 @@ whole_command : (k : Known) (c : LongCommand) → IsWhole (reply_of k c)
 whole_command k (command.Edit e) =
     let new = changed k.held e in
     whole_append (long_receipt_text (receipt_of (series_of k) e) new.first) (flat_map (note_of k.held new) k.queries) (whole_receipt (receipt_of (series_of k) e) new.first)
-    (whole_parts (note_of k.held new) k.queries (λ q. whole_note (same_value (long_answer new q) (long_answer k.held q)) q.name (long_answer new q)))
+    (whole_parts (note_of k.held new) k.queries (λ q. whole_note (is_due q.bound (long_answer k.held q) (long_answer new q)) q.name (long_answer new q)))
 whole_command k command.First = whole_line (codes "first " ++ decimal k.held.first ++ codes " edit " ++ decimal k.edit)
 whole_command k command.Size = whole_line (codes "size " ++ decimal (size_of k.held) ++ codes " edit " ++ decimal k.edit)
 whole_command k (command.Get i) = whole_element (element_at k.held i)
 whole_command k (command.Reduce kind lo hi) =
     whole_line (codes "at " ++ decimal k.edit ++ codes " " ++ kind_name kind ++ codes " " ++ shown_text (plain_value kind (slice_of k.held lo hi)))
 whole_command k (command.Scan inclusive kind lo hi) = whole_scan k.edit inclusive kind (scan_by (plain_value kind) inclusive (slice_of k.held lo hi))
-whole_command k (command.Watch name kind span) = whole_line (codes "watching " ++ name)
+whole_command k (command.Find sought lo hi) = whole_index k.edit (index_of sought k.held lo hi)
+whole_command k (command.BestRun lo hi) = whole_run k.edit (best_run k.held lo hi)
+whole_command k (command.Watch name kind span bound) = whole_line (codes "watching " ++ name)
 whole_command k (command.Unwatch name) = whole_line (codes "unwatched " ++ name)
 whole_command k (command.Answer name) = whole_named k name (long_query_of k.queries name)
 

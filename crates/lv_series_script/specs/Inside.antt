@@ -1,17 +1,16 @@
 -- What the code of a series' script passes on: the queries with the values that they were told, and what a line makes of all that is known.
-use Rattle.std.specs.Prelude.{◌≡◌, ◌⊎◌, ℕ, ℤ, ◌+◌, ◌≤◌, IsTrue, None, List, [], ◌∷◌, ◌++◌, length, map, if◌then◌else◌, All}
+use Rattle.std.specs.Prelude.{◌≡◌, ◌⊎◌, ℕ, ◌+◌, ◌≤◌, IsTrue, None, List, [], ◌∷◌, ◌++◌, length, map, if◌then◌else◌, All}
 use Rattle.std.specs.Option.{option_map_or}
-use Rattle.lv_bodies.specs.Plain.{plain_value, program_table}
+use Rattle.lv_bodies.specs.Plain.{program_table}
 use Rattle.lv_series.specs.Series.{Held, SeriesState, changed}
 use Rattle.lv_lines.specs.Texts.{note_text}
-use Rattle.lv_script.specs.PlainScript.{same_value}
 use Rattle.lv_series_script.specs.declared.long_commands.LongCommand.{LongCommand}
 use Rattle.lv_series_script.specs.declared.long_commands.LongCommand.TheVariants.{Edit, Watch, Unwatch}
 use Rattle.lv_series_script.specs.declared.long_commands.LongLine.{LongLine}
 use Rattle.lv_series_script.specs.declared.long_commands.LongLine.TheVariants.{Nothing, Bad, Do}
 use Rattle.lv_series_script.specs.declared.watched.Watched.{Watched}
 use Rattle.lv_series_script.specs.LongGrammar.{long_line_of}
-use Rattle.lv_series_script.specs.LongQueries.{LongQuery, long_answer, without_long}
+use Rattle.lv_series_script.specs.LongQueries.{LongQuery, is_due, long_answer, without_long}
 use Rattle.lv_series_script.specs.LongTexts.{refused_by}
 use Rattle.lv_series_script.specs.PlainSeriesScript.{Known, refusal_of, reply_of, reply_to}
 use Rattle.lv_series_script.specs.SeriesRuns.{may_want}
@@ -20,7 +19,7 @@ use Rattle.lv_series_script.specs.SeriesRuns.{may_want}
 
 -- the query of an entry, and those of all
 abbrev pub query_at : Watched → LongQuery
-query_at w = record { name = w.name; kind = w.kind; span = w.span }
+query_at w = record { name = w.name; kind = w.kind; span = w.span; bound = w.bound }
 
 abbrev pub queries_of : List Watched → List LongQuery
 queries_of entries = map query_at entries
@@ -29,18 +28,13 @@ queries_of entries = map query_at entries
 abbrev pub IsCurrent : Held → Watched → Type 0
 IsCurrent h w = w.value ≡ long_answer h (query_at w)
 
--- the value of an entry is one of its kind
-pub record HasValue (w : Watched) : Type 0 where
-  pub xs : List ℤ
-  pub value : w.value ≡ plain_value w.kind xs
-
 -- the entry with what its query answers now
 abbrev pub brought_up : Held → Watched → Watched
 brought_up h w = record w { value = long_answer h (query_at w) }
 
--- what is told of an entry: what its query answers now, where that is another value than it has
+-- what is told of an entry: what its query answers now, where that is due
 abbrev pub told_of : Held → Watched → List ℕ
-told_of h w = if same_value (long_answer h (query_at w)) w.value then [] else note_text w.name (long_answer h (query_at w))
+told_of h w = if is_due w.bound w.value (long_answer h (query_at w)) then note_text w.name (long_answer h (query_at w)) else []
 
 -- the series has the program's automaton, each entry has the value that its query answers, and there are at most 64
 pub record IsReady (s : SeriesState) (entries : List Watched) : Type 0 where
@@ -57,7 +51,7 @@ known_of s entries = record { held = s.held; edit = s.edits; queries = queries_o
 -- what is known after a command that nothing refuses
 abbrev pub then_known : Known → LongCommand → Known
 then_known k (Edit e) = record k { held = changed k.held e; edit = k.edit + 1 }
-then_known k (Watch name kind span) = record k { queries = k.queries ++ record { name = name; kind = kind; span = span } ∷ [] }
+then_known k (Watch name kind span bound) = record k { queries = k.queries ++ record { name = name; kind = kind; span = span; bound = bound } ∷ [] }
 then_known k (Unwatch name) = record k { queries = without_long k.queries name }
 then_known k _ = k
 

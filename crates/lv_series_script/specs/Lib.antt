@@ -4,5 +4,6 @@ pub mod LongGrammar
 pub mod LongQueries
 pub mod LongTexts
 pub mod PlainSeriesScript
+pub mod Searched
 pub mod SeriesRuns
 pub mod Values

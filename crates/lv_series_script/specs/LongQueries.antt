@@ -1,20 +1,27 @@
 -- Standing queries on a series: what each answers, and why one is refused.
-use Rattle.std.specs.Prelude.{ℕ, ℤ, ◌-◌, Option, Some, None, List, [], ◌∷◌, length, drop, filter, not, nat_lt, if◌then◌else◌}
+use Rattle.std.specs.Prelude.{ℕ, ℤ, pos, ◌-◌, Bool, false, Option, Some, None, List, [], ◌∷◌, length, drop, filter, not, nat_lt, if◌then◌else◌}
+use Rattle.std.specs.Bool.{beq}
+use Rattle.std.specs.Option.{option_map_or}
 use Rattle.std.specs.Str.{bytes_eq}
 use Rattle.lv_geometry.specs.declared.refusals.Refusal.{Refusal}
 use Rattle.lv_geometry.specs.declared.refusals.Refusal.TheVariants.{BadRange, NameTaken, NoSuchName, TooMany}
 use Rattle.lv_bodies.specs.declared.kinds.Kind.{Kind}
 use Rattle.lv_bodies.specs.declared.kinds.Shown.{Shown}
+use Rattle.lv_bodies.specs.declared.kinds.Shown.TheVariants.{Sum, Least, Greatest, Best, Affine, Automaton}
 use Rattle.lv_bodies.specs.Plain.{plain_value}
+use Rattle.lv_tree.specs.declared.places.Bound.{Bound}
+use Rattle.lv_script.specs.PlainScript.{same_value}
 use Rattle.lv_series.specs.Series.{Held, slice_of}
 use Rattle.lv_series_script.specs.declared.long_commands.Span.{Span}
 use Rattle.lv_series_script.specs.declared.long_commands.Span.TheVariants.{Between, Last}
+use Rattle.lv_series_script.specs.Searched.{is_within}
 
--- a standing query: its name, and the kind and span that it asks for
+-- a standing query: its name, the kind and span that it asks for, and the bound by which it is told of, if it has one
 pub record LongQuery : Type 0 where
   pub name : List ℕ
   pub kind : Kind
   pub span : Span
+  pub bound : Option Bound
 
 -- the elements of a span, as many of them as are kept: those under the indices of a range, or the last so many
 abbrev pub span_of : Held → Span → List ℤ
@@ -24,6 +31,28 @@ span_of h (Last n) = drop (length h.elements - n) h.elements
 -- what a query answers: the plain value of the elements of its span
 abbrev pub long_answer : Held → LongQuery → Shown
 long_answer h q = plain_value q.kind (span_of h q.span)
+
+-- the one number that an answer is, if it is one
+abbrev pub number_in : Shown → Option ℤ
+number_in (Sum n) = Some (pos n)
+number_in (Least x) = x
+number_in (Greatest x) = x
+number_in (Best x) = x
+number_in (Affine a b) = None
+number_in (Automaton states) = None
+
+-- whether an answer is within a bound: none is not
+abbrev pub holds : Bound → Shown → Bool
+holds bound answer = option_map_or (is_within bound) (number_in answer) false
+
+-- whether it begins or ceases to be, from one answer to the next
+abbrev pub crosses : Bound → Shown → Shown → Bool
+crosses bound before now = not (beq (holds bound before) (holds bound now))
+
+-- whether a note is due: the answer is another than before; or where there is a bound, it begins or ceases to be within it
+abbrev pub is_due : Option Bound → Shown → Shown → Bool
+is_due None before now = not (same_value now before)
+is_due (Some bound) before now = crosses bound before now
 
 -- the query of a name, if there is one
 abbrev pub long_query_of : List LongQuery → List ℕ → Option LongQuery

@@ -1,5 +1,5 @@
 -- The texts of replies that only a series' script has.
-use Rattle.std.specs.Prelude.{ℕ, ℤ, Result, Ok, Err, List, ◌++◌, codes, decimal}
+use Rattle.std.specs.Prelude.{ℕ, ℤ, Option, Some, None, Result, Ok, Err, List, ◌++◌, codes, decimal}
 use Rattle.std.specs.Fmt.{signed_decimal}
 use Rattle.lv_series.specs.declared.receipts.LongReceipt.{LongReceipt}
 use Rattle.lv_series.specs.declared.receipts.LongReceipt.TheVariants.{Pushed, Popped, Written, Expired, Swapped, Truncated}
@@ -24,6 +24,20 @@ long_receipt_text (Truncated edit dropped) first = reply_line (codes "edit " ++ 
 abbrev pub long_element_text : Result ℤ LongRefusal → List ℕ
 long_element_text (Ok x) = value_text x
 long_element_text (Err refusal) = refused_by (number_of refusal)
+
+-- that there is none, at an edit
+abbrev pub none_text : ℕ → List ℕ
+none_text edit = reply_line (codes "at " ++ decimal edit ++ codes " none")
+
+-- an index, or that there is none
+abbrev pub index_text : ℕ → Option ℕ → List ℕ
+index_text edit None = none_text edit
+index_text edit (Some i) = reply_line (codes "at " ++ decimal edit ++ codes " index " ++ decimal i)
+
+-- from which index up to which, or that there is none
+abbrev pub run_text : ℕ → Option (ℕ × ℕ) → List ℕ
+run_text edit None = none_text edit
+run_text edit (Some run) = reply_line (codes "at " ++ decimal edit ++ codes " from " ++ decimal run.0 ++ codes " to " ++ decimal run.1)
 
 -- the first index that is kept, and the number of the last edit
 abbrev pub first_text : ℕ → ℕ → List ℕ

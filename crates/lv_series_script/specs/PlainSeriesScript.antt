@@ -10,14 +10,15 @@ use Rattle.lv_series.specs.Numbers.{number_of}
 use Rattle.lv_series.specs.Plain.{no_kinds, plain_series}
 use Rattle.lv_series.specs.Series.{Held, SeriesState, changed, element_at, range_refused, receipt_of, refused, size_of, slice_of}
 use Rattle.lv_lines.specs.Texts.{answer_text, bad_text, named_text, note_text, scan_text, size_text, unwatched_text, watching_text}
-use Rattle.lv_script.specs.PlainScript.{same_value, scan_by}
+use Rattle.lv_script.specs.PlainScript.{scan_by}
 use Rattle.lv_series_script.specs.declared.long_commands.LongCommand.{LongCommand}
-use Rattle.lv_series_script.specs.declared.long_commands.LongCommand.TheVariants.{Edit, First, Size, Get, Reduce, Scan, Watch, Unwatch, Answer}
+use Rattle.lv_series_script.specs.declared.long_commands.LongCommand.TheVariants.{Edit, First, Size, Get, Reduce, Scan, Find, BestRun, Watch, Unwatch, Answer}
 use Rattle.lv_series_script.specs.declared.long_commands.LongLine.{LongLine}
 use Rattle.lv_series_script.specs.declared.long_commands.LongLine.TheVariants.{Nothing, Bad, Do}
 use Rattle.lv_series_script.specs.LongGrammar.{long_line_of}
-use Rattle.lv_series_script.specs.LongQueries.{LongQuery, long_answer, long_query_of, long_watch_refusal, unknown, without_long}
-use Rattle.lv_series_script.specs.LongTexts.{first_text, long_element_text, long_receipt_text, refused_by}
+use Rattle.lv_series_script.specs.LongQueries.{LongQuery, is_due, long_answer, long_query_of, long_watch_refusal, unknown, without_long}
+use Rattle.lv_series_script.specs.LongTexts.{first_text, index_text, long_element_text, long_receipt_text, refused_by, run_text}
+use Rattle.lv_series_script.specs.Searched.{best_run, index_of}
 
 -- all that it keeps: the edits that were accepted, and the queries that stand, both in order
 pub record Plain : Type 0 where
@@ -49,14 +50,16 @@ abbrev pub refusal_of : Known → LongCommand → Option ℕ
 refusal_of k (Edit e) = option_map number_of (refused (series_of k) e)
 refusal_of k (Reduce kind lo hi) = option_map number_of (range_refused k.held lo hi)
 refusal_of k (Scan inclusive kind lo hi) = option_map number_of (range_refused k.held lo hi)
-refusal_of k (Watch name kind span) = option_map name_number (long_watch_refusal k.queries name span)
+refusal_of k (Find sought lo hi) = option_map number_of (range_refused k.held lo hi)
+refusal_of k (BestRun lo hi) = option_map number_of (range_refused k.held lo hi)
+refusal_of k (Watch name kind span bound) = option_map name_number (long_watch_refusal k.queries name span)
 refusal_of k (Unwatch name) = option_map name_number (unknown (long_query_of k.queries name))
 refusal_of k (Answer name) = option_map name_number (unknown (long_query_of k.queries name))
 refusal_of k _ = None
 
--- the note of a query, by what is kept before and after an edit: its answer after, where that is another than before
+-- the note of a query, by what is kept before and after an edit: its answer after, where that is due
 abbrev pub note_of : Held → Held → LongQuery → List ℕ
-note_of old new q = if same_value (long_answer new q) (long_answer old q) then [] else note_text q.name (long_answer new q)
+note_of old new q = if is_due q.bound (long_answer old q) (long_answer new q) then note_text q.name (long_answer new q) else []
 
 -- what a command that nothing refuses is answered; of an element that isn't kept, its refusal
 abbrev pub reply_of : Known → LongCommand → List ℕ
@@ -66,14 +69,16 @@ reply_of k Size = size_text (size_of k.held) k.edit
 reply_of k (Get i) = long_element_text (element_at k.held i)
 reply_of k (Reduce kind lo hi) = answer_text k.edit kind (plain_value kind (slice_of k.held lo hi))
 reply_of k (Scan inclusive kind lo hi) = scan_text k.edit inclusive kind (scan_by (plain_value kind) inclusive (slice_of k.held lo hi))
-reply_of k (Watch name kind span) = watching_text name
+reply_of k (Find sought lo hi) = index_text k.edit (index_of sought k.held lo hi)
+reply_of k (BestRun lo hi) = run_text k.edit (best_run k.held lo hi)
+reply_of k (Watch name kind span bound) = watching_text name
 reply_of k (Unwatch name) = unwatched_text name
 reply_of k (Answer name) = option_map_or (λ q. named_text k.edit name (long_answer k.held q)) (long_query_of k.queries name) []
 
 -- what such a command changes: an edit is added to the edits, a query stands behind the others, or stands no more
 abbrev pub after : Plain → LongCommand → Plain
 after s (Edit e) = record s { edits = s.edits ++ e ∷ [] }
-after s (Watch name kind span) = record s { queries = s.queries ++ record { name = name; kind = kind; span = span } ∷ [] }
+after s (Watch name kind span bound) = record s { queries = s.queries ++ record { name = name; kind = kind; span = span; bound = bound } ∷ [] }
 after s (Unwatch name) = record s { queries = without_long s.queries name }
 after s _ = s
 

@@ -2,17 +2,19 @@
 use Rattle.std.specs.Prelude.{◌≡◌, ◌⊎◌, ℕ, Bool, true, false, IsTrue, None, List, map, take}
 use Rattle.lv_lines.specs.Input.{lines_of}
 use Rattle.lv_series_script.specs.declared.long_commands.LongCommand.{LongCommand}
-use Rattle.lv_series_script.specs.declared.long_commands.LongCommand.TheVariants.{Edit, Watch}
+use Rattle.lv_series_script.specs.declared.long_commands.LongCommand.TheVariants.{Edit, Find, BestRun, Watch}
 use Rattle.lv_series_script.specs.declared.long_commands.LongLine.{LongLine}
 use Rattle.lv_series_script.specs.declared.long_commands.LongLine.TheVariants.{Do}
 use Rattle.lv_series_script.specs.LongGrammar.{long_line_of}
 use Rattle.lv_series_script.specs.LongTexts.{refused_by}
 use Rattle.lv_series_script.specs.PlainSeriesScript.{Plain, known_by, plain_after, plain_text, refusal_of, reply_to, start}
 
--- whether a command may ask for memory that is not there: an edit, or a new query
+-- whether a command may ask for memory that is not there: an edit, a search, or a new query
 abbrev pub may_want : LongCommand → Bool
 may_want (Edit e) = true
-may_want (Watch name kind span) = true
+may_want (Find sought lo hi) = true
+may_want (BestRun lo hi) = true
+may_want (Watch name kind span bound) = true
 may_want _ = false
 
 -- a command that nothing else refuses was refused for want of memory, and nothing has changed

@@ -8,16 +8,20 @@ ghost use Rattle.lv_series_script.specs.declared.watched.Watched.{Watched as Ent
 ghost use Rattle.lv_series_script.specs.Inside.{IsReady, Told, known_of};
 ghost use Rattle.lv_series_script.specs.LongTexts.{first_text, long_element_text};
 
-use crate::long_commands::{LongCommand, Span};
+use crate::long_commands::{LongCommand, Search, Span};
 use crate::queries::{find, forget, register, tell};
 use crate::scans::put_scan;
-use crate::texts::{put_answer, put_first, put_receipt, put_refused, put_size, put_value};
+use crate::searches::{index_of, run_of};
+use crate::texts::{
+    put_answer, put_first, put_index, put_receipt, put_refused, put_run, put_size, put_value,
+};
 use crate::values::show_value;
 use crate::watched::Watched;
 use lv_bodies::{Kind, Name};
 use lv_geometry::Refusal;
 use lv_lines::{Fault, LINE, Outbox, put_named, put_unwatched, put_watching};
 use lv_series::{LongEdit, Series};
+use lv_tree::Bound;
 use std::io::Write;
 
 /// At most how many bytes a reply has, scans apart: a line, and a note for each of 64 queries.
@@ -54,14 +58,14 @@ pub fn answer<W: Write>(
         } => {
             return answer_scan(series, outbox, inclusive, kind, lo, hi);
         }
-        LongCommand::Watch { name, kind, span } => put_watch(
-            series,
-            entries,
+        LongCommand::Find { sought, lo, hi } => put_index_of(series, sought, lo, hi, outbox.held),
+        LongCommand::BestRun { lo, hi } => put_run_of(series, lo, hi, outbox.held),
+        LongCommand::Watch {
             name,
             kind,
             span,
-            outbox.held,
-        ),
+            bound,
+        } => put_watch(series, entries, name, kind, span, bound, outbox.held),
         LongCommand::Unwatch(name) => put_unwatch(entries, name, outbox.held),
         LongCommand::Answer(name) => put_named_answer(series, entries, name, outbox.held),
     }
@@ -156,6 +160,34 @@ fn answer_scan<W: Write>(
     }
 }
 
+// The index of what is looked for in a range, or why there is no answer.
+fn put_index_of(series: &mut Series, sought: Search, lo: u64, hi: u64, held: &mut Vec<u8>)
+    requires room { HasRoom held.old ROOM }
+    ensures answer { (reply : List ℕ) × ((entries : List Entry) → Told (known_of series.old entries) (LongCommand.Find sought lo hi) reply (known_of series.new entries))
+        × (held.new.items ≡ held.old.items ++ reply) }
+    ensures ready { (entries : List Entry) → IsReady series.old entries → IsReady series.new entries }
+    ensures room { KeepsRoom held.old held.new }
+{
+    match index_of(series, sought, lo, hi) {
+        Ok(index) => put_index(held, series.edits(), index),
+        Err(refusal) => put_refused(held, refusal.number()),
+    }
+}
+
+// Where the run of a range with the greatest sum is, or why there is no answer.
+fn put_run_of(series: &mut Series, lo: u64, hi: u64, held: &mut Vec<u8>)
+    requires room { HasRoom held.old ROOM }
+    ensures answer { (reply : List ℕ) × ((entries : List Entry) → Told (known_of series.old entries) (LongCommand.BestRun lo hi) reply (known_of series.new entries))
+        × (held.new.items ≡ held.old.items ++ reply) }
+    ensures ready { (entries : List Entry) → IsReady series.old entries → IsReady series.new entries }
+    ensures room { KeepsRoom held.old held.new }
+{
+    match run_of(series, lo, hi) {
+        Ok(run) => put_run(held, series.edits(), run),
+        Err(refusal) => put_refused(held, refusal.number()),
+    }
+}
+
 // Registers a query.
 fn put_watch(
     series: &mut Series,
@@ -163,16 +195,17 @@ fn put_watch(
     name: Name,
     kind: Kind,
     span: Span,
+    bound: Option<Bound>,
     held: &mut Vec<u8>,
 )
     requires ready { IsReady series.old entries.old.items }
     requires room { HasRoom held.old ROOM }
-    ensures answer { (reply : List ℕ) × Told (known_of series.old entries.old.items) (LongCommand.Watch name kind span) reply (known_of series.new entries.new.items)
+    ensures answer { (reply : List ℕ) × Told (known_of series.old entries.old.items) (LongCommand.Watch name kind span bound) reply (known_of series.new entries.new.items)
         × (held.new.items ≡ held.old.items ++ reply) }
     ensures ready { IsReady series.new entries.new.items }
     ensures room { KeepsRoom held.old held.new }
 {
-    match register(series, entries, name, kind, span) {
+    match register(series, entries, name, kind, span, bound) {
         Ok(()) => put_watching(held, name),
         Err(refusal) => put_refused(held, refusal.number()),
     }

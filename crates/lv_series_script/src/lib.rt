@@ -6,16 +6,18 @@
 #![tactic(auto)]
 
 mod answers;
+mod bounds;
 mod long_commands;
 mod long_grammar;
 mod long_numbers;
 mod queries;
 mod scans;
+mod searches;
 mod series_scripts;
 mod texts;
 mod values;
 mod watched;
 
-pub use long_commands::{LongCommand, LongLine, Span};
+pub use long_commands::{LongCommand, LongLine, Search, Span};
 pub use long_grammar::read_long_line;
 pub use series_scripts::run_series_script;

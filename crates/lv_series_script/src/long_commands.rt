@@ -2,6 +2,7 @@
 
 use lv_bodies::{Kind, Name};
 use lv_series::LongEdit;
+use lv_tree::Bound;
 
 /// The elements that a standing query is asked of, as many of them as are kept.
 #[derive(Clone, Copy)]
@@ -10,6 +11,21 @@ pub enum Span {
     Between { lo: u64, hi: u64 },
     /// The last so many.
     Last(u64),
+}
+
+/// What is looked for in a range. The answer is an index.
+#[derive(Clone, Copy)]
+pub enum Search {
+    /// The first element within a bound.
+    First(Bound),
+    /// The last element within a bound.
+    Last(Bound),
+    /// The first end up to which the elements from the start of the range on add up to so much at least.
+    Reach(i64),
+    /// The first of the least elements.
+    Least,
+    /// The first of the greatest elements.
+    Greatest,
 }
 
 /// What a line of a series' script asks for. Its numbers are at most 2^62.
@@ -36,11 +52,23 @@ pub enum LongCommand {
         lo: u64,
         hi: u64,
     },
-    /// Keep the answer of a reduction under a name.
+    /// Show the index from `lo` on, below `hi`, of what is looked for.
+    Find {
+        sought: Search,
+        lo: u64,
+        hi: u64,
+    },
+    /// Show where the run with the greatest sum is, from `lo` on, below `hi`.
+    BestRun {
+        lo: u64,
+        hi: u64,
+    },
+    /// Keep the answer of a reduction under a name. With a bound it is told only where it comes to be within it, or ceases to be.
     Watch {
         name: Name,
         kind: Kind,
         span: Span,
+        bound: Option<Bound>,
     },
     /// Forget the name.
     Unwatch(Name),

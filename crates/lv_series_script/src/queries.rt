@@ -1,21 +1,24 @@
 //! Standing queries, in the order of their registration.
-ghost use Rattle.std.specs.Prelude.{◌≡◌, ◌+◌, ◌*◌, ◌≤◌, None, Some, All, IfErr, IfSome, MatchOption, OnErr, OnOk, [], ◌∷◌, ◌++◌, length, map, vec_len};
+ghost use Rattle.std.specs.Prelude.{◌≡◌, ◌+◌, ◌*◌, ◌≤◌, None, Some, All, IfErr, IfSome, MatchOption, OnErr, OnOk, [], ◌∷◌, ◌++◌, length, map, vec_len, if◌then◌else◌};
 ghost use Rattle.std.specs.List.{flat_map};
-ghost use Rattle.lv_bodies.specs.Plain.{program_table};
+ghost use Rattle.lv_bodies.specs.Plain.{plain_value, program_table};
 ghost use Rattle.lv_edits.specs.Verdict.{IsRefusal};
 ghost use Rattle.lv_lines.specs.Output.{HasRoom, KeepsRoom};
+ghost use Rattle.lv_lines.specs.Texts.{note_text};
 ghost use Rattle.lv_series.specs.Series.{Held};
-ghost use Rattle.lv_series_script.specs.Inside.{HasValue, IsCurrent, brought_up, queries_of, query_at, told_of};
-ghost use Rattle.lv_series_script.specs.LongQueries.{long_answer, long_query_of, long_watch_refusal, name_refusal, unknown, without_long};
+ghost use Rattle.lv_series_script.specs.Inside.{IsCurrent, brought_up, queries_of, query_at, told_of};
+ghost use Rattle.lv_series_script.specs.LongQueries.{is_due, long_query_of, long_watch_refusal, name_refusal, span_of, unknown, without_long};
 ghost use Rattle.lv_series_script.specs.Values.{without_trees};
 
+use crate::bounds::crosses;
 use crate::long_commands::Span;
 use crate::values::value_of;
 use crate::watched::Watched;
-use lv_bodies::{Kind, Name};
+use lv_bodies::{Kind, Name, Shown};
 use lv_geometry::Refusal;
 use lv_lines::{LINE, put_note};
 use lv_series::Series;
+use lv_tree::Bound;
 
 /// The query of a name, if there is one.
 pub fn find(entries: &[Watched], name: Name) -> Option<Watched>
@@ -37,11 +40,12 @@ pub fn register(
     name: Name,
     kind: Kind,
     span: Span,
+    bound: Option<Bound>,
 ) -> Result<(), Refusal>
     requires { series.old.table ≡ program_table }
     ensures free { OnOk result (long_watch_refusal (queries_of entries.old.items) name span ≡ None) }
     ensures added { OnOk result (entries.new.items ≡ entries.old.items
-        ++ record { name = name; kind = kind; span = span; value = long_answer series.old.held record { name = name; kind = kind; span = span } } ∷ []) }
+        ++ record { name = name; kind = kind; span = span; bound = bound; value = plain_value kind (span_of series.old.held span) } ∷ []) }
     ensures same { without_trees series.new ≡ without_trees series.old }
     ensures few { OnOk result (length entries.old.items + 1 ≤ 64) }
     ensures err { IfErr result (λ refusal. IsRefusal (long_watch_refusal (queries_of entries.old.items) name span) refusal) }
@@ -55,6 +59,7 @@ pub fn register(
         name,
         kind,
         span,
+        bound,
         value,
     }) else {
         return Err(Refusal::NoMemory);
@@ -104,10 +109,9 @@ pub fn forget(entries: &mut Vec<Watched>, name: Name) -> Result<(), Refusal>
     Ok(())
 }
 
-/// Brings each query up to what is kept now, in order of registration, and tells of those whose answer is another than before.
+/// Brings each query up to what is kept now, in order of registration, and tells of those of which a note is due.
 pub fn tell(series: &mut Series, entries: &mut [Watched], held: &mut Vec<u8>)
     requires table { series.old.table ≡ program_table }
-    requires values { All HasValue entries.old }
     requires room { HasRoom held.old (LINE * length entries.old) }
     ensures same { without_trees series.new ≡ without_trees series.old }
     ensures entries { entries.new ≡ map (brought_up series.old.held) entries.old }
@@ -119,10 +123,9 @@ pub fn tell(series: &mut Series, entries: &mut [Watched], held: &mut Vec<u8>)
     }
 }
 
-// Brings one query up, and tells of its answer where that is another than before.
+// Brings one query up, and tells of its answer where a note of it is due.
 fn tell_one(series: &mut Series, entry: &mut Watched, held: &mut Vec<u8>)
     requires table { series.old.table ≡ program_table }
-    requires value { HasValue entry.old }
     requires room { HasRoom held.old LINE }
     ensures same { without_trees series.new ≡ without_trees series.old }
     ensures entry { entry.new ≡ brought_up series.old.held entry.old }
@@ -131,8 +134,29 @@ fn tell_one(series: &mut Series, entry: &mut Watched, held: &mut Vec<u8>)
     ensures room { KeepsRoom held.old held.new }
 {
     let value = value_of(series, entry.kind, entry.span);
-    if value != entry.value {
-        put_note(held, entry.name, value);
-        entry.value = value;
+    let due = is_due(entry.bound, entry.value, value);
+    put_due(held, entry.name, value, due);
+    entry.value = value;
+}
+
+// Whether a note is due: an answer is another than before, or begins or ceases to be within the bound that there is.
+fn is_due(bound: Option<Bound>, before: Shown, now: Shown) -> bool
+    ensures { result ≡ is_due bound before now }
+{
+    match bound {
+        None => now != before,
+        Some(bound) => crosses(bound, before, now),
+    }
+}
+
+// Puts a note of a query, where it is due.
+fn put_due(held: &mut Vec<u8>, name: Name, value: Shown, due: bool)
+    requires room { HasRoom held.old LINE }
+    ensures text { held.new.items ≡ held.old.items ++ (if due then note_text name value else []) }
+    ensures len { vec_len held.new ≤ vec_len held.old + LINE }
+    ensures room { KeepsRoom held.old held.new }
+{
+    if due {
+        put_note(held, name, value);
     }
 }

@@ -4,7 +4,7 @@ ghost use Rattle.std.specs.Fmt.{signed_decimal};
 ghost use Rattle.lv_series.specs.declared.receipts.LongReceipt.TheVariants as receipt;
 ghost use Rattle.lv_lines.specs.Output.{HasRoom, KeepsRoom};
 ghost use Rattle.lv_lines.specs.Texts.{answer_text, reply_line, scan_head, size_text, value_text};
-ghost use Rattle.lv_series_script.specs.LongTexts.{first_text, long_element_text, long_receipt_text, refused_by};
+ghost use Rattle.lv_series_script.specs.LongTexts.{first_text, index_text, long_element_text, long_receipt_text, none_text, refused_by, run_text};
 
 use lv_bodies::{Kind, Shown};
 use lv_lines::{LINE, kind_name, put, put_element, put_number, put_shown, scan_name};
@@ -149,6 +149,69 @@ pub fn put_answer(held: &mut Vec<u8>, edit: u64, kind: Kind, value: Shown)
     put(held, kind_name(kind).as_bytes());
     put(held, b" ");
     put_shown(held, value);
+    put(held, b"\n");
+}
+
+/// An index at an edit, or that there is none.
+pub fn put_index(held: &mut Vec<u8>, edit: u64, index: Option<u64>)
+    requires { HasRoom held.old LINE }
+    ensures text { held.new.items ≡ held.old.items ++ index_text edit index }
+    ensures room { KeepsRoom held.old held.new }
+{
+    match index {
+        Some(i) => put_place(held, edit, i),
+        None => put_none(held, edit),
+    }
+}
+
+// An index at an edit.
+fn put_place(held: &mut Vec<u8>, edit: u64, i: u64)
+    requires { HasRoom held.old LINE }
+    ensures text { held.new.items ≡ held.old.items ++ reply_line (codes "at " ++ decimal edit ++ codes " index " ++ decimal i) }
+    ensures room { KeepsRoom held.old held.new }
+{
+    put(held, b"at ");
+    put_number(held, edit);
+    put(held, b" index ");
+    put_number(held, i);
+    put(held, b"\n");
+}
+
+// That there is none, at an edit.
+fn put_none(held: &mut Vec<u8>, edit: u64)
+    requires { HasRoom held.old LINE }
+    ensures text { held.new.items ≡ held.old.items ++ none_text edit }
+    ensures room { KeepsRoom held.old held.new }
+{
+    put(held, b"at ");
+    put_number(held, edit);
+    put(held, b" none\n");
+}
+
+/// From which index up to which a run is, at an edit, or that there is none.
+pub fn put_run(held: &mut Vec<u8>, edit: u64, run: Option<(u64, u64)>)
+    requires { HasRoom held.old LINE }
+    ensures text { held.new.items ≡ held.old.items ++ run_text edit run }
+    ensures room { KeepsRoom held.old held.new }
+{
+    match run {
+        Some((from, to)) => put_ends(held, edit, from, to),
+        None => put_none(held, edit),
+    }
+}
+
+// From which index up to which, at an edit.
+fn put_ends(held: &mut Vec<u8>, edit: u64, from: u64, to: u64)
+    requires { HasRoom held.old LINE }
+    ensures text { held.new.items ≡ held.old.items ++ reply_line (codes "at " ++ decimal edit ++ codes " from " ++ decimal from ++ codes " to " ++ decimal to) }
+    ensures room { KeepsRoom held.old held.new }
+{
+    put(held, b"at ");
+    put_number(held, edit);
+    put(held, b" from ");
+    put_number(held, from);
+    put(held, b" to ");
+    put_number(held, to);
     put(held, b"\n");
 }
 
