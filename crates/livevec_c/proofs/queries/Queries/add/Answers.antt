@@ -13,5 +13,5 @@ returns-clause-ok c =
       rw (← c.self.view_is) at c.requires,
       same_set _ _ _ _
           (c.push_reserved.ensures.items ∙ ap (λ qs. qs ++ q ∷ []) c.make_room-room.ensures.questions)
-          (c.push_reserved-2.ensures.items ∙ ap (λ ts. ts ++ c.untold.result ∷ []) c.make_room-room.ensures.told ∙ ap (λ t. c.self.inside.told.items ++ t ∷ []) c.untold.ensures),
+          (c.push_reserved-2.ensures.items ∙ ap (λ ts. ts ++ c.untold.result ∷ []) c.make_room-room.ensures.told ∙ ap (λ t. c.self.inside.told.items ++ t ∷ []) c.untold.ensures.value),
     )

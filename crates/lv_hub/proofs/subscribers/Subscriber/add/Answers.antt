@@ -11,5 +11,5 @@ returns-clause-ok g c =
     rw (← c.self.view_is) (
       rw (← c.self.view_is) at c.requires,
       c.push_reserved.ensures.items ∙ ap (λ qs. qs ++ q ∷ []) c.make_room-room.ensures.questions,
-      c.push_reserved-2.ensures.items ∙ ap (λ ts. ts ++ c.answer_to_nothing.result ∷ []) c.make_room-room.ensures.told ∙ ap (λ t. c.self.inside.told.items ++ t ∷ []) c.answer_to_nothing.ensures,
+      c.push_reserved-2.ensures.items ∙ ap (λ ts. ts ++ c.untold.result ∷ []) c.make_room-room.ensures.told ∙ ap (λ t. c.self.inside.told.items ++ t ∷ []) c.untold.ensures.none,
     )
