@@ -90,6 +90,8 @@ class Stream(unittest.TestCase):
                       "2026-11-27T16:00:00-0530", start.astimezone().strftime("%Y-%m-%d %H:%M")):
             self.assertEqual(time_of(value), moment * 1000, value)
         self.assertEqual(time_of("2026-11-27T21:30:00.123456Z"), moment * 1000 + 123)
+        # of more digits than a decimal of Python has by itself no part is rounded up
+        self.assertEqual([time_of(f"{moment}.{part}" + "9" * 17) for part in ("000", "122", "999")], [moment * 1000, moment * 1000 + 122, moment * 1000 + 999])
         for value in (35, -moment, 20261127213000, "12:00", "2026-13-01", "2026-11-27T25:00Z", "now", "", "1e9", True, None, 1.5, [], 10**4000, "9" * 4000):
             self.assertIsNone(time_of(value), value)
 

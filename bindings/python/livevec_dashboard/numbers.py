@@ -8,8 +8,9 @@ from typing import Optional, Union
 _LEAST, _MOST = -(1 << 63), (1 << 63) - 1
 _WHOLE = re.compile(rb"[+-]?[0-9]+\Z")
 _DECIMAL = re.compile(rb"[+-]?(?:[0-9]+\.?[0-9]*|\.[0-9]+)(?:[eE][+-]?[0-9]{1,4})?\Z")
-# a product has no more digits than its factors together, which is less than this for what a line and a scale have; else it would raise
-_EXACT = decimal.Context(prec=1 << 13, rounding=decimal.ROUND_HALF_EVEN, traps=[decimal.Inexact])
+EXACT = decimal.Context(prec=1 << 13, rounding=decimal.ROUND_HALF_EVEN, traps=[decimal.Inexact])
+"""Multiplies without rounding: a product has no more digits than its factors together, which is less than this for what a line and a scale have. Else it
+would raise."""
 
 
 class Bad(ValueError):
@@ -46,7 +47,7 @@ def _rounded(value: decimal.Decimal, scale: int) -> int:
     # before it is written out in full: an exponent may ask for thousands of digits
     if value and value.adjusted() > 20:
         raise Bad("outside 64 bits")
-    return int(_EXACT.multiply(value, decimal.Decimal(scale)).to_integral_value(context=_EXACT))
+    return int(EXACT.multiply(value, decimal.Decimal(scale)).to_integral_value(context=EXACT))
 
 
 def of_json(value: object) -> Union[int, bytes]:

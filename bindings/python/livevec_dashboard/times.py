@@ -6,7 +6,7 @@ import re
 from decimal import Decimal as Exact
 from typing import Optional
 
-from .numbers import Decimal
+from .numbers import EXACT, Decimal
 
 FIELDS = ("time", "timestamp")
 """The fields of a JSON object, or columns of CSV, that are taken for the time of a line where no other one is said."""
@@ -40,7 +40,7 @@ def time_of(value: object) -> Optional[int]:
 def _counted(number: Exact) -> Optional[int]:
     for unit in _UNITS:
         if _FROM * unit <= number < _UP_TO * unit:
-            return int(number * 1000) // unit
+            return int(EXACT.multiply(number, Exact(1000))) // unit
     return None
 
 
