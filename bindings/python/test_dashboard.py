@@ -3,6 +3,7 @@ from __future__ import annotations
 
 import concurrent.futures
 import contextlib
+import http.client
 import os
 import random
 import socket
@@ -164,6 +165,27 @@ class Serving(unittest.TestCase):
         while len(server.connections) > 1 and time.monotonic() < began + SECONDS:
             time.sleep(0.01)
         self.assertEqual(len(server.connections), 1)
+
+    def test_both_bounds_of_connections_are_options(self):
+        with dashboard("--connections", "3", "--deadline", "2") as (pipe, url):
+            viewers, began = [self.client(url) for _ in range(2)], time.monotonic()
+            slow = self.slow(viewers[0].host)
+            self.assertEqual(slow.recv(1), b"")
+            # it ends by the deadline that was said, and not by the usual one
+            self.assertTrue(1.5 < time.monotonic() - began < 9)
+            viewers.append(self.client(url))
+            with self.assertRaises((OSError, http.client.HTTPException)):
+                ask(viewers[0].host, "GET", "/")
+            viewers.pop().close()
+            end = time.monotonic() + SECONDS
+            while time.monotonic() < end:
+                # what was closed is found when it is written to
+                self.write(pipe, b"a 1\n")
+                with contextlib.suppress(OSError, http.client.HTTPException):
+                    self.assertEqual(ask(viewers[0].host, "GET", "/"), 200)
+                    return
+                time.sleep(0.1)
+            self.fail("the place of a viewer that has left is not free")
 
     def test_a_header_that_is_too_long_is_cut_off(self):
         server, _ = self.serving(60)

@@ -10,6 +10,7 @@ from typing import NoReturn, Optional, Sequence
 from .texts import shown
 
 try:
+    from .connections import MOST_OF_ONE, Bounds, bounds_of
     from .lines import SHAPES, Lines
     from .server import Server
     from .store import Store
@@ -36,7 +37,7 @@ def main(arguments: Optional[Sequence[str]] = None) -> int:
     title = shown(said.title or ("standard input" if said.feed == "-" else os.path.basename(said.feed)))
     digits = len(str(said.scale)) - 1 if said.scale else 0
     try:
-        server = _serving(said.host, said.port, store, title, digits)
+        server = _serving(said.host, said.port, store, title, digits, bounds_of(said.connections, said.deadline))
     except (OSError, TypeError, ValueError) as error:
         # Python raises a TypeError of what can be no host's name
         print(shown(f"livevec-dashboard: {said.host}: {error}"), file=sys.stderr)
@@ -54,14 +55,14 @@ def main(arguments: Optional[Sequence[str]] = None) -> int:
     return 0
 
 
-def _serving(host: str, port: Optional[int], store: Store, title: str, digits: int) -> Server:
+def _serving(host: str, port: Optional[int], store: Store, title: str, digits: int, bounds: Bounds) -> Server:
     """A server at the port that was said; where none was, at the usual one, or at any that is free."""
     try:
-        return Server(host, PORT if port is None else port, store, title=title, digits=digits)
+        return Server(host, PORT if port is None else port, store, title=title, digits=digits, bounds=bounds)
     except OSError:
         if port is not None:
             raise
-        return Server(host, 0, store, title=title, digits=digits)
+        return Server(host, 0, store, title=title, digits=digits, bounds=bounds)
 
 
 class _Parser(argparse.ArgumentParser):
@@ -86,6 +87,9 @@ def _parser() -> argparse.ArgumentParser:
     add("--title", metavar="TEXT", help="what the page calls the stream (the file's name)")
     add("--host", default="127.0.0.1", help="the address to serve at (127.0.0.1, which only this machine reaches)")
     add("--port", type=_from_to(0, 65_535), help=f"the port ({PORT}, or any where that is taken; 0 is any)")
+    add("--connections", type=_from_to(2, MOST_OF_ONE), metavar="N",
+        help=f"connections that one address may have at once ({Bounds().of_another}; all of this machine's own together {Bounds().of_this_machine})")
+    add("--deadline", type=_from_to(1, 3_600), default=Bounds().request, metavar="SECONDS", help=f"in so many a whole request has to come ({Bounds().request:.0f})")
     add("--open", action="store_true", help="open a browser")
     return parser
 

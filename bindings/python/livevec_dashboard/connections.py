@@ -7,7 +7,7 @@ import ipaddress
 import socket
 import threading
 import time
-from typing import TYPE_CHECKING, NamedTuple
+from typing import TYPE_CHECKING, NamedTuple, Optional
 
 if TYPE_CHECKING:
     from _typeshed import WriteableBuffer
@@ -15,6 +15,8 @@ if TYPE_CHECKING:
 MOST_BODY = 1 << 16
 MOST_REQUEST = MOST_BODY + (1 << 15)
 """A request of more bytes, with its header, is cut off."""
+MOST_OF_ONE = 500
+"""No address may have more connections than this, whatever is said: a system gives a program some thousand files, and `select` takes no more."""
 _HERE = "this machine"
 
 
@@ -28,6 +30,12 @@ class Bounds(NamedTuple):
     of_another: int = 16
     request: float = 10.0
     patience: float = 20.0
+
+
+def bounds_of(of_one: Optional[int], request: float) -> Bounds:
+    """The usual bounds, but so many connections of each address, if that is said, and so many seconds for a request."""
+    usual = Bounds(request=request)
+    return usual if of_one is None else usual._replace(of_this_machine=of_one, of_another=of_one, connections=max(usual.connections, of_one))
 
 
 class _Open:
