@@ -13,10 +13,10 @@ import unittest
 from datetime import datetime, timezone
 
 from livevec_dashboard.lines import MOST_LINE, Lines
+from livevec_dashboard.numbers import spelt
 from livevec_dashboard.store import Store
 from livevec_dashboard.stream import Feed, followed
 from livevec_dashboard.times import NO_TIME, time_of
-from livevec_dashboard.views import spelt
 from viewers import HERE, SECONDS
 
 

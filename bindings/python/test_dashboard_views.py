@@ -12,7 +12,8 @@ from array import array
 from livevec_dashboard.lines import Lines
 from livevec_dashboard.store import MOST_ELEMENTS, Series, Store
 from livevec_dashboard.stream import Feed
-from livevec_dashboard.views import BadView, Viewer, view_of
+from livevec_dashboard.viewer import Viewer
+from livevec_dashboard.views import BadView, view_of
 from plain import best
 from viewers import SECONDS, Page
 
@@ -74,16 +75,18 @@ class Vectors(unittest.TestCase):
         chance, series = random.Random(6), Series()
         plain = [chance.choice((2**63 - 1, -(2**63), 2**61, 5, -7, 0)) for _ in range(3_000)]
         series.take(array("q", plain), keep=2_000, room=2_500)
-        for count, longest in ((1, 3_000), (8, 50), (9, 4), (400, 64), (400, 65), (9, 2_000)):
+        copied = series.copied(series.first, series.end)
+        for count, longest in ((1, 3_000), (39, 50), (40, 4), (400, 64), (9, 2_000)):
             ranges = []
             for _ in range(count):
                 lo = chance.randrange(series.first, series.end)
                 ranges.append((lo, min(lo + chance.randrange(1, longest + 1), series.end)))
-            for (lo, hi), column in zip(ranges, series.columns(ranges)()):
+            for (lo, hi), column in zip(ranges, series.columns(ranges)):
                 part = plain[lo:hi]
                 self.assertEqual(column[:2], (min(part), max(part)))
                 # by two splits the sum of four is found, if they are split evenly
                 self.assertIn(column.total, (sum(part),) if hi - lo <= 3 else (sum(part), None))
+                self.assertEqual(copied.column(lo, hi), (min(part), max(part), sum(part)))
 
     def test_names_that_grow_fewer_samples_each_have_room_for_all(self):
         chance, store = random.Random(7), Store(keep=300, most_samples=2_000)
@@ -118,6 +121,32 @@ def plain_columns(values, lo, hi, width):
         part = values[max(number * width, lo):min((number + 1) * width, hi)]
         made[number] = [min(part), max(part), sum(part) / len(part)]
     return made
+
+
+class Lock:
+    """A lock that measures how long the thread that holds it works meanwhile, and does something when it is free again."""
+
+    def __init__(self, after=lambda: None):
+        self.lock, self.after, self.longest = threading.Lock(), after, 0.0
+
+    def acquire(self, *how):
+        got = self.lock.acquire(*how)
+        if got:
+            self.since = time.thread_time()
+        return got
+
+    def release(self):
+        self.longest = max(self.longest, time.thread_time() - self.since)
+        self.lock.release()
+        after, self.after = self.after, lambda: None
+        after()
+        self.after = after
+
+    def __enter__(self):
+        return self.acquire()
+
+    def __exit__(self, *_):
+        self.release()
 
 
 class Views(unittest.TestCase):
@@ -182,6 +211,50 @@ class Views(unittest.TestCase):
                 self.assertEqual(when, 1_700_000_000_000 + 1000 * least, column)
         self.assertNotIn("times", page.charts["b"])
         self.assertEqual({len(column) for column in page.columns["b"].values()}, {3})
+
+    def test_the_lock_is_held_for_a_small_part_of_a_chart_at_a_time(self):
+        store, lock = Store(), Lock()
+        store.admit("a")
+        store.series["a"].take(array("q", range(520_000)), keep=600_000, room=700_000, times=range(520_000))
+        store.changing = threading.Condition(lock)
+        viewer = Viewer(store, 0)
+        for last in (2_000, 15_000, 250_000, 510_000):
+            parts = []
+            for turn in range(7):
+                viewer.look(view_of({"charts": [{"name": "a", "last": last - turn, "columns": 2_000}], "watches": []}))
+                lock.longest, began = 0.0, time.thread_time()
+                columns = viewer.frame()["charts"][0]["columns"]
+                parts.append(lock.longest / (time.thread_time() - began))
+                self.assertGreater(len(columns), 1_800)
+            # it is less than a seventh; where columns are computed by who holds it, it is a half
+            self.assertLess(min(parts), 0.25, last)
+
+    def test_a_chart_whose_samples_are_dropped_in_the_middle_is_whole_again(self):
+        chance, store, plain, page, lost = random.Random(10), Store(keep=8_000), [], Page(), 0
+        lines = Lines(store.admit)
+
+        def feed():
+            values = [chance.randrange(-50, 50) for _ in range(6_000)]
+            plain.extend(values)
+            store.take(lines.take(b"".join(b"a %d\n" % value for value in values)))
+
+        feed()
+        feed()
+        lock = Lock(feed)
+        store.changing, viewer = threading.Condition(lock), Viewer(store, 0)
+        viewer.look(view_of({"charts": [{"name": "a", "last": 30_000, "columns": 2_000}], "watches": []}))
+        for turn in range(20):
+            # in every other frame more samples come whenever the lock is free
+            lock.after = feed if turn % 2 == 0 else lambda: None
+            page.take(viewer.frame())
+            chart = page.charts["a"]
+            wanted = plain_columns(plain, chart["lo"], chart["hi"], chart["width"])
+            lost += len(wanted.keys() - page.columns["a"].keys())
+            # what is shown is true, also where it isn't all
+            self.assertEqual({number: wanted[number] for number in page.columns["a"]}, page.columns["a"])
+            if turn % 2:
+                self.assertEqual(page.columns["a"], wanted)
+        self.assertGreater(lost, 0)
 
     def test_a_viewer_within_its_bounds_leaves_the_feed_most_of_the_time(self):
         store, text = Store(), b"".join(b"name%d %d\n" % (number % 24, number) for number in range(24_000))

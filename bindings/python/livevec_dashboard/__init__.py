@@ -9,7 +9,9 @@ Each name of the stream has a `livevec.Vector` of its samples. Each number on th
 | `lines` | bytes into names and whole numbers; `numbers` and `times` read their texts |
 | `stream` | standard input, or a file that is followed |
 | `store` | the vectors, their renewal, and their answers |
-| `views` | what a viewer looks at, and what of it has changed |
+| `views` | what a viewer looks at |
+| `viewer` | what of it has changed |
+| `columns` | the columns of a chart |
 | `pace` | how much viewers may compute while the feed has more to read |
 | `server` | the page, the events and what a request must be like |
 | `connections` | how many connections there may be, and how long a request may take |

@@ -1,4 +1,4 @@
-"""Texts of numbers into whole numbers of 64 bits, each rounded once."""
+"""Texts of numbers into whole numbers of 64 bits, each rounded once, and back."""
 from __future__ import annotations
 
 import decimal
@@ -55,3 +55,11 @@ def of_json(value: object) -> Union[int, bytes]:
     if type(value) is int:
         return value
     return value.encode() if isinstance(value, Decimal) else b"none"
+
+
+def spelt(value: Optional[int], digits: int) -> Optional[str]:
+    """A number divided by 10**digits, written out in full."""
+    if value is None or digits == 0:
+        return None if value is None else str(value)
+    whole, part = divmod(abs(value), 10**digits)
+    return f"{'-' if value < 0 else ''}{whole}.{part:0{digits}}"

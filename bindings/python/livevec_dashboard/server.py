@@ -30,7 +30,8 @@ from typing import Any, Optional
 from .connections import MOST_BODY, Bounds, Connections, Incoming
 from .store import Store
 from .texts import shown
-from .views import BadView, Viewer, view_of
+from .viewer import Viewer
+from .views import BadView, view_of
 
 FRAME = 0.1
 """So many seconds lie between two frames of a viewer at least, unless it looks elsewhere."""

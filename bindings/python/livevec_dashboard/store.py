@@ -7,7 +7,7 @@ from __future__ import annotations
 
 import threading
 from array import array
-from typing import Callable, NamedTuple, Optional, Sequence
+from typing import NamedTuple, Optional, Sequence
 
 from livevec import Vector
 
@@ -20,12 +20,8 @@ MOST_ELEMENTS = 1_048_568
 
 _SPLITS = 64
 _SPLITS_OF_COLUMN = 2
-_FEW = 8
-_MANY = 150
+_MANY = 40
 """One call for many ranges lets other threads run, and then waits until it may go on, with the store's lock. For fewer ranges there is a call each."""
-_NARROW = 64
-"""More columns than a few, of so many samples at most, are computed from a copy of the samples, without a lock. Of wider ones stored aggregates answer
-sooner."""
 
 
 class Answer(NamedTuple):
@@ -47,6 +43,22 @@ class Column(NamedTuple):
     least: int
     greatest: int
     total: Optional[int]
+
+
+class Copied(NamedTuple):
+    """A copy of samples from `lo` on, and of their times; those that lack at the end came without one."""
+
+    lo: int
+    samples: array[int]
+    times: array[int]
+
+    def column(self, lo: int, hi: int) -> Column:
+        """What a chart shows of some of them, of at least one."""
+        part = self.samples[lo - self.lo:hi - self.lo]
+        return Column(min(part), max(part), sum(part))
+
+    def time(self, sample: int) -> Optional[int]:
+        return _time_at(self.times, sample - self.lo)
 
 
 class Series:
@@ -102,9 +114,12 @@ class Series:
 
     def time(self, sample: int) -> Optional[int]:
         """When a sample that is held was taken, where the stream said it."""
-        at = sample - self.first
-        when = self._times[at] if at < len(self._times) else NO_TIME
-        return None if when == NO_TIME else when
+        return _time_at(self._times, sample - self.first)
+
+    def copied(self, lo: int, hi: int) -> Copied:
+        """Samples that are held, as a copy."""
+        start, stop = lo - self.first, hi - self.first
+        return Copied(lo, self._vector.to_array(start, stop), self._times[start:stop])
 
     def answer(self, lo: int, hi: int) -> Answer:
         """The values of a range of samples, both ends of which are held."""
@@ -115,14 +130,9 @@ class Series:
         (column,) = self._columns([(start, stop)], _SPLITS)
         return Answer(edit, lo, hi, column.total, column.least, column.greatest, vector.best(start, stop))
 
-    def columns(self, ranges: Sequence[tuple[int, int]]) -> Callable[[], list[Column]]:
-        """The same of the columns of a chart, none of which is empty. What it gives computes them, and needs no lock for that."""
-        if len(ranges) > _FEW and max(hi - lo for lo, hi in ranges) <= _NARROW:
-            start = min(lo for lo, _ in ranges)
-            copied = self._vector.to_array(start - self.first, max(hi for _, hi in ranges) - self.first)
-            return lambda: [_column_of(copied[lo - start:hi - start]) for lo, hi in ranges]
-        found = self._columns([(lo - self.first, hi - self.first) for lo, hi in ranges], _SPLITS_OF_COLUMN)
-        return lambda: found
+    def columns(self, ranges: list[tuple[int, int]]) -> list[Column]:
+        """The same of the columns of a chart, none of which is empty."""
+        return self._columns([(lo - self.first, hi - self.first) for lo, hi in ranges], _SPLITS_OF_COLUMN)
 
     def _columns(self, ranges: list[tuple[int, int]], splits: int) -> list[Column]:
         """What the vector answers for ranges. Its sums are modulo 2**64. Where that may not be the sum, the range is asked in halves, and these again,
@@ -158,8 +168,9 @@ class Series:
         return list(zip(*(vector.value_many(kind, ranges) for kind in ("sum", "least", "greatest"))))  # type: ignore[arg-type]
 
 
-def _column_of(samples: array[int]) -> Column:
-    return Column(min(samples), max(samples), sum(samples))
+def _time_at(times: array[int], at: int) -> Optional[int]:
+    when = times[at] if at < len(times) else NO_TIME
+    return None if when == NO_TIME else when
 
 
 class Status(NamedTuple):
