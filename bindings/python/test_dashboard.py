@@ -117,6 +117,16 @@ class Serving(unittest.TestCase):
                 for name, status in ((viewer.host, 200), (f"{host}:{port}", 200), (host, 200), (f"localhost:{port}", 200), (f"evil.example:{port}", 403), (f"{host}.evil.example", 403)):
                     self.assertEqual(ask(viewer.host, "GET", "/", Host=name), status, name)
 
+    def test_an_address_of_version_6_is_served_however_it_is_written(self):
+        for host, others in (("::1", ("[0:0:0:0:0:0:0:1]",)), ("::ffff:127.0.0.1", ("[::ffff:7f00:1]", "[::FFFF:127.0.0.1]"))):
+            try:
+                server = self.serving(60, host=host)[0]
+            except OSError as error:
+                self.skipTest(f"there is no {host}: {error}")
+            served = server.url.split("/")[2]
+            for name, status in ((served, 200), *((f"{other}:{server.server_address[1]}", 200) for other in others), ("[::2]", 403), ("evil.example", 403)):
+                self.assertEqual(ask(served, "GET", "/", Host=name), status, name)
+
     def slow(self, server_host, text=b"GET /events HTTP/1.1\r\nHost: "):
         """A connection whose request has begun, and is not at its end."""
         name, port = server_host.split(":")
@@ -249,10 +259,10 @@ class Serving(unittest.TestCase):
                 self.assertTrue(text.replace("\n", "").isprintable(), text)
                 self.assertIn(shown, text)
 
-    def serving(self, patience, **bounds):
+    def serving(self, patience, host="127.0.0.1", **bounds):
         """A server in this process, and its store."""
         store = Store()
-        server = Server("127.0.0.1", 0, store, bounds=Bounds(patience=patience, **bounds))
+        server = Server(host, 0, store, bounds=Bounds(patience=patience, **bounds))
         threading.Thread(target=server.serve_forever, daemon=True).start()
         self.addCleanup(server.server_close)
         self.addCleanup(server.shutdown)

@@ -105,6 +105,11 @@ def holder_of(address: str) -> str:
     return _HERE if found.is_loopback else str(found)
 
 
+def is_of_this_machine(address: str) -> bool:
+    """Whether it is of the loopback, also where an address of version 4 is written as one of version 6."""
+    return holder_of(address) == _HERE
+
+
 class Incoming(io.RawIOBase):
     """The bytes of a request as they come, for so many seconds in all and no more than a request may have."""
 

@@ -27,7 +27,7 @@ import time
 import traceback
 from typing import Any, Optional
 
-from .connections import MOST_BODY, Bounds, Connections, Incoming
+from .connections import MOST_BODY, Bounds, Connections, Incoming, is_of_this_machine
 from .store import Store
 from .texts import shown
 from .viewer import Viewer
@@ -41,7 +41,7 @@ MOST_LOOKS = 20
 """A viewer may change its view so often in a second; as many at once."""
 _BACKLOG = 1 << 16
 """So many bytes the system holds for a viewer that does not read. What it has not taken is not followed by older states, but by the latest."""
-_LOCAL = {"localhost", "127.0.0.1", "[::1]"}
+_LOCAL = "localhost", "127.0.0.1", "::1"
 
 
 class _Guest:
@@ -77,7 +77,7 @@ class Server(http.server.ThreadingHTTPServer):
         self.connections = Connections(bounds)
         super().__init__((host, port), Handler)
         bound = str(self.server_address[0])
-        self.hosts = {*_LOCAL, _in_url(host.lower()), _in_url(bound)} if ipaddress.ip_address(bound).is_loopback else None
+        self.hosts = set(map(_host_of, (*_LOCAL, host, bound))) if is_of_this_machine(bound) else None
         """What a request may name as its host; any name where other machines reach this server."""
 
     @property
@@ -181,7 +181,7 @@ class Handler(http.server.BaseHTTPRequestHandler):
     def _from_here(self) -> bool:
         """Whether a request names this server, and was made by no script from elsewhere."""
         host = self.headers.get("Host", "").lower()
-        is_named = self.server.hosts is None or re.sub(r":[0-9]+\Z", "", host) in self.server.hosts
+        is_named = self.server.hosts is None or _host_of(re.sub(r":[0-9]+\Z", "", host)) in self.server.hosts
         return is_named and self.headers.get("Origin") in (None, f"http://{host}")
 
     def _from_page(self) -> bool:
@@ -241,6 +241,15 @@ class Handler(http.server.BaseHTTPRequestHandler):
 def _in_url(host: str) -> str:
     """An address as it is written in a URL."""
     return f"[{host}]" if ":" in host else host
+
+
+def _host_of(text: str) -> str:
+    """A host as it is compared: an address by its value, which may be written in several ways, and a name in small letters."""
+    bare = text.removeprefix("[").removesuffix("]").lower()
+    try:
+        return str(ipaddress.ip_address(bare))
+    except ValueError:
+        return bare
 
 
 # what stands in the page's style and script, in the order in which a browser reads it
