@@ -10,6 +10,7 @@ import unittest
 from array import array
 
 from livevec_dashboard.lines import Lines
+from livevec_dashboard.pace import Pace
 from livevec_dashboard.store import MOST_ELEMENTS, Series, Store
 from livevec_dashboard.stream import Feed
 from livevec_dashboard.viewer import Viewer
@@ -257,11 +258,22 @@ class Views(unittest.TestCase):
         self.assertGreater(lost, 0)
 
     def test_a_viewer_within_its_bounds_leaves_the_feed_most_of_the_time(self):
+        class Rests(Pace):
+            slept = 0.0
+
+            def rest(self, worked):
+                began = time.monotonic()
+                super().rest(worked)
+                self.slept += time.monotonic() - began
+
         store, text = Store(), b"".join(b"name%d %d\n" % (number % 24, number) for number in range(24_000))
+        store.pace = Rests()
         viewer, ended = Viewer(store, 0), threading.Event()
 
         def look():
             turn = 0
+            while not store.pace.feed_has_more:
+                time.sleep(0.001)
             while not ended.is_set():
                 # another range each time, so that nothing that was sent stays good
                 turn += 1
@@ -278,14 +290,15 @@ class Views(unittest.TestCase):
             viewing.start()
             while store.status().lines < 24_000 * 50 and time.monotonic() < began + SECONDS:
                 time.sleep(0.01)
-            worked, took = time.clock_gettime(time.pthread_getcpuclockid(viewing.ident)), time.monotonic() - began
+            slept, worked = store.pace.slept, time.clock_gettime(time.pthread_getcpuclockid(viewing.ident))
             ended.set()
             viewing.join()
             feed.stop()
             feed.join()
         self.assertEqual(store.status().lines, 24_000 * 50)
-        # an eighth of the time, and half of that again for chance; it took more than half of it before it rested
-        self.assertLess(worked, 0.19 * took)
+        # it sleeps nine times as long as it works, but for the last chart; this holds however busy the machine is
+        self.assertGreater(slept, 6 * worked)
+        self.assertGreater(worked, 0.02)
 
     def test_views_out_of_bounds_are_refused(self):
         chart, watch = {"name": "a", "last": 10, "columns": 100}, {"id": 1, "name": "a", "kind": "sum", "lo": 0, "hi": 5}
