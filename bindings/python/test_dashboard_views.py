@@ -150,6 +150,17 @@ class Lock:
         self.release()
 
 
+class Rests(Pace):
+    """A pace that measures how long viewers sleep."""
+
+    slept = 0.0
+
+    def rest(self, worked):
+        began = time.monotonic()
+        super().rest(worked)
+        self.slept += time.monotonic() - began
+
+
 class Views(unittest.TestCase):
     def test_what_is_sent_adds_up_to_what_is_there(self):
         chance, store, plain = random.Random(9), Store(keep=900), []
@@ -258,14 +269,6 @@ class Views(unittest.TestCase):
         self.assertGreater(lost, 0)
 
     def test_a_viewer_within_its_bounds_leaves_the_feed_most_of_the_time(self):
-        class Rests(Pace):
-            slept = 0.0
-
-            def rest(self, worked):
-                began = time.monotonic()
-                super().rest(worked)
-                self.slept += time.monotonic() - began
-
         store, text = Store(), b"".join(b"name%d %d\n" % (number % 24, number) for number in range(24_000))
         store.pace = Rests()
         viewer, ended = Viewer(store, 0), threading.Event()
