@@ -40,4 +40,4 @@ pub use replies::{
 pub use responder::Responder;
 pub use script_grammar::ScriptGrammar;
 pub use sender::{HELD, put, put_element, put_name, put_number, put_wide, write_whole};
-pub use words::{kind_name, next_word, scan_name};
+pub use words::{kind_name, next_word, only_word, scan_name};

@@ -40,7 +40,7 @@ pub(crate) fn ends_word(bytes: &[u8]) -> bool
 }
 
 /// The one word, where there is one and no other.
-pub(crate) fn only_word(bytes: &[u8]) -> Option<&[u8]>
+pub fn only_word(bytes: &[u8]) -> Option<&[u8]>
     ensures { option_copied result ≡ only_word (words_of bytes.now) }
 {
     let (word, rest) = next_word(bytes)?;

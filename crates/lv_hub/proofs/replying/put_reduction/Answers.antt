@@ -29,7 +29,7 @@ returns-in-Ok-list-clause-answer g c =
               ∙ seen_and_listed c.args.share.now new c.args.answers.now.items _ c.in-Ok.ensures.share,
         );
       },
-      c.put_answer.ensures.text,
+      c.put_answer.ensures.text ∙ ap (λ n. c.args.held.now.items ++ answer_text n kind c.face-value.result) c.into.ensures,
     )
 
 pub returns-in-Err-list-clause-answer : goal.returns-in-Err-list-clause-answer
