@@ -22,7 +22,7 @@ use Rattle.lv_series.specs.declared.places.LongPlaced.{LongPlaced}
 use Rattle.lv_series.specs.declared.places.LongRun.{LongRun}
 use Rattle.lv_series.specs.declared.refusals.LongRefusal.{LongRefusal}
 use Rattle.lv_series.proofs.FreeLaws.{free_range}
-use Rattle.lv_series_script.specs.Searched.{begins_best, best_run, ends_best, index_of, is_same, is_within, last_where}
+use Rattle.lv_series_script.specs.Searched.{begins_best, best_run, ends_best, first_where, index_of, is_same, is_within, last_where}
 use Rattle.lv_series_script.specs.declared.long_commands.Search.TheVariants as sought
 use Rattle.lv_series_script.specs.Values.{Seeks, without_trees}
 use Rattle.lv_series_script.proofs.SearchedLaws.{first_is, first_is_none, last_is, last_is_none}
@@ -213,12 +213,12 @@ module _ (h : Held) (lo hi : ℕ) (free : range_refused h lo hi ≡ None) where
       best_value xs a to (omega (arith, is.starts, is.some)) (omega (arith, is.ends, inside)) sum from to is.starts is.some (omega arith) is.adds_up (λ i j low before few. is.greatest i j low before (omega (arith, is.ends))) in
       let alone : plain_best (slice_of h r.from r.to) ≡ Some sum =
       best_value xs from to (omega (arith, is.some)) (omega (arith, is.ends, inside)) sum from to (omega arith) is.some (omega arith) is.adds_up (λ i j low before few. is.greatest i j (omega (arith, is.starts)) before (omega (arith, is.ends))) in
-      let ends = first_is (ends_best h lo hi) (lo + 1) (hi + 1) r.to (omega (arith, low, is.starts, is.some)) (omega (arith, low, order, is.ends))
+      let ends : first_where (ends_best h lo hi) (lo + 1) (hi + 1) ≡ Some r.to = first_is (ends_best h lo hi) (lo + 1) (hi + 1) r.to (omega (arith, low, is.starts, is.some)) (omega (arith, low, order, is.ends))
       (ap₂ is_same up_to whole ∙ same sum sum refl)
       (λ e after before.
       ap (is_same (plain_best (slice_of h lo e))) whole
       ∙ smaller_best xs a (e - h.first) (omega (arith, low)) (omega (arith, is.ends, inside)) sum (λ i j start some few. is.least_end i j start some (omega (arith, low)))) in
-      let begins = last_is (begins_best h lo hi r.to) lo r.to r.from (omega (arith, low, is.starts)) (omega (arith, is.some))
+      let begins : last_where (begins_best h lo hi r.to) lo r.to ≡ Some r.from = last_is (begins_best h lo hi r.to) lo r.to r.from (omega (arith, low, is.starts)) (omega (arith, is.some))
       (ap₂ is_same alone whole ∙ same sum sum refl)
       (λ s behind before.
       ap (is_same (plain_best (slice_of h s r.to))) whole
@@ -227,7 +227,9 @@ module _ (h : Held) (lo hi : ℕ) (free : range_refused h lo hi ≡ None) where
         | inl sooner ↦ is.least_end i j (omega (arith, is.starts)) before sooner
         | inr last ↦ let here : to ≡ j = omega arith in subst (λ n. total (slice_range xs i n) <ℤ sum) here (is.greatest_start i (omega arith) (omega arith))
       ])) in
-      let found : best_run h lo hi ≡ Some (r.from, r.to) = ap run_to ends ∙ ap (λ from. from >>= (λ from. Some (from, r.to))) begins in
+      let first : best_run h lo hi ≡ run_to (Some r.to) = ap run_to ends in
+      let second : run_to (Some r.to) ≡ Some (r.from, r.to) = ap (λ from. from >>= (λ from. Some (from, r.to))) begins in
+      let found : best_run h lo hi ≡ Some (r.from, r.to) = first ∙ second in
       sym found
 
 -- ---- searches that make a tree first
