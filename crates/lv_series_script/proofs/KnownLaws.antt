@@ -7,7 +7,7 @@ use Rattle.lv_bodies.specs.declared.kinds.Kind.{Kind}
 use Rattle.lv_bodies.specs.Plain.{plain_value}
 use Rattle.lv_lines.specs.declared.fault.Fault.{Fault}
 use Rattle.lv_lines.specs.declared.fault.Fault.TheVariants.{WriteFault}
-use Rattle.lv_lines.specs.Texts.{answer_text, scan_text}
+use Rattle.lv_lines.specs.Texts.{answer_text, scan_text, refused_by}
 use Rattle.lv_script.specs.PlainScript.{scan_by}
 use Rattle.lv_series.specs.declared.edits.LongEdit.{LongEdit}
 use Rattle.lv_series.specs.declared.edits.LongEdit.TheVariants.{Push, Pop, Write, Expire, Swap, Truncate}
@@ -23,7 +23,7 @@ use Rattle.lv_series_script.specs.declared.long_commands.Span.{Span}
 use Rattle.lv_series_script.specs.declared.watched.Watched.{Watched}
 use Rattle.lv_series_script.specs.Inside.{IsCurrent, IsReady, Told, brought_up, known_of, queries_of, then_known, told_of}
 use Rattle.lv_series_script.specs.LongQueries.{span_of}
-use Rattle.lv_series_script.specs.LongTexts.{index_text, long_receipt_text, refused_by, run_text}
+use Rattle.lv_series_script.specs.LongTexts.{index_text, long_receipt_text, run_text}
 use Rattle.lv_series_script.specs.PlainSeriesScript.{Known, note_of, refusal_of, reply_of, series_of}
 use Rattle.lv_series_script.specs.Searched.{best_run, index_of}
 use Rattle.lv_series_script.specs.SeriesRuns.{may_want}

@@ -10,8 +10,8 @@ use Rattle.lv_series.specs.declared.edits.LongEdit.{LongEdit}
 use Rattle.lv_series.specs.Series.{changed}
 use Rattle.lv_series_script.specs.declared.long_commands.LongCommand.{LongCommand}
 use Rattle.lv_series_script.specs.declared.long_commands.LongCommand.TheVariants as command
-use Rattle.lv_series_script.specs.declared.long_commands.LongLine.{LongLine}
-use Rattle.lv_series_script.specs.declared.long_commands.LongLine.TheVariants.{Nothing, Bad, Do}
+use Rattle.lv_lines.specs.declared.lines.Line.{Line}
+use Rattle.lv_lines.specs.declared.lines.Line.TheVariants.{Nothing, Bad, Do}
 use Rattle.lv_series_script.specs.Inside.{KnownStep, LacksMemory, Tells, known_after, then_known}
 use Rattle.lv_series_script.specs.LongGrammar.{long_line_of}
 use Rattle.lv_series_script.specs.PlainSeriesScript.{Known, Plain, after, known_by, plain_after, refusal_of, start}
@@ -44,13 +44,13 @@ decided_known s next then None is = is
 decided_known s next then (Some number) is = refl
 
 -- so after a line
-line_known : (s : Plain) (line : LongLine) → known_after (known_by s) line ≡ known_by (plain_after s line)
+line_known : (s : Plain) (line : Line LongCommand) → known_after (known_by s) line ≡ known_by (plain_after s line)
 line_known s Nothing = refl
 line_known s Bad = refl
 line_known s (Do c) = decided_known s (after s c) (then_known (known_by s) c) (refusal_of (known_by s) c) (command_known s c)
 
 -- where memory was wanting nothing has changed
-lacks_known : (s : Plain) (line : LongLine) (text : List ℕ) (u : Known) → LacksMemory (known_by s) line text u → (u ≡ known_by s) × MeetsWant s line text s
+lacks_known : (s : Plain) (line : Line LongCommand) (text : List ℕ) (u : Known) → LacksMemory (known_by s) line text u → (u ≡ known_by s) × MeetsWant s line text s
 lacks_known s Nothing text u lacks = absurd lacks
 lacks_known s Bad text u lacks = absurd lacks
 lacks_known s (Do c) text u lacks = (lacks.3, (lacks.0, lacks.1, lacks.2, refl))

@@ -17,7 +17,7 @@ use Rattle.lv_lines.specs.declared.fault.Fault.{Fault}
 use Rattle.lv_lines.specs.Grammar.{kind_name}
 use Rattle.lv_lines.specs.Input.{lines_of, unended_of, whole_lines_of}
 use Rattle.lv_lines.specs.Replies.{Answered, Conversed}
-use Rattle.lv_lines.specs.Texts.{named_text, note_text, refused_text, reply_line, scan_head, scan_name, scan_text, scanned_text, shown_text}
+use Rattle.lv_lines.specs.Texts.{named_text, note_text, refused_text, reply_line, scan_head, scan_name, scan_text, scanned_text, shown_text, refused_by}
 use Rattle.lv_lines.proofs.InputLemmas.{lines_of-append, unended_of-append, whole_lines_of-ended}
 use Rattle.lv_script.specs.PlainRuns.{NeverWants}
 use Rattle.lv_script.specs.PlainScript.{scan_by}
@@ -25,11 +25,11 @@ use Rattle.lv_script.proofs.OneLineLaws.{refused_bytes, refused_one}
 use Rattle.lv_script.proofs.WholeLaws.{IsWhole, whole_line}
 use Rattle.lv_series_script.specs.declared.long_commands.LongCommand.{LongCommand}
 use Rattle.lv_series_script.specs.declared.long_commands.LongCommand.TheVariants as command
-use Rattle.lv_series_script.specs.declared.long_commands.LongLine.{LongLine}
-use Rattle.lv_series_script.specs.declared.long_commands.LongLine.TheVariants.{Nothing, Bad, Do}
+use Rattle.lv_lines.specs.declared.lines.Line.{Line}
+use Rattle.lv_lines.specs.declared.lines.Line.TheVariants.{Nothing, Bad, Do}
 use Rattle.lv_series_script.specs.LongGrammar.{long_line_of}
 use Rattle.lv_series_script.specs.LongQueries.{LongQuery, is_due, long_answer, long_query_of}
-use Rattle.lv_series_script.specs.LongTexts.{index_text, long_element_text, long_receipt_text, refused_by, run_text}
+use Rattle.lv_series_script.specs.LongTexts.{index_text, long_element_text, long_receipt_text, run_text}
 use Rattle.lv_series_script.specs.PlainSeriesScript.{Known, Plain, known_by, note_of, plain_after, plain_text, refusal_of, reply_of, reply_to, series_of, start}
 use Rattle.lv_series_script.specs.Searched.{best_run, index_of}
 use Rattle.lv_series_script.specs.SeriesRuns.{IsPlainText, MeetsWant, PlainStep}
@@ -114,7 +114,7 @@ whole_decided text None whole = whole
 whole_decided text (Some number) whole = whole_refused number
 
 -- the reply to a line
-whole_reply : (k : Known) (n : ℕ) (line : LongLine) → IsWhole (reply_to k n line)
+whole_reply : (k : Known) (n : ℕ) (line : Line LongCommand) → IsWhole (reply_to k n line)
 whole_reply k n Nothing = refl
 whole_reply k n Bad = whole_line (codes "bad " ++ decimal n)
 whole_reply k n (Do c) = whole_decided (reply_of k c) (refusal_of k c) (whole_command k c)
@@ -131,7 +131,7 @@ abbrev IsNoWant : List ℕ → Type 0
 IsNoWant line = reply_line line ≢ refused_text NoMemory
 
 -- what met want of memory was refused so
-want_text : (old new : Plain) (line : LongLine) (text : List ℕ) → MeetsWant old line text new → text ≡ refused_text NoMemory
+want_text : (old new : Plain) (line : Line LongCommand) (text : List ℕ) → MeetsWant old line text new → text ≡ refused_text NoMemory
 want_text old new Nothing text want = absurd want
 want_text old new Bad text want = absurd want
 want_text old new (Do c) text want = want.2

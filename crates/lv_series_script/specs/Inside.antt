@@ -3,15 +3,14 @@ use Rattle.std.specs.Prelude.{◌≡◌, ◌⊎◌, ℕ, ◌+◌, ◌≤◌, IsT
 use Rattle.std.specs.Option.{option_map_or}
 use Rattle.lv_bodies.specs.Plain.{program_table}
 use Rattle.lv_series.specs.Series.{Held, SeriesState, changed}
-use Rattle.lv_lines.specs.Texts.{note_text}
+use Rattle.lv_lines.specs.Texts.{note_text, refused_by}
 use Rattle.lv_series_script.specs.declared.long_commands.LongCommand.{LongCommand}
 use Rattle.lv_series_script.specs.declared.long_commands.LongCommand.TheVariants.{Edit, Watch, Unwatch}
-use Rattle.lv_series_script.specs.declared.long_commands.LongLine.{LongLine}
-use Rattle.lv_series_script.specs.declared.long_commands.LongLine.TheVariants.{Nothing, Bad, Do}
+use Rattle.lv_lines.specs.declared.lines.Line.{Line}
+use Rattle.lv_lines.specs.declared.lines.Line.TheVariants.{Nothing, Bad, Do}
 use Rattle.lv_series_script.specs.declared.watched.Watched.{Watched}
 use Rattle.lv_series_script.specs.LongGrammar.{long_line_of}
 use Rattle.lv_series_script.specs.LongQueries.{LongQuery, is_due, long_answer, without_long}
-use Rattle.lv_series_script.specs.LongTexts.{refused_by}
 use Rattle.lv_series_script.specs.PlainSeriesScript.{Known, refusal_of, reply_of, reply_to}
 use Rattle.lv_series_script.specs.SeriesRuns.{may_want}
 
@@ -56,18 +55,18 @@ then_known k (Unwatch name) = record k { queries = without_long k.queries name }
 then_known k _ = k
 
 -- and after a line
-abbrev pub known_after : Known → LongLine → Known
+abbrev pub known_after : Known → Line LongCommand → Known
 known_after k Nothing = k
 known_after k Bad = k
 known_after k (Do c) = option_map_or (λ number. k) (refusal_of k c) (then_known k c)
 
 -- a command that nothing else refuses was refused for want of memory
-abbrev pub LacksMemory : Known → LongLine → List ℕ → Known → Type 0
+abbrev pub LacksMemory : Known → Line LongCommand → List ℕ → Known → Type 0
 LacksMemory old (Do c) text new = IsTrue (may_want c) × (refusal_of old c ≡ None) × (text ≡ refused_by 6) × (new ≡ old)
 LacksMemory old _ text new = ⊥
 
 -- what a line is answered, and what is known then
-abbrev pub Tells : Known → ℕ → LongLine → List ℕ → Known → Type 0
+abbrev pub Tells : Known → ℕ → Line LongCommand → List ℕ → Known → Type 0
 Tells old n line text new = ((text ≡ reply_to old n line) × (new ≡ known_after old line)) ⊎ LacksMemory old line text new
 
 -- the same of a command

@@ -1,39 +1,34 @@
 -- What a line of a series' script says.
-use Rattle.std.specs.Option.{option_map_or}
-use Rattle.std.specs.Prelude.{ℕ, ◌^◌, Bool, true, false, if◌then◌else◌, List, [], ◌∷◌, length, nat_le, nat_lt, codes, Option, Some, None, option_map}
+use Rattle.std.specs.Prelude.{ℕ, ◌^◌, Bool, true, false, if◌then◌else◌, List, [], ◌∷◌, codes, Option, Some, None, option_map}
 use Rattle.std.specs.Str.{bytes_eq}
 use Rattle.lv_bodies.specs.declared.kinds.Kind.{Kind}
 use Rattle.lv_bodies.specs.declared.kinds.Kind.TheVariants.{Affine, Automaton}
 use Rattle.lv_tree.specs.declared.places.Bound.{Bound}
 use Rattle.lv_tree.specs.declared.places.Bound.TheVariants.{AtLeast, AtMost}
 use Rattle.lv_series.specs.declared.edits.LongEdit.TheVariants as edit
-use Rattle.lv_lines.specs.Grammar.{◌>>=◌, alone, first_and, Forms, is_comment, kind_in, lone, made_of, name_in, read_by, without_cr}
-use Rattle.lv_lines.specs.Numbers.{allowed, element_in, numeral_in}
-use Rattle.lv_lines.specs.Words.{words_of}
+use Rattle.lv_lines.specs.Grammar.{◌>>=◌, alone, first_and, Forms, kind_in, lone, made_of, name_in, read_by, bounds_up_to, range_up_to, line_by}
+use Rattle.lv_lines.specs.Numbers.{element_in, number_up_to}
 use Rattle.lv_series_script.specs.declared.long_commands.LongCommand.{LongCommand}
 use Rattle.lv_series_script.specs.declared.long_commands.LongCommand.TheVariants.{Edit, First, Size, Get, Reduce, Scan, Find, BestRun, Watch, Unwatch, Answer}
-use Rattle.lv_series_script.specs.declared.long_commands.LongLine.{LongLine}
-use Rattle.lv_series_script.specs.declared.long_commands.LongLine.TheVariants.{Nothing, Bad, Do}
+use Rattle.lv_lines.specs.declared.lines.Line.{Line}
 use Rattle.lv_series_script.specs.declared.long_commands.Search.TheVariants as sought
 use Rattle.lv_series_script.specs.declared.long_commands.Span.{Span}
 use Rattle.lv_series_script.specs.declared.long_commands.Span.TheVariants.{Between}
 use Rattle.lv_series_script.specs.declared.long_commands.Span.TheVariants as spans
 
--- whether a number is one that an index behind the last element may be
-abbrev pub is_long : ℕ → Bool
-is_long n = nat_le n (2 ^ 62)
+-- the most that an index behind the last element may be
+abbrev pub most_long : ℕ
+most_long = 2 ^ 62
 
--- a number: one or more digits, whose value is at most 2 ^ 62
-unfoldable pub long_number_in : List ℕ → Option ℕ
-long_number_in word = allowed is_long (numeral_in word)
+-- a number of a series' line, two of them, and a kind with two
+abbrev pub long_number_in : List ℕ → Option ℕ
+long_number_in word = number_up_to most_long word
 
--- the words `lo hi`
-unfoldable pub long_bounds_in : List (List ℕ) → Option (ℕ × ℕ)
-long_bounds_in words = first_and long_number_in (lone long_number_in) words
+abbrev pub long_bounds_in : List (List ℕ) → Option (ℕ × ℕ)
+long_bounds_in words = bounds_up_to most_long words
 
--- the words `kind lo hi`
-unfoldable pub long_range_in : List (List ℕ) → Option (Kind × ℕ × ℕ)
-long_range_in words = option_map (λ w. (w.0, w.1.0, w.1.1)) (first_and kind_in long_bounds_in words)
+abbrev pub long_range_in : List (List ℕ) → Option (Kind × ℕ × ℕ)
+long_range_in words = range_up_to most_long words
 
 -- the span that a query asks for: two words `lo hi`, or `last n`
 unfoldable pub span_in : List ℕ → List ℕ → Option Span
@@ -128,11 +123,6 @@ unfoldable pub long_command_in : List (List ℕ) → Option LongCommand
 long_command_in [] = None
 long_command_in (verb ∷ words) = read_by long_forms verb words
 
--- what the words of a line say: nothing where there are none, or behind `#`; what is not read as a command is bad
-abbrev pub long_line_in : List (List ℕ) → LongLine
-long_line_in [] = Nothing
-long_line_in (word ∷ words) = if is_comment word then Nothing else option_map_or Do (long_command_in (word ∷ words)) Bad
-
--- what a line says, given without its LF: a line of more than 120 bytes is bad, whatever they are
-unfoldable pub long_line_of : List ℕ → LongLine
-long_line_of bytes = if nat_lt 120 (length bytes) then Bad else long_line_in (words_of (without_cr bytes))
+-- what a line says, given without its LF
+abbrev pub long_line_of : List ℕ → Line LongCommand
+long_line_of bytes = line_by long_command_in bytes

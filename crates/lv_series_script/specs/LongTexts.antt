@@ -5,11 +5,7 @@ use Rattle.lv_series.specs.declared.receipts.LongReceipt.{LongReceipt}
 use Rattle.lv_series.specs.declared.receipts.LongReceipt.TheVariants.{Pushed, Popped, Written, Expired, Swapped, Truncated}
 use Rattle.lv_series.specs.declared.refusals.LongRefusal.{LongRefusal}
 use Rattle.lv_series.specs.Numbers.{number_of}
-use Rattle.lv_lines.specs.Texts.{reply_line, value_text}
-
--- a refusal, by its number
-abbrev pub refused_by : ℕ → List ℕ
-refused_by number = reply_line (codes "refused " ++ decimal number)
+use Rattle.lv_lines.specs.Texts.{reply_line, value_text, refused_by}
 
 -- what an accepted edit is answered, by its receipt and the first index that is kept after it
 abbrev pub long_receipt_text : LongReceipt → ℕ → List ℕ

@@ -9,15 +9,15 @@ use Rattle.lv_series.specs.declared.edits.LongEdit.{LongEdit}
 use Rattle.lv_series.specs.Numbers.{number_of}
 use Rattle.lv_series.specs.Plain.{no_kinds, plain_series}
 use Rattle.lv_series.specs.Series.{Held, SeriesState, changed, element_at, range_refused, receipt_of, refused, size_of, slice_of}
-use Rattle.lv_lines.specs.Texts.{answer_text, bad_text, named_text, note_text, scan_text, size_text, unwatched_text, watching_text}
+use Rattle.lv_lines.specs.Texts.{answer_text, bad_text, named_text, note_text, scan_text, size_text, unwatched_text, watching_text, refused_by}
 use Rattle.lv_script.specs.PlainScript.{scan_by}
 use Rattle.lv_series_script.specs.declared.long_commands.LongCommand.{LongCommand}
 use Rattle.lv_series_script.specs.declared.long_commands.LongCommand.TheVariants.{Edit, First, Size, Get, Reduce, Scan, Find, BestRun, Watch, Unwatch, Answer}
-use Rattle.lv_series_script.specs.declared.long_commands.LongLine.{LongLine}
-use Rattle.lv_series_script.specs.declared.long_commands.LongLine.TheVariants.{Nothing, Bad, Do}
+use Rattle.lv_lines.specs.declared.lines.Line.{Line}
+use Rattle.lv_lines.specs.declared.lines.Line.TheVariants.{Nothing, Bad, Do}
 use Rattle.lv_series_script.specs.LongGrammar.{long_line_of}
 use Rattle.lv_series_script.specs.LongQueries.{LongQuery, is_due, long_answer, long_query_of, long_watch_refusal, unknown, without_long}
-use Rattle.lv_series_script.specs.LongTexts.{first_text, index_text, long_element_text, long_receipt_text, refused_by, run_text}
+use Rattle.lv_series_script.specs.LongTexts.{first_text, index_text, long_element_text, long_receipt_text, run_text}
 use Rattle.lv_series_script.specs.Searched.{best_run, index_of}
 
 -- all that it keeps: the edits that were accepted, and the queries that stand, both in order
@@ -85,13 +85,13 @@ after s _ = s
 -- ---- what lines are answered
 
 -- what line n is answered: nothing where it says nothing, its number where it says nothing known; a command by its refusal, or its reply
-abbrev pub reply_to : Known → ℕ → LongLine → List ℕ
+abbrev pub reply_to : Known → ℕ → Line LongCommand → List ℕ
 reply_to k n Nothing = []
 reply_to k n Bad = bad_text n
 reply_to k n (Do c) = option_map_or refused_by (refusal_of k c) (reply_of k c)
 
 -- what is kept after a line. Whatever is refused changes nothing
-abbrev pub plain_after : Plain → LongLine → Plain
+abbrev pub plain_after : Plain → Line LongCommand → Plain
 plain_after s Nothing = s
 plain_after s Bad = s
 plain_after s (Do c) = option_map_or (λ number. s) (refusal_of (known_by s) c) (after s c)

@@ -12,14 +12,14 @@ use crate::long_commands::{LongCommand, Search, Span};
 use crate::queries::{find, forget, register, tell};
 use crate::scans::put_scan;
 use crate::searches::{index_of, run_of};
-use crate::texts::{
-    put_answer, put_first, put_index, put_receipt, put_refused, put_run, put_size, put_value,
-};
+use crate::texts::{put_first, put_index, put_receipt, put_run, put_value};
 use crate::values::show_value;
 use crate::watched::Watched;
 use lv_bodies::{Kind, Name};
 use lv_geometry::Refusal;
-use lv_lines::{Fault, LINE, Outbox, put_named, put_unwatched, put_watching};
+use lv_lines::{
+    Fault, LINE, Outbox, put_answer, put_named, put_refused, put_size, put_unwatched, put_watching,
+};
 use lv_series::{LongEdit, Series};
 use lv_tree::Bound;
 use std::io::Write;

@@ -9,7 +9,6 @@ mod answers;
 mod bounds;
 mod long_commands;
 mod long_grammar;
-mod long_numbers;
 mod queries;
 mod scans;
 mod searches;
@@ -18,6 +17,6 @@ mod texts;
 mod values;
 mod watched;
 
-pub use long_commands::{LongCommand, LongLine, Search, Span};
+pub use long_commands::{LongCommand, Search, Span};
 pub use long_grammar::read_long_line;
 pub use series_scripts::run_series_script;

@@ -75,14 +75,3 @@ pub enum LongCommand {
     /// Show the answer that goes by the name.
     Answer(Name),
 }
-
-/// What a line of a series' script is.
-#[derive(Clone, Copy)]
-pub enum LongLine {
-    /// Blank, or a comment. It has no reply.
-    Nothing,
-    /// No line of the grammar, or too long.
-    Bad,
-    /// A command.
-    Do(LongCommand),
-}

@@ -1,65 +1,43 @@
 //! The grammar of a series' script: what the words of a line say.
-ghost use Rattle.std.specs.Prelude.{◌≡◌, ◌∷◌, drop, option_copied};
-ghost use Rattle.lv_lines.specs.Grammar.{alone, first_and, lone, made_of, name_in, read_by};
+ghost use Rattle.std.specs.Prelude.{◌≡◌, ◌∷◌, drop};
+ghost use Rattle.lv_lines.specs.Grammar.{first_and, lone, made_of, read_by};
 ghost use Rattle.lv_lines.specs.Numbers.{element_in};
-ghost use Rattle.lv_lines.specs.Words.{only_word, words_of};
+ghost use Rattle.lv_lines.specs.Words.{words_of};
 ghost use Rattle.lv_series_script.specs.LongGrammar.{bound_in, first_in, is_one_number, long_bounds_in, long_command_in, long_forms, long_line_of, long_number_in, long_range_in, span_in, threshold_in, watch_in, where_in, within_in};
 
-use crate::long_commands::{LongCommand, LongLine, Search, Span};
-use crate::long_numbers::{element, long_number};
+use crate::long_commands::{LongCommand, Search, Span};
 use lv_bodies::{Kind, Name};
-use lv_lines::grammar::{kind, spells};
-use lv_lines::{is_comment, next_word, without_cr};
+use lv_lines::grammar::{
+    alone, bounds_up_to, kind, lone_element, lone_name, lone_up_to, range_up_to, spells,
+};
+use lv_lines::{Line, LineGrammar, element, next_word, number_up_to, only_word, read_line_by};
 use lv_series::LongEdit;
 use lv_tree::Bound;
 
-// The one word, where there is one and no other.
-fn lone_word(words: &[u8]) -> Option<&[u8]>
-    ensures { option_copied result ≡ only_word (words_of words.now) }
+/// The most that a number of a series' line may be, 2^62.
+const MOST: u64 = 1 << 62;
+
+/// What a line of a series' script says. The bytes are those of one line, without the LF at its end.
+pub fn read_long_line(bytes: &[u8]) -> Line<LongCommand>
+    ensures { result ≡ long_line_of bytes.now }
 {
-    let (word, rest) = next_word(words)?;
-    if next_word(rest).is_some() {
-        return None;
+    read_line_by(&SeriesGrammar, bytes)
+}
+
+// How the words of a line of a series' script are read.
+#[derive(Clone, Copy)]
+struct SeriesGrammar;
+
+impl LineGrammar for SeriesGrammar {
+    type Command = LongCommand;
+
+    ghost use Rattle.lv_series_script.specs.LongGrammar.{long_command_in};
+
+    ghost command_in = { λ _. long_command_in };
+
+    fn command(&self, verb: &[u8], words: &[u8]) -> Option<LongCommand> {
+        long_command(verb, words)
     }
-    Some(word)
-}
-
-fn lone_long(words: &[u8]) -> Option<u64>
-    ensures { result ≡ lone long_number_in (words_of words.now) }
-{
-    long_number(lone_word(words)?)
-}
-
-fn lone_element(words: &[u8]) -> Option<i64>
-    ensures { result ≡ lone element_in (words_of words.now) }
-{
-    element(lone_word(words)?)
-}
-
-fn lone_name(words: &[u8]) -> Option<Name>
-    ensures { result ≡ lone name_in (words_of words.now) }
-{
-    Name::new(lone_word(words)?)
-}
-
-#[tactic(auto, unfolding(crate::specs::LongGrammar::long_bounds_in))]
-fn bounds(words: &[u8]) -> Option<(u64, u64)>
-    ensures { result ≡ long_bounds_in (words_of words.now) }
-{
-    let (word, rest) = next_word(words)?;
-    let lo = long_number(word)?;
-    let hi = lone_long(rest)?;
-    Some((lo, hi))
-}
-
-#[tactic(auto, unfolding(crate::specs::LongGrammar::long_range_in))]
-fn range(words: &[u8]) -> Option<(Kind, u64, u64)>
-    ensures { result ≡ long_range_in (words_of words.now) }
-{
-    let (word, rest) = next_word(words)?;
-    let kind = kind(word)?;
-    let (lo, hi) = bounds(rest)?;
-    Some((kind, lo, hi))
 }
 
 #[tactic(auto, unfolding(crate::specs::LongGrammar::span_in))]
@@ -67,10 +45,10 @@ fn span(word: &[u8], second: &[u8]) -> Option<Span>
     ensures { result ≡ span_in word.now second.now }
 {
     if spells(word, "last") {
-        return long_number(second).map(Span::Last);
+        return number_up_to(second, MOST).map(Span::Last);
     }
-    let lo = long_number(word)?;
-    let hi = long_number(second)?;
+    let lo = number_up_to(word, MOST)?;
+    let hi = number_up_to(second, MOST)?;
     Some(Span::Between { lo, hi })
 }
 
@@ -90,7 +68,7 @@ fn bound(word: &[u8], second: &[u8]) -> Option<Bound>
 fn lone_bound(word: &[u8], words: &[u8]) -> Option<Bound>
     ensures { result ≡ lone (bound_in word.now) (words_of words.now) }
 {
-    bound(word, lone_word(words)?)
+    bound(word, only_word(words)?)
 }
 
 // Whether the value of a kind is one number.
@@ -116,20 +94,11 @@ fn threshold(kind: Kind, words: &[u8]) -> Option<Option<Bound>>
     lone_bound(word, rest).map(Some)
 }
 
-fn alone(command: LongCommand, words: &[u8]) -> Option<LongCommand>
-    ensures { result ≡ alone command (words_of words.now) }
-{
-    if next_word(words).is_some() {
-        return None;
-    }
-    Some(command)
-}
-
 fn write(words: &[u8]) -> Option<LongCommand>
     ensures { result ≡ made_of (first_and long_number_in (lone element_in)) (λ w. LongCommand.Edit (LongEdit.Write w.0 w.1)) (words_of words.now) }
 {
     let (word, rest) = next_word(words)?;
-    let index = long_number(word)?;
+    let index = number_up_to(word, MOST)?;
     let value = lone_element(rest)?;
     Some(LongCommand::Edit(LongEdit::Write { index, value }))
 }
@@ -162,7 +131,7 @@ fn within(words: &[u8]) -> Option<(Bound, u64, u64)>
     let (word, rest) = next_word(words)?;
     let (second, rest) = next_word(rest)?;
     let bound = bound(word, second)?;
-    let (lo, hi) = bounds(rest)?;
+    let (lo, hi) = bounds_up_to(rest, MOST)?;
     Some((bound, lo, hi))
 }
 
@@ -185,7 +154,7 @@ fn reach(words: &[u8]) -> Option<LongCommand>
 {
     let (word, rest) = next_word(words)?;
     let sum = element(word)?;
-    let (lo, hi) = bounds(rest)?;
+    let (lo, hi) = bounds_up_to(rest, MOST)?;
     Some(LongCommand::Find {
         sought: Search::Reach(sum),
         lo,
@@ -205,7 +174,7 @@ fn place(words: &[u8]) -> Option<LongCommand>
         return found(Search::Greatest, rest);
     }
     if spells(word, "best") {
-        return bounds(rest).map(|(lo, hi)| LongCommand::BestRun { lo, hi });
+        return bounds_up_to(rest, MOST).map(|(lo, hi)| LongCommand::BestRun { lo, hi });
     }
     None
 }
@@ -213,13 +182,13 @@ fn place(words: &[u8]) -> Option<LongCommand>
 fn found(sought: Search, words: &[u8]) -> Option<LongCommand>
     ensures { result ≡ made_of long_bounds_in (λ w. LongCommand.Find sought w.0 w.1) (words_of words.now) }
 {
-    bounds(words).map(|(lo, hi)| LongCommand::Find { sought, lo, hi })
+    bounds_up_to(words, MOST).map(|(lo, hi)| LongCommand::Find { sought, lo, hi })
 }
 
 fn scan(inclusive: bool, words: &[u8]) -> Option<LongCommand>
     ensures { result ≡ made_of long_range_in (λ w. LongCommand.Scan inclusive w.0 w.1 w.2) (words_of words.now) }
 {
-    range(words).map(|(kind, lo, hi)| LongCommand::Scan {
+    range_up_to(words, MOST).map(|(kind, lo, hi)| LongCommand::Scan {
         inclusive,
         kind,
         lo,
@@ -231,7 +200,7 @@ fn other_command(verb: &[u8], words: &[u8]) -> Option<LongCommand>
     ensures { result ≡ read_by (drop 9 long_forms) verb.now (words_of words.now) }
 {
     if spells(verb, "reduce") {
-        return range(words).map(|(kind, lo, hi)| LongCommand::Reduce { kind, lo, hi });
+        return range_up_to(words, MOST).map(|(kind, lo, hi)| LongCommand::Reduce { kind, lo, hi });
     }
     if spells(verb, "inc") {
         return scan(true, words);
@@ -284,19 +253,19 @@ fn long_command(verb: &[u8], words: &[u8]) -> Option<LongCommand>
         return write(words);
     }
     if spells(verb, "swap") {
-        return bounds(words).map(|(first, second)| LongCommand::Edit(LongEdit::Swap {
+        return bounds_up_to(words, MOST).map(|(first, second)| LongCommand::Edit(LongEdit::Swap {
             first,
             second,
         }));
     }
     if spells(verb, "truncate") {
-        return lone_long(words).map(|size| LongCommand::Edit(LongEdit::Truncate(size)));
+        return lone_up_to(words, MOST).map(|size| LongCommand::Edit(LongEdit::Truncate(size)));
     }
     if spells(verb, "expire") {
-        return lone_long(words).map(|first| LongCommand::Edit(LongEdit::Expire(first)));
+        return lone_up_to(words, MOST).map(|first| LongCommand::Edit(LongEdit::Expire(first)));
     }
     if spells(verb, "get") {
-        return lone_long(words).map(LongCommand::Get);
+        return lone_up_to(words, MOST).map(LongCommand::Get);
     }
     if spells(verb, "size") {
         return alone(LongCommand::Size, words);
@@ -305,24 +274,4 @@ fn long_command(verb: &[u8], words: &[u8]) -> Option<LongCommand>
         return first(words);
     }
     other_command(verb, words)
-}
-
-/// What a line of a series' script says. The bytes are those of one line, without the LF at its end.
-#[tactic(auto, unfolding(crate::specs::LongGrammar::long_line_of))]
-pub fn read_long_line(bytes: &[u8]) -> LongLine
-    ensures { result ≡ long_line_of bytes.now }
-{
-    if bytes.len() > 120 {
-        return LongLine::Bad;
-    }
-    let Some((verb, rest)) = next_word(without_cr(bytes)) else {
-        return LongLine::Nothing;
-    };
-    if is_comment(verb) {
-        return LongLine::Nothing;
-    }
-    match long_command(verb, rest) {
-        Some(command) => LongLine::Do(command),
-        None => LongLine::Bad,
-    }
 }

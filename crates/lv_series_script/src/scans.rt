@@ -8,9 +8,8 @@ ghost use Rattle.lv_lines.specs.Output.{HasRoom, Puts, PutsFront, SamePlaces};
 ghost use Rattle.lv_lines.specs.Texts.{scan_text, scanned_text, values_text};
 ghost use Rattle.lv_script.specs.PlainScript.{scan_by};
 
-use crate::texts::put_head;
 use lv_bodies::{Affine, Automaton, Highest, Kind, Lowest, Runs, Shown, Sum, long_laws};
-use lv_lines::{Fault, LINE, Outbox, put, put_shown};
+use lv_lines::{Fault, LINE, Outbox, put, put_scan_head, put_shown};
 use lv_tree::OfKind;
 use std::io::Write;
 
@@ -31,7 +30,7 @@ pub fn put_scan<W: Write>(
     ensures fault { IfErr result (λ fault. (fault ≡ Fault.WriteFault) × PutsFront W.contents outbox.old outbox.new
         (scan_text edit inclusive kind (scan_by (plain_value kind) inclusive elements.now))) }
 {
-    put_head(outbox.held, edit, inclusive, kind, elements.len() as u64);
+    put_scan_head(outbox.held, edit, inclusive, kind, elements.len() as u64);
     put_values(outbox, inclusive, kind, elements)
 }
 

@@ -9,11 +9,11 @@ ghost use Rattle.lv_series_script.specs.PlainSeriesScript.{Known, Plain, start};
 ghost use Rattle.lv_series_script.specs.SeriesRuns.{IsPlainText, PlainStep};
 
 use crate::answers::{ROOM, answer};
-use crate::long_commands::LongLine;
+use crate::long_commands::LongCommand;
 use crate::long_grammar::read_long_line;
 use crate::watched::Watched;
 use lv_bodies::Automaton;
-use lv_lines::{Fault, Outbox, Responder, converse, put_bad};
+use lv_lines::{Fault, Line, Outbox, Responder, converse, put_bad};
 use lv_series::Series;
 use std::alloc::Global;
 use std::io::{Read, Write};
@@ -92,7 +92,7 @@ fn answer_line<W: Write>(
     series: &mut Series,
     entries: &mut Vec<Watched>,
     number: u32,
-    line: LongLine,
+    line: Line<LongCommand>,
     outbox: &mut Outbox<'_, W>,
 ) -> Result<(), Fault>
     requires ready { IsReady series.old entries.old.items }
@@ -106,9 +106,9 @@ fn answer_line<W: Write>(
     ensures ready { IsReady series.new entries.new.items }
 {
     match line {
-        LongLine::Nothing => {}
-        LongLine::Bad => put_bad(outbox.held, number),
-        LongLine::Do(command) => return answer(series, entries, command, outbox),
+        Line::Nothing => {}
+        Line::Bad => put_bad(outbox.held, number),
+        Line::Do(command) => return answer(series, entries, command, outbox),
     }
     Ok(())
 }

@@ -1,6 +1,7 @@
 -- Proof of `put_index_of`: the index of what is looked for in a range, or why there is no answer.
 use Rattle.std.proofs.Common.{ap, ◌∙◌}
-use Rattle.lv_series_script.specs.LongTexts.{index_text, refused_by}
+use Rattle.lv_lines.specs.Texts.{refused_by}
+use Rattle.lv_series_script.specs.LongTexts.{index_text}
 use Rattle.lv_series_script.proofs.KnownLaws.{find_granted, find_refused, ready_still}
 use Rattle.lv_series_script.proofs.answers.put_index_of.Goals as goal
 

@@ -1,6 +1,7 @@
 -- Proof of `put_run_of`: where the run of a range with the greatest sum is, or why there is no answer.
 use Rattle.std.proofs.Common.{ap, ◌∙◌}
-use Rattle.lv_series_script.specs.LongTexts.{run_text, refused_by}
+use Rattle.lv_lines.specs.Texts.{refused_by}
+use Rattle.lv_series_script.specs.LongTexts.{run_text}
 use Rattle.lv_series_script.proofs.KnownLaws.{run_granted, run_refused, ready_still}
 use Rattle.lv_series_script.proofs.answers.put_run_of.Goals as goal
 
