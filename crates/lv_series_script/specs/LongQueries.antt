@@ -1,6 +1,7 @@
 -- Standing queries on a series: what each answers, and why one is refused.
-use Rattle.std.specs.Prelude.{ℕ, ℤ, pos, ◌-◌, Bool, false, Option, Some, None, List, [], ◌∷◌, length, drop, filter, not, nat_lt, if◌then◌else◌}
+use Rattle.std.specs.Prelude.{ℕ, ℤ, ◌-◌, Bool, false, Option, Some, None, List, [], ◌∷◌, length, drop, filter, not, nat_lt, if◌then◌else◌}
 use Rattle.std.specs.Bool.{beq}
+use Rattle.std.specs.Int.{w64, cast_signed}
 use Rattle.std.specs.Option.{option_map_or}
 use Rattle.std.specs.Str.{bytes_eq}
 use Rattle.lv_geometry.specs.declared.refusals.Refusal.{Refusal}
@@ -32,9 +33,9 @@ span_of h (Last n) = drop (length h.elements - n) h.elements
 abbrev pub long_answer : Held → LongQuery → Shown
 long_answer h q = plain_value q.kind (span_of h q.span)
 
--- the one number that an answer is, if it is one
+-- the one number that an answer is, if it is one; a sum is signed here, by its 64 bits
 abbrev pub number_in : Shown → Option ℤ
-number_in (Sum n) = Some (pos n)
+number_in (Sum n) = Some (cast_signed w64 n)
 number_in (Least x) = x
 number_in (Greatest x) = x
 number_in (Best x) = x

@@ -33,12 +33,12 @@ fn is_within(bound: Bound, x: i128) -> bool
     }
 }
 
-// The one number that an answer is, if it is one.
+// The one number that an answer is, if it is one. A sum is signed here, by its 64 bits.
 fn number(answer: Shown) -> Option<i128>
     ensures { result ≡ number_in answer }
 {
     match answer {
-        Shown::Sum(sum) => Some(i128::from(sum)),
+        Shown::Sum(sum) => Some(i128::from(sum.cast_signed())),
         Shown::Least(x) => x.map(i128::from),
         Shown::Greatest(x) => x.map(i128::from),
         Shown::Best(x) => x,
