@@ -66,9 +66,18 @@ With --series the lines are about an unbounded vector, whose indices go up to 2^
   first               first I edit E
   watch NAME KIND last N
                       watching NAME: the last N elements
-A size is the index behind the last element. Error 3 is also for an index before the first one that is
-kept. A query's range has the elements that are kept. The lines reserve, capacity, settle, cost, claim,
-deliver and forget are bad.";
+  watch NAME KIND LO HI at-least X, at-most X, also with last N
+                      watching NAME: notes only when the answer begins or ceases to be within the bound
+  first at-least X LO HI, first at-most X LO HI, last at-least X LO HI, last at-most X LO HI
+                      at E index I: the first or the last such element of the range, or at E none
+  reach X LO HI       at E index I: the elements from LO up to I, I excluded, add up to at least X
+  where least LO HI, where greatest LO HI
+                      at E index I: the first minimum or maximum
+  where best LO HI    at E from I to J: the run with the greatest sum, J excluded
+A bound is for sum, least, greatest and best. A search may be rejected with 6, if there is no memory for
+its tree. A size is the index behind the last element. Error 3 is also for an index before the first one
+that is kept. A query's range has the elements that are kept. The lines reserve, capacity, settle, cost,
+claim, deliver and forget are bad.";
 
 /// What `serve` does.
 pub const SERVE: &str =
