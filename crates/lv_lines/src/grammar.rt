@@ -43,7 +43,6 @@ pub fn kind(word: &[u8]) -> Option<Kind>
 }
 
 /// The number up to a bound that the one word is; none where there are no words, or more than one.
-#[inline(always)]
 pub fn lone_up_to(words: &[u8], most: u64) -> Option<u64>
     ensures number { result ≡ lone (number_up_to most) (words_of words.now) }
     ensures small { IfSome result (λ n. n ≤ most) }
@@ -83,7 +82,6 @@ pub fn lone_name(words: &[u8]) -> Option<Name>
 
 /// The two numbers up to a bound that two words are.
 #[tactic(auto, unfolding(crate::specs::Grammar::bounds_up_to))]
-#[inline(always)]
 pub fn bounds_up_to(words: &[u8], most: u64) -> Option<(u64, u64)>
     ensures bounds { result ≡ bounds_up_to most (words_of words.now) }
     ensures first { IfSome result (λ bounds. bounds.0 ≤ most) }

@@ -32,7 +32,6 @@ pub trait LineGrammar {
 }
 
 /// What a line says by a grammar. The bytes are those of one line, without the LF at its end.
-#[inline(always)]
 #[tactic(auto, unfolding(crate::specs::Grammar::line_by))]
 pub fn read_line_by<G: LineGrammar>(grammar: &G, bytes: &[u8]) -> Line<G::Command>
     ensures { result ≡ line_by (G.command_in grammar.now) bytes.now }

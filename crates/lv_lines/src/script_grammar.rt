@@ -23,7 +23,6 @@ impl LineGrammar for ScriptGrammar {
 
     ghost command_in = { λ _. command_in };
 
-    #[inline(always)]
     fn command(&self, verb: &[u8], words: &[u8]) -> Option<Command> {
         command(verb, words)
     }
