@@ -48,7 +48,7 @@ pub use recorded::{run_recorded_session, run_recorded_session_at};
 pub use replying::SessionPlace;
 pub use sessions::{in_order, run_session, run_session_at};
 pub use shares::Share;
-pub use subscribers::Subscriber;
+pub use subscribers::{MOST_QUERIES, Subscriber};
 pub use told::Told;
 pub use worked::Worked;
 pub use workers::work;

@@ -20,8 +20,8 @@ use std::sync::Wait;
 use std::thread::Parker;
 use std::time::Duration;
 
-// How many queries a subscriber has at most.
-const MOST: usize = 64;
+/// How many queries a subscriber has at most.
+pub const MOST_QUERIES: usize = 64;
 
 // How long a subscriber pauses between two looks, unless it is told otherwise.
 const PAUSE_MICROSECONDS: u64 = 1000;
@@ -84,7 +84,7 @@ impl<N: WithBody<Six>> Subscriber<N> {
         ensures unchanged { OnErr result (self.new ≡ self.old) }
         ensures share { self.new.share ≡ self.old.share }
     {
-        match question.refusal_among(&self.questions, MOST) {
+        match question.refusal_among(&self.questions, MOST_QUERIES) {
             Some(refusal) => Err(refusal),
             None => self.add(question),
         }

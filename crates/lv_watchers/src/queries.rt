@@ -4,7 +4,7 @@ ghost use Rattle.std.specs.Prelude.{◌≡◌, None, Some};
 ghost use Rattle.lv_watchers.specs.Asking.{AskStep, Asked, Asks, Finds, ReadsQuestions, Takes, TakesUnless};
 
 use lv_geometry::Refusal;
-use lv_hub::Query;
+use lv_hub::{MOST_QUERIES, Query};
 use lv_lines::{Command, Fault, Line, Outbox, Responder, converse, read_line};
 use std::alloc::Global;
 use std::io;
@@ -103,7 +103,7 @@ impl Asker {
         requires { self.old.damage ≡ None }
         ensures { Asks self.old.questions.items number question.now (record { questions = self.new.questions.items; damage = self.new.damage }) }
     {
-        match question.refusal_among(&self.questions) {
+        match question.refusal_among(&self.questions, MOST_QUERIES) {
             Some(refusal) => self.damage = damage_at(number, Some(refusal)),
             None => {
                 if self.questions.push(*question).is_err() {
