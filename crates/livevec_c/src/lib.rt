@@ -30,7 +30,6 @@ mod queries_asked;
 mod queries_calls;
 mod queries_notes;
 mod queries_told;
-mod questions;
 mod raw;
 mod reads;
 mod restores;
