@@ -3,7 +3,6 @@ mod Finding
 mod FoundLaws
 mod KnownLaws
 mod LongShown
-mod Longs
 mod Notes
 mod Scanning
 mod SearchedLaws
