@@ -7,7 +7,7 @@ use Rattle.std.proofs.lemmas.List.Sums.{sum-map}
 use Rattle.std.proofs.lemmas.Simd.{map-map}
 use mathlib.Core.List.{IsPrefix}
 use Rattle.lv_geometry.specs.Bounds.{Bounds}
-use Rattle.lv_lines.specs.Replies.{Conversed}
+use Rattle.lv_lines.specs.Replies.{LinesServed}
 use Rattle.lv_hub.specs.PlainSession.{PlainSessionStep, Seen}
 use Rattle.lv_hub.specs.Session.{SessionState, kept_by}
 use Rattle.lv_hub.proofs.PlainSessionLaws.{session_plain}
@@ -15,7 +15,7 @@ use Rattle.livevec.specs.PlainServed.{AreHeldPlainly, IsHeldPlainly, ServedPlain
 use Rattle.livevec.specs.Served.{AreHeld, Served, Sides, counted_by, ended_well, new_session}
 
 -- a conversation to the end of the lines: all were read, and answered in turn
-to_the_end : (limits : Bounds) (old new : Sides) (seen : Seen) → Conversed (PlainSessionStep limits) (kept_by new_session) seen old.lines new.lines old.replies new.replies ended_well → IsHeldPlainly limits old new seen
+to_the_end : (limits : Bounds) (old new : Sides) (seen : Seen) → LinesServed (PlainSessionStep limits) (kept_by new_session) seen old.lines new.lines old.replies new.replies ended_well → IsHeldPlainly limits old new seen
 to_the_end limits old new seen c =
     let (at_end, few, all) = c.ends in
     record { input = c.seen; read = c.read; at_end = at_end; few = few; text = all.text; answered = all.answered; written = all.written }

@@ -16,7 +16,7 @@ use Rattle.lv_lines.specs.declared.fault.Fault.{Fault}
 use Rattle.lv_lines.specs.declared.fault.Fault.TheVariants.{NoMemory, ReadFault, TooLong, WriteFault}
 use Rattle.lv_edits.specs.declared.edit.Edit.{Edit}
 use Rattle.lv_geometry.specs.Bounds.{Bounds}
-use Rattle.lv_lines.specs.Replies.{Conversed}
+use Rattle.lv_lines.specs.Replies.{LinesServed}
 use Rattle.lv_edits.specs.History.{History}
 use Rattle.lv_edits.specs.Kept.{IsLegalInLimits}
 use Rattle.lv_transcript.specs.Transcript.{AreAccepted, AreInOrder, IsSoundTranscript, IsTrueAnswer, Transcribes, greatest, transcript_text}
@@ -31,9 +31,9 @@ use Rattle.livevec.specs.Writing.{FailsToClose, IsJournal, IsTextOf, Writes, Wri
 module _ (limits : Bounds) where
   -- a session that came to a state was held
   held_so : (begun ended : Sitting) (state : SessionState) → state_of ended ≡ Some state → IsHeldFrom limits begun ended
-      → Conversed (SessionStep limits) (session_at begun.share []) state begun.sides.lines ended.sides.lines begun.sides.replies ended.sides.replies ended_well
+      → LinesServed (SessionStep limits) (session_at begun.share []) state begun.sides.lines ended.sides.lines begun.sides.replies ended.sides.replies ended_well
   held_so begun ended state is held =
-      subst (λ (found : Option SessionState). IfSome found (λ state. Conversed (SessionStep limits) (session_at begun.share []) state begun.sides.lines ended.sides.lines begun.sides.replies ended.sides.replies ended_well)) is held
+      subst (λ (found : Option SessionState). IfSome found (λ state. LinesServed (SessionStep limits) (session_at begun.share []) state begun.sides.lines ended.sides.lines begun.sides.replies ended.sides.replies ended_well)) is held
 
   -- one that began to wait was held, or has come to no state
   once_so : (side : Sides) (e : Sitting) → IsHeldOnce limits (begun_at side) e → IsHeldFrom limits (begun_at side) e
@@ -246,11 +246,11 @@ writes_so journal listed answers old new (Err ReadFault) is written sound = absu
 writes_so journal listed answers old new (Err TooLong) is written sound = absurd written
 
 -- a session that ended well
-pub ended_so : {T : Type 0} (limits : Bounds) (old new last : SessionState) (a b k l : Option (List ℕ)) (x : T) → Conversed (SessionStep limits) old last a b k l (Ok x)
-    → new.count ≡ last.count → new.seen ≡ last.seen → new.answers ≡ last.answers → Conversed (SessionStep limits) old new a b k l ended_well
+pub ended_so : {T : Type 0} (limits : Bounds) (old new last : SessionState) (a b k l : Option (List ℕ)) (x : T) → LinesServed (SessionStep limits) old last a b k l (Ok x)
+    → new.count ≡ last.count → new.seen ≡ last.seen → new.answers ≡ last.answers → LinesServed (SessionStep limits) old new a b k l ended_well
 ended_so limits old new last a b k l x c count seen answers =
     let same : last ≡ new = λ i. record { count = sym count i; seen = sym seen i; answers = sym answers i } in
-    subst (λ state. Conversed (SessionStep limits) old state a b k l ended_well) same (record { seen = c.seen; read = c.read; few = c.few; ends = c.ends })
+    subst (λ state. LinesServed (SessionStep limits) old state a b k l ended_well) same (record { seen = c.seen; read = c.read; few = c.few; ends = c.ends })
 
 -- answers in their order have a text
 pub ordered_text : (journal : List Edit) (listed : List Claimed) → IsTextOf journal listed (transcript_text journal (by_edit listed))

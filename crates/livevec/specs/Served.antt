@@ -12,7 +12,7 @@ use Rattle.lv_lines.specs.declared.fault.Fault.TheVariants.{WriteFault}
 use Rattle.lv_geometry.specs.Bounds.{Bounds}
 use Rattle.lv_edits.specs.Kept.{IsLegalInLimits}
 use Rattle.lv_lines.specs.Output.{WritesFront}
-use Rattle.lv_lines.specs.Replies.{Conversed}
+use Rattle.lv_lines.specs.Replies.{LinesServed}
 use Rattle.lv_transcript.specs.Transcript.{AreAccepted, AreInOrder, IsSoundTranscript, IsTrueAnswer, greatest, transcript_text}
 use Rattle.lv_hub.specs.Session.{KeepTies, SessionState, SessionStep}
 use Rattle.lv_hub.specs.Told.{history_of}
@@ -40,7 +40,7 @@ answered_to states = flat_map (λ state. state.answers) states
 module _ (limits : Bounds) where
   -- a session was held to the end of its lines, and came to this state
   abbrev pub IsHeld : Sides → Sides → SessionState → Type 0
-  IsHeld old new state = Conversed (SessionStep limits) new_session state old.lines new.lines old.replies new.replies ended_well
+  IsHeld old new state = LinesServed (SessionStep limits) new_session state old.lines new.lines old.replies new.replies ended_well
 
   -- so was each of several
   abbrev pub AreHeld : List Sides → List Sides → List SessionState → Type 0

@@ -3,7 +3,7 @@ use Rattle.std.specs.Prelude.{◌≡◌, ◌⊎◌, ℕ, ◌+◌, ◌<◌, Bool,
 use mathlib.Core.List.{IsPrefix}
 use Rattle.lv_transcript.specs.declared.claimed.Claimed.{Claimed}
 use Rattle.lv_geometry.specs.Bounds.{Bounds}
-use Rattle.lv_lines.specs.Replies.{Conversed}
+use Rattle.lv_lines.specs.Replies.{LinesServed}
 use Rattle.lv_transcript.specs.Transcript.{IsTrueAnswer}
 use Rattle.lv_hub.specs.Counting.{ShareState}
 use Rattle.lv_hub.specs.Session.{SessionState, SessionStep, session_at}
@@ -34,7 +34,7 @@ state_of ended = option_map (session_at ended.share) ended.answers
 -- unless it ended with a fault, a session was held from where it began
 abbrev pub IsHeldFrom : Bounds → Sitting → Sitting → Type 0
 IsHeldFrom limits begun ended =
-    IfSome (state_of ended) (λ state. Conversed (SessionStep limits) (session_at begun.share []) state begun.sides.lines ended.sides.lines begun.sides.replies ended.sides.replies ended_well)
+    IfSome (state_of ended) (λ state. LinesServed (SessionStep limits) (session_at begun.share []) state begun.sides.lines ended.sides.lines begun.sides.replies ended.sides.replies ended_well)
 
 -- one that waits was held, or waits still, and nothing is changed; nor is one that doesn't wait
 abbrev pub IsHeldOnce : Bounds → Sitting → Sitting → Type 0

@@ -1,6 +1,6 @@
 -- What the transcript of a journal, and of a hub that is closed, comes to.
 use Rattle.std.specs.Prelude.{◌≡◌, ◌≤◌, ◌⊎◌, ℕ, Option, Result, Ok, Err, List, [], Vec, length, vec_capacity}
-use Rattle.lv_lines.specs.declared.sender.TheConstants.{HELD}
+use Rattle.lv_lines.specs.declared.output.TheConstants.{HELD}
 use Rattle.std.specs.List.Sorted.{IsPermutation}
 use Rattle.std.specs.Io.KnownBytes.{Appends}
 use mathlib.Core.List.{IsPrefix}

@@ -2,7 +2,7 @@
 
 ghost use Rattle.std.specs.Prelude.{◌≡◌, ℕ, All, IfErr, IfOk, IfSome, List, [], is_some};
 ghost use mathlib.Core.List.{IsPrefix};
-ghost use Rattle.lv_lines.specs.Replies.{Conversed};
+ghost use Rattle.lv_lines.specs.Replies.{LinesServed};
 ghost use Rattle.lv_transcript.specs.Transcript.{AreAccepted, AreInOrder, IsTrueAnswer, greatest};
 ghost use Rattle.lv_hub.specs.Counting.{having_seen};
 ghost use Rattle.lv_hub.specs.Minuting.{WroteWhole};
@@ -93,8 +93,8 @@ pub fn run_minuted<N: WithBody<Six>, K: Begun, V: Write + Drop, T: Wait, R: Read
     reader: &mut R,
     writer: &mut W,
 ) -> Result<Vec<Claimed>, Fault>
-    ensures conversed { (last : SessionState)
-        × Conversed (SessionStep N.limits) (session_at share.old []) last
+    ensures lines_served { (last : SessionState)
+        × LinesServed (SessionStep N.limits) (session_at share.old []) last
         (R.remaining reader.old) (R.remaining reader.new) (W.contents writer.old) (W.contents writer.new) result
         × (share.new.count ≡ last.count)
         × (share.new.seen ≡ last.seen)

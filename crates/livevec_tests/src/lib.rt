@@ -19,8 +19,6 @@ mod boards_of_two;
 #[cfg(test)]
 mod bodies;
 #[cfg(test)]
-mod conversations;
-#[cfg(test)]
 mod edits;
 #[cfg(test)]
 mod geometry;
@@ -28,6 +26,8 @@ mod geometry;
 mod held_to_the_end;
 #[cfg(test)]
 mod hub;
+#[cfg(test)]
+mod line_loops;
 #[cfg(test)]
 mod live;
 #[cfg(test)]

@@ -36,9 +36,9 @@ use Rattle.lv_machine.specs.Terms.{AreTerms, Terms}
 use Rattle.lv_machine.proofs.EndsLaws.{Ends-length, Ends-trans, Ends-whole}
 use Rattle.lv_machine.proofs.HistoryLaws.{length-edits_of}
 use Rattle.lv_lines.specs.declared.fault.Fault.{Fault}
-use Rattle.lv_lines.specs.Replies.{Conversed}
+use Rattle.lv_lines.specs.Replies.{LinesServed}
 use Rattle.lv_lines.specs.Texts.{answer_text, element_text, fresh_text, receipt_text, refused_text, size_text, value_text}
-use Rattle.lv_lines.proofs.Conversing.{conversed_as}
+use Rattle.lv_lines.proofs.LineLoopLaws.{lines_served_as}
 use Rattle.lv_lines.specs.declared.lines.Line.{Line}
 use Rattle.lv_lines.specs.declared.lines.Line.TheVariants.{Nothing, Bad, Do}
 use Rattle.lv_script.specs.BoardLine.{board_line_of}
@@ -210,10 +210,10 @@ module _ {S : Type 0} (t : Terms) (o : Operations S) (kind : Kind) (shown : S �
       (sat_of b, refl, subst (λ s. PlainBoardStep t.limits kind plain s n line text (sat_of b)) (sym is) (line_plain a b n (board_line_of kind line) text step))
 
   -- the conversation of a seat is one of lists
-  pub session_plain : {R : Type 0} (a b : Actor) (k l u v : Option (List ℕ)) (result : Result R Fault) → Conversed (BoardStep t o kind shown) a b k l u v result → Conversed (PlainBoardStep t.limits kind plain) (sat_of a) (sat_of b) k l u v result
+  pub session_plain : {R : Type 0} (a b : Actor) (k l u v : Option (List ℕ)) (result : Result R Fault) → LinesServed (BoardStep t o kind shown) a b k l u v result → LinesServed (PlainBoardStep t.limits kind plain) (sat_of a) (sat_of b) k l u v result
   session_plain a b k l u v result c =
-      let came = conversed_as (λ x s. s ≡ sat_of x) (record { moves = step_plain }) a (sat_of a) b k l u v result refl c in
-      subst (λ s. Conversed (PlainBoardStep t.limits kind plain) (sat_of a) s k l u v result) came.1 came.2
+      let came = lines_served_as (λ x s. s ≡ sat_of x) (record { moves = step_plain }) a (sat_of a) b k l u v result refl c in
+      subst (λ s. LinesServed (PlainBoardStep t.limits kind plain) (sat_of a) s k l u v result) came.1 came.2
 
 -- ---- the close
 

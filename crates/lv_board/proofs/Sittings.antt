@@ -7,8 +7,8 @@ use Rattle.lv_bodies.specs.declared.kinds.Shown.{Shown}
 use Rattle.lv_bodies.specs.Body.{Operations}
 use Rattle.lv_machine.specs.Terms.{Folding}
 use Rattle.lv_lines.specs.declared.fault.Fault.{Fault}
-use Rattle.lv_lines.specs.Replies.{Conversed}
-use Rattle.lv_lines.proofs.Conversing.{conversed_as}
+use Rattle.lv_lines.specs.Replies.{LinesServed}
+use Rattle.lv_lines.proofs.LineLoopLaws.{lines_served_as}
 use Rattle.lv_machine.specs.declared.events.Call.{Call}
 use Rattle.lv_lines.specs.declared.lines.Line.{Line}
 use Rattle.lv_script.specs.BoardLine.{board_line_of}
@@ -60,11 +60,11 @@ module _ {A B S V : Type 0} (seat_of : S → Seat B) (does : A → S → ℕ →
   -- where the sitting's place is still the owner's, its owner has the seat of the end
   pub ended_as : {R : Type 0} (y : A) (name place : ℕ) (first last owned : S) (a e k l : Option (List ℕ)) (result : Result R Fault)
       → (name ≡ place → owned ≡ last)
-      → Conversed (SittingStep does kind) record { answerer = z; seat = first; name = name } record { answerer = y; seat = last; name = place } a e k l result
-      → Stays (seat_of first) (seat_of owned) × Conversed (BoardStep (terms_of f b) (o b.body) kind (shown b.body)) (actor_of (seat_of first)) (actor_of (seat_of owned)) a e k l result
-  ended_as y name place first last owned a e k l result is conversed =
+      → LinesServed (SittingStep does kind) record { answerer = z; seat = first; name = name } record { answerer = y; seat = last; name = place } a e k l result
+      → Stays (seat_of first) (seat_of owned) × LinesServed (BoardStep (terms_of f b) (o b.body) kind (shown b.body)) (actor_of (seat_of first)) (actor_of (seat_of owned)) a e k l result
+  ended_as y name place first last owned a e k l result is lines_served =
       let begun : StandsForActor seat_of z name (seat_of first) record { answerer = z; seat = first; name = name } (actor_of (seat_of first)) =
       record { by = refl; place = refl; stays = record { table = refl; terms = refl }; knows = refl } in
-      let came = conversed_as (StandsForActor seat_of z name (seat_of first)) (record { moves = line_as name (seat_of first) }) _ _ _ a e k l result begun conversed in
+      let came = lines_served_as (StandsForActor seat_of z name (seat_of first)) (record { moves = line_as name (seat_of first) }) _ _ _ a e k l result begun lines_served in
       let same = is (sym came.1.place) in
       (rw same came.1.stays, rw (same, came.1.knows) came.2)

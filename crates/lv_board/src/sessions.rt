@@ -1,7 +1,7 @@
 //! Sessions: lines that a seat is asked by, one try a line.
 ghost use Rattle.std.specs.Prelude.{◌≡◌};
 ghost use Rattle.lv_lines.specs.Output.{HasRoom};
-ghost use Rattle.lv_lines.specs.Replies.{Conversed};
+ghost use Rattle.lv_lines.specs.Replies.{LinesServed};
 ghost use Rattle.lv_board.specs.Answerer.{IsAnswered, IsReady, IsRight, LeavesHeld, LeavesSeats};
 ghost use Rattle.lv_board.specs.PlainBoard.{PlainBoardStep, sat_of};
 ghost use Rattle.lv_board.specs.Rule.{terms_of, limits_of};
@@ -15,7 +15,7 @@ use crate::bodies::BoardBody;
 use crate::seats::Seat;
 use lv_bodies::Kind;
 use lv_machine::Call;
-use lv_script::{Fault, LINE, Line, Outbox, Responder, converse, read_board_line};
+use lv_script::{Fault, LINE, Line, LineHandler, ReplyBuffer, read_board_line, serve_lines};
 use std::alloc::Global;
 use std::io::{Read, Write};
 use std::marker::PhantomData;
@@ -33,10 +33,10 @@ pub fn run_board_session<B: BoardBody, R: Read, W: Write>(
 ) -> Result<(), Fault>
     requires here { IsAt board.now.table.shared.table_id board.now.terms seat.old }
     ensures stays { Stays seat.old seat.new }
-    ensures conversed { Conversed (BoardStep (terms_of B.folding board.now.terms) (B.operations board.now.terms.body) B.the_kind (B.shown_as board.now.terms.body))
+    ensures lines_served { LinesServed (BoardStep (terms_of B.folding board.now.terms) (B.operations board.now.terms.body) B.the_kind (B.shown_as board.now.terms.body))
         (actor_of seat.old) (actor_of seat.new) (R.remaining reader.old) (R.remaining reader.new) (W.contents writer.old) (W.contents writer.new) result }
     // Line by line, by lists alone: each call is answered after a beginning of one history.
-    ensures plain { Conversed (PlainBoardStep (limits_of board.now.terms) B.the_kind (B.plain board.now.terms.body))
+    ensures plain { LinesServed (PlainBoardStep (limits_of board.now.terms) B.the_kind (B.plain board.now.terms.body))
         (sat_of (actor_of seat.old)) (sat_of (actor_of seat.new)) (R.remaining reader.old) (R.remaining reader.new) (W.contents writer.old) (W.contents writer.new) result }
 {
     let call = |seat: &mut Seat<B>, number: u32, line: Line<Call>, held: &mut Vec<u8>|
@@ -63,7 +63,7 @@ fn hold<S, B: SeatedAs<S>, A: Answerer<S>, R: Read, W: Write>(
     requires ready { IsReady B.seat_of A.may answerer.now (B.seat_of seat.old) }
     requires right { IsRight B.seat_of A.does answerer.now B.folding B.operations B.the_kind B.shown_as (B.seat_of seat.old).terms }
     ensures stays { Stays (B.seat_of seat.old) (B.seat_of seat.new) }
-    ensures conversed { let z = (B.seat_of seat.old).terms in Conversed (BoardStep (terms_of B.folding z) (B.operations z.body) B.the_kind (B.shown_as z.body))
+    ensures lines_served { let z = (B.seat_of seat.old).terms in LinesServed (BoardStep (terms_of B.folding z) (B.operations z.body) B.the_kind (B.shown_as z.body))
         (actor_of (B.seat_of seat.old)) (actor_of (B.seat_of seat.new)) (R.remaining reader.old) (R.remaining reader.new) (W.contents writer.old) (W.contents writer.new) result }
 {
     let mut session: Session<'_, '_, S, B, A> = Session {
@@ -72,7 +72,7 @@ fn hold<S, B: SeatedAs<S>, A: Answerer<S>, R: Read, W: Write>(
         answerer,
         of: PhantomData,
     };
-    converse(alloc, &mut session, reader, writer)
+    serve_lines(alloc, &mut session, reader, writer)
 }
 
 // What answers the lines of a session.
@@ -88,22 +88,23 @@ struct Session<'s, 'a, S, B: SeatedAs<S>, A: Answerer<S>> {
     ghost held: { LeavesHeld B.seat_of A.does answerer.now },
 }
 
-impl<'s, 'a, S, B: SeatedAs<S> + BoardBody, A: Answerer<S>> Responder for Session<'s, 'a, S, B, A> {
+impl<'s, 'a, S, B: SeatedAs<S> + BoardBody, A: Answerer<S>> LineHandler
+    for Session<'s, 'a, S, B, A> {
     ghost State = { Sitting A S };
 
     ghost state = { λ s. record { answerer = s.answerer.now; seat = s.seat.now; name = s.seat.ghost_name } };
 
     ghost step = { SittingStep A.does B.the_kind };
 
-    fn respond<W: Write>(
+    fn handle<W: Write>(
         &mut self,
         number: u32,
         line: &[u8],
-        outbox: &mut Outbox<'_, W>,
+        buffer: &mut ReplyBuffer<'_, W>,
     ) -> Result<(), Fault> {
-        outbox.make_room(LINE)?;
+        buffer.make_room(LINE)?;
         let line = read_board_line(self.kind, line);
-        self.answerer.answer(self.seat, number, line, outbox.held);
+        self.answerer.answer(self.seat, number, line, buffer.held);
         Ok(())
     }
 }

@@ -28,9 +28,9 @@ use Rattle.lv_lines.specs.declared.lines.Line.{Line}
 use Rattle.lv_lines.specs.declared.lines.Line.TheVariants.{Nothing, Bad, Do}
 use Rattle.lv_lines.specs.declared.fault.Fault.{Fault}
 use Rattle.lv_lines.specs.Grammar.{line_of}
-use Rattle.lv_lines.specs.Replies.{Answered, Conversed}
+use Rattle.lv_lines.specs.Replies.{Answered, LinesServed}
 use Rattle.lv_lines.specs.Texts.{answer_text, bad_text, receipt_text, refused_text, scan_text}
-use Rattle.lv_lines.proofs.Conversing.{conversed_as}
+use Rattle.lv_lines.proofs.LineLoopLaws.{lines_served_as}
 use Rattle.lv_script.specs.PlainScript.{scan_by}
 use Rattle.lv_script.specs.Script.{edit_text}
 use Rattle.lv_hub.specs.Replying.{ListsAnswer, SessionCommandAnswer, SessionLineAnswer, TellsLine, having_counted, scan_reply_text, up_to}
@@ -198,21 +198,21 @@ module _ (limits : Bounds) where
       (u, refl, subst (λ p. SessionStep limits p n line text u) (sym is) told)
 
   -- the conversation that the code answers is that of a session
-  pub session_said : {R : Type 0} (first last : SessionState) (a b k l : Option (List ℕ)) (result : Result R Fault) → Conversed (TellsLine limits) first last a b k l result
-      → Conversed (SessionStep limits) first last a b k l result
+  pub session_said : {R : Type 0} (first last : SessionState) (a b k l : Option (List ℕ)) (result : Result R Fault) → LinesServed (TellsLine limits) first last a b k l result
+      → LinesServed (SessionStep limits) first last a b k l result
   session_said first last a b k l result c =
-      let came = conversed_as (λ s p. p ≡ s) (record { moves = step_said }) first first last a b k l result refl c in
-      subst (λ p. Conversed (SessionStep limits) first p a b k l result) came.1 came.2
+      let came = lines_served_as (λ s p. p ≡ s) (record { moves = step_said }) first first last a b k l result refl c in
+      subst (λ p. LinesServed (SessionStep limits) first p a b k l result) came.1 came.2
 
   step_plain : (s : SessionState) (p : Seen) (n : ℕ) (line text : List ℕ) (u : SessionState) → p ≡ kept_by s → SessionStep limits s n line text u → (q : Seen) × (q ≡ kept_by u) × PlainSessionStep limits p n line text q
   step_plain s p n line text u is step = (kept_by u, refl, subst (λ p. PlainSessionStep limits p n line text (kept_by u)) (sym is) step.plain)
 
   -- the conversation of a session is one of the interpreter
-  pub session_plain : {R : Type 0} (first last : SessionState) (a b k l : Option (List ℕ)) (result : Result R Fault) → Conversed (SessionStep limits) first last a b k l result
-      → Conversed (PlainSessionStep limits) (kept_by first) (kept_by last) a b k l result
+  pub session_plain : {R : Type 0} (first last : SessionState) (a b k l : Option (List ℕ)) (result : Result R Fault) → LinesServed (SessionStep limits) first last a b k l result
+      → LinesServed (PlainSessionStep limits) (kept_by first) (kept_by last) a b k l result
   session_plain first last a b k l result c =
-      let came = conversed_as (λ s p. p ≡ kept_by s) (record { moves = step_plain }) first (kept_by first) last a b k l result refl c in
-      subst (λ p. Conversed (PlainSessionStep limits) (kept_by first) p a b k l result) came.1 came.2
+      let came = lines_served_as (λ s p. p ≡ kept_by s) (record { moves = step_plain }) first (kept_by first) last a b k l result refl c in
+      subst (λ p. LinesServed (PlainSessionStep limits) (kept_by first) p a b k l result) came.1 came.2
 
   -- ---- what is true of the whole list
 

@@ -2,17 +2,17 @@
 use Rattle.std.proofs.Common.{◌≡◌, ℕ, Option, Result, Ok, Err, MatchResult, IfOk, List}
 use Rattle.lv_lines.specs.declared.fault.Fault.{Fault}
 use Rattle.lv_lines.specs.declared.fault.Fault.TheVariants.{NoMemory, ReadFault, TooLong, WriteFault}
-use Rattle.lv_lines.specs.Replies.{Conversed}
+use Rattle.lv_lines.specs.Replies.{LinesServed}
 
 module _ {S T U : Type 0} {step : S → ℕ → List ℕ → List ℕ → S → Type 0} {old new : S} {a b k l : Option (List ℕ)} where
   -- one that ends as another did, with something else to give
-  pub conversed_as : (ended : Result T Fault) (given : U) (result : Result U Fault) → MatchResult ended (λ x. result ≡ Ok given) (λ fault. result ≡ Err fault)
-      → Conversed step old new a b k l ended → Conversed step old new a b k l result
-  conversed_as (Ok x) given result is c = rw is (record { seen = c.seen; read = c.read; few = c.few; ends = c.ends })
-  conversed_as (Err NoMemory) given result is c = rw is (record { seen = c.seen; read = c.read; few = c.few; ends = c.ends })
-  conversed_as (Err ReadFault) given result is c = rw is (record { seen = c.seen; read = c.read; few = c.few; ends = c.ends })
-  conversed_as (Err TooLong) given result is c = rw is (record { seen = c.seen; read = c.read; few = c.few; ends = c.ends })
-  conversed_as (Err WriteFault) given result is c = rw is (record { seen = c.seen; read = c.read; few = c.few; ends = c.ends })
+  pub lines_served_as : (ended : Result T Fault) (given : U) (result : Result U Fault) → MatchResult ended (λ x. result ≡ Ok given) (λ fault. result ≡ Err fault)
+      → LinesServed step old new a b k l ended → LinesServed step old new a b k l result
+  lines_served_as (Ok x) given result is c = rw is (record { seen = c.seen; read = c.read; few = c.few; ends = c.ends })
+  lines_served_as (Err NoMemory) given result is c = rw is (record { seen = c.seen; read = c.read; few = c.few; ends = c.ends })
+  lines_served_as (Err ReadFault) given result is c = rw is (record { seen = c.seen; read = c.read; few = c.few; ends = c.ends })
+  lines_served_as (Err TooLong) given result is c = rw is (record { seen = c.seen; read = c.read; few = c.few; ends = c.ends })
+  lines_served_as (Err WriteFault) given result is c = rw is (record { seen = c.seen; read = c.read; few = c.few; ends = c.ends })
 
 -- what is given at the end, if anything is
 pub given_as : {T U : Type 0} (P : U → Type 0) (ended : Result T Fault) (given : U) (result : Result U Fault) → MatchResult ended (λ x. result ≡ Ok given) (λ fault. result ≡ Err fault)

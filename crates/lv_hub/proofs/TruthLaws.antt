@@ -29,7 +29,7 @@ use Rattle.lv_lines.specs.declared.lines.Line.TheVariants.{Nothing, Bad, Do}
 use Rattle.lv_lines.specs.declared.fault.Fault.{Fault}
 use Rattle.lv_lines.specs.declared.fault.Fault.TheVariants.{NoMemory, ReadFault, TooLong, WriteFault}
 use Rattle.lv_lines.specs.Grammar.{line_of}
-use Rattle.lv_lines.specs.Replies.{Answered, Conversed}
+use Rattle.lv_lines.specs.Replies.{Answered, LinesServed}
 use Rattle.lv_transcript.specs.declared.claimed.Claimed.{Claimed}
 use Rattle.lv_transcript.specs.Transcript.{AreInOrder, IsTrueAnswer}
 use Rattle.lv_hub.specs.Replying.{ListsAnswer, SessionCommandAnswer, SessionLineAnswer, TellsLine, listed_of, having_counted, up_to}
@@ -195,13 +195,13 @@ module _ (limits : Bounds) where
       keeps_both old a.2 new (step_keeps old a.2 n line a.0 a.3) (lines_keep a.2 new (n + 1) lines a.1 a.4)
 
   -- a conversation
-  pub conversed_keeps : {T : Type 0} (old new : SessionState) (a b k l : Option (List ℕ)) (result : Result T Fault) → Conversed (TellsLine limits) old new a b k l result → Keeps old new
-  conversed_keeps old new a b k l (Ok x) c = lines_keep old new 1 _ c.ends.2.text c.ends.2.answered
-  conversed_keeps old new a b k l (Err ReadFault) c = lines_keep old new 1 _ c.ends.1.text c.ends.1.answered
-  conversed_keeps old new a b k l (Err TooLong) c = lines_keep old new 1 _ c.ends.1.text c.ends.1.answered
-  conversed_keeps old new a b k l (Err WriteFault) c =
+  pub lines_served_keeps : {T : Type 0} (old new : SessionState) (a b k l : Option (List ℕ)) (result : Result T Fault) → LinesServed (TellsLine limits) old new a b k l result → Keeps old new
+  lines_served_keeps old new a b k l (Ok x) c = lines_keep old new 1 _ c.ends.2.text c.ends.2.answered
+  lines_served_keeps old new a b k l (Err ReadFault) c = lines_keep old new 1 _ c.ends.1.text c.ends.1.answered
+  lines_served_keeps old new a b k l (Err TooLong) c = lines_keep old new 1 _ c.ends.1.text c.ends.1.answered
+  lines_served_keeps old new a b k l (Err WriteFault) c =
       elim c.ends [
         | inl part ↦ lines_keep old new 1 _ part.text part.answered
         | inr part ↦ lines_keep old new 1 _ part.2.text part.2.answered
       ]
-  conversed_keeps old new a b k l (Err NoMemory) c = keeps_same old new c.ends.0
+  lines_served_keeps old new a b k l (Err NoMemory) c = keeps_same old new c.ends.0

@@ -3,7 +3,7 @@ ghost use Rattle.std.specs.Prelude.{◌≡◌, ◌≤◌, ℕ, All, IfErr, IfOk,
 ghost use mathlib.Core.List.{IsPrefix};
 ghost use Rattle.lv_edits.specs.declared.edit.Edit.{Edit};
 ghost use Rattle.lv_lines.specs.Output.{HasRoom, Puts, PutsFront, SamePlaces};
-ghost use Rattle.lv_lines.specs.Replies.{Conversed};
+ghost use Rattle.lv_lines.specs.Replies.{LinesServed};
 ghost use Rattle.lv_transcript.specs.Transcript.{AreInOrder, IsTrueAnswer};
 ghost use Rattle.lv_hub.specs.PlainSession.{PlainSessionStep, seen_by};
 ghost use Rattle.lv_hub.specs.Replying.{SessionLineAnswer, TellsLine};
@@ -16,7 +16,9 @@ use crate::replying::{SessionPlace, answer_line};
 use crate::sessions::{SessionStart, listed};
 use crate::shares::Share;
 use lv_bodies::Six;
-use lv_script::{Claimed, Command, Fault, LINE, Line, Outbox, Responder, converse, read_line};
+use lv_script::{
+    Claimed, Command, Fault, LINE, Line, LineHandler, ReplyBuffer, read_line, serve_lines,
+};
 use std::alloc::Global;
 use std::io::{Read, Write};
 use std::marker::{Brand, Model, PhantomData};
@@ -44,14 +46,14 @@ pub fn run_recorded_session<
     reader: &mut R,
     writer: &mut W,
 ) -> Result<Vec<Claimed>, Fault>
-    ensures conversed { (last : SessionState)
-        × Conversed (SessionStep N.limits) (session_at share.old []) last
+    ensures lines_served { (last : SessionState)
+        × LinesServed (SessionStep N.limits) (session_at share.old []) last
         (R.remaining reader.old) (R.remaining reader.new) (W.contents writer.old) (W.contents writer.new) result
         × (share.new.count ≡ last.count)
         × (share.new.seen ≡ last.seen)
         × IfOk result (λ answers. answers.items ≡ last.answers) }
     // Line by line the replies are those of the plain interpreter, each at some edits of the hub's.
-    ensures plain { Conversed (PlainSessionStep N.limits) (seen_by share.old) (seen_by share.new)
+    ensures plain { LinesServed (PlainSessionStep N.limits) (seen_by share.old) (seen_by share.new)
         (R.remaining reader.old) (R.remaining reader.new) (W.contents writer.old) (W.contents writer.new) result }
     ensures parts { share.new.parts ≡ share.old.parts }
     ensures more { share.old.count ≤ share.new.count }
@@ -84,14 +86,14 @@ pub fn run_recorded_session_at<
     reader: &mut R,
     writer: &mut W,
 ) -> Result<Vec<Claimed>, Fault>
-    ensures conversed { (last : SessionState)
-        × Conversed (SessionStep N.limits) (session_at share.old []) last
+    ensures lines_served { (last : SessionState)
+        × LinesServed (SessionStep N.limits) (session_at share.old []) last
         (R.remaining reader.old) (R.remaining reader.new) (W.contents writer.old) (W.contents writer.new) result
         × (share.new.count ≡ last.count)
         × (share.new.seen ≡ last.seen)
         × IfOk result (λ answers. answers.items ≡ last.answers) }
     // Line by line the replies are those of the plain interpreter, each at some edits of the hub's.
-    ensures plain { Conversed (PlainSessionStep N.limits) (seen_by share.old) (seen_by share.new)
+    ensures plain { LinesServed (PlainSessionStep N.limits) (seen_by share.old) (seen_by share.new)
         (R.remaining reader.old) (R.remaining reader.new) (W.contents writer.old) (W.contents writer.new) result }
     ensures parts { share.new.parts ≡ share.old.parts }
     ensures more { share.old.count ≤ share.new.count }
@@ -133,7 +135,7 @@ fn hold<L: SessionStart, N: WithBody<Six>, T: Wait, R: Read, W: Write, V: Write 
 ) -> (Share<N>, Vec<Claimed>, Result<(), Fault>)
     requires lent { share ≡ L.holding }
     requires most { place.most ≡ L.most }
-    ensures conversed { Conversed (TellsLine N.limits) (session_at share []) (session_at result.0 result.1.items)
+    ensures lines_served { LinesServed (TellsLine N.limits) (session_at share []) (session_at result.0 result.1.items)
         (R.remaining reader.old) (R.remaining reader.new) (W.contents writer.old) (W.contents writer.new) result.2 }
     ensures parts { result.0.parts ≡ share.parts }
     ensures more { share.count ≤ result.0.count }
@@ -147,7 +149,7 @@ fn hold<L: SessionStart, N: WithBody<Six>, T: Wait, R: Read, W: Write, V: Write 
         answers: Vec::new(alloc),
         of: PhantomData,
     };
-    let ended = converse(alloc, &mut session, reader, writer);
+    let ended = serve_lines(alloc, &mut session, reader, writer);
     let Recorded { share, answers, .. } = session;
     (share, answers, ended)
 }
@@ -175,7 +177,7 @@ impl<'a, N: WithBody<Six>, T: Wait, V: Write + Drop, K: Begun, L: SessionStart> 
     ghost invariant = { λ s. (s.share.parts ≡ L.holding.parts) × (L.holding.count ≤ s.share.count) × All (IsTrueAnswer s.share.seen) s.answers.items × (s.place.most ≡ L.most) × (vec_len s.answers ≤ L.most) };
 }
 
-impl<'a, N: WithBody<Six>, T: Wait, V: Write + Drop, K: Begun, L: SessionStart> Responder
+impl<'a, N: WithBody<Six>, T: Wait, V: Write + Drop, K: Begun, L: SessionStart> LineHandler
     for Recorded<'a, N, T, V, K, L> {
     ghost State = { SessionState };
 
@@ -183,13 +185,13 @@ impl<'a, N: WithBody<Six>, T: Wait, V: Write + Drop, K: Begun, L: SessionStart> 
 
     ghost step = { TellsLine N.limits };
 
-    fn respond<W: Write>(
+    fn handle<W: Write>(
         &mut self,
         number: u32,
         line: &[u8],
-        outbox: &mut Outbox<'_, W>,
+        buffer: &mut ReplyBuffer<'_, W>,
     ) -> Result<(), Fault> {
-        outbox.make_room(LINE)?;
+        buffer.make_room(LINE)?;
         let line = read_line(line);
         if is_minuted(&line) {
             return answer_minuted(
@@ -199,7 +201,7 @@ impl<'a, N: WithBody<Six>, T: Wait, V: Write + Drop, K: Begun, L: SessionStart> 
                 &mut self.answers,
                 number,
                 line,
-                outbox,
+                buffer,
             );
         }
         answer_true(
@@ -208,7 +210,7 @@ impl<'a, N: WithBody<Six>, T: Wait, V: Write + Drop, K: Begun, L: SessionStart> 
             &mut self.answers,
             number,
             line,
-            outbox,
+            buffer,
         )
     }
 }
@@ -225,23 +227,23 @@ fn answer_true<N: WithBody<Six>, T: Wait, W: Write>(
     answers: &mut Vec<Claimed>,
     number: u32,
     line: Line<Command>,
-    outbox: &mut Outbox<'_, W>,
+    buffer: &mut ReplyBuffer<'_, W>,
 ) -> Result<(), Fault>
-    requires room { HasRoom outbox.old.held.now LINE }
+    requires room { HasRoom buffer.old.held.now LINE }
     requires all_true { All (IsTrueAnswer share.old.seen) answers.old.items }
-    ensures places { SamePlaces outbox.old outbox.new }
+    ensures places { SamePlaces buffer.old buffer.new }
     ensures ok { OnOk result ((reply : List ℕ)
         × SessionLineAnswer N.limits (session_at share.old answers.old.items) number line reply (session_at share.new answers.new.items)
-        × Puts W.contents outbox.old outbox.new reply) }
+        × Puts W.contents buffer.old buffer.new reply) }
     ensures fault { IfErr result (λ fault. (fault ≡ Fault.WriteFault) × (reply : List ℕ)
         × SessionLineAnswer N.limits (session_at share.old answers.old.items) number line reply (session_at share.new answers.new.items)
-        × PutsFront W.contents outbox.old outbox.new reply) }
+        × PutsFront W.contents buffer.old buffer.new reply) }
     ensures parts { share.new.parts ≡ share.old.parts }
     ensures more { share.old.count ≤ share.new.count }
     ensures all_true { All (IsTrueAnswer share.new.seen) answers.new.items }
     ensures few { vec_len answers.old ≤ place.now.most → vec_len answers.new ≤ place.now.most }
 {
-    answer_line(place, share, answers, number, line, outbox)
+    answer_line(place, share, answers, number, line, buffer)
 }
 
 // Answers a line while the minutes are locked, and has them take up what came of it.
@@ -252,17 +254,17 @@ fn answer_minuted<N: WithBody<Six>, T: Wait, W: Write, V: Write + Drop, K: Begun
     answers: &mut Vec<Claimed>,
     number: u32,
     line: Line<Command>,
-    outbox: &mut Outbox<'_, W>,
+    buffer: &mut ReplyBuffer<'_, W>,
 ) -> Result<(), Fault>
-    requires room { HasRoom outbox.old.held.now LINE }
+    requires room { HasRoom buffer.old.held.now LINE }
     requires all_true { All (IsTrueAnswer share.old.seen) answers.old.items }
-    ensures places { SamePlaces outbox.old outbox.new }
+    ensures places { SamePlaces buffer.old buffer.new }
     ensures ok { OnOk result ((reply : List ℕ)
         × SessionLineAnswer N.limits (session_at share.old answers.old.items) number line reply (session_at share.new answers.new.items)
-        × Puts W.contents outbox.old outbox.new reply) }
+        × Puts W.contents buffer.old buffer.new reply) }
     ensures fault { IfErr result (λ fault. (fault ≡ Fault.WriteFault) × (reply : List ℕ)
         × SessionLineAnswer N.limits (session_at share.old answers.old.items) number line reply (session_at share.new answers.new.items)
-        × PutsFront W.contents outbox.old outbox.new reply) }
+        × PutsFront W.contents buffer.old buffer.new reply) }
     ensures parts { share.new.parts ≡ share.old.parts }
     ensures more { share.old.count ≤ share.new.count }
     ensures all_true { All (IsTrueAnswer share.new.seen) answers.new.items }
@@ -270,7 +272,7 @@ fn answer_minuted<N: WithBody<Six>, T: Wait, W: Write, V: Write + Drop, K: Begun
 {
     let mut minutes = minutes.lock(place.rt);
     let before = answers.len();
-    let answered = answer_true(place, share, answers, number, line, outbox);
+    let answered = answer_true(place, share, answers, number, line, buffer);
     minutes.take_up(place.rt, place.hub, share, newest(answers, before));
     answered
 }

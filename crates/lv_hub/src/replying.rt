@@ -14,7 +14,7 @@ use lv_bodies::{Kind, Six, face};
 use lv_edits::Edit;
 use lv_geometry::Refusal;
 use lv_script::{
-    Asked, Claimed, Command, Fault, LINE, Line, Outbox, put_answer, put_bad, put_receipt,
+    Asked, Claimed, Command, Fault, LINE, Line, ReplyBuffer, put_answer, put_bad, put_receipt,
     put_refusal, put_scan,
 };
 use std::alloc::Global;
@@ -38,25 +38,25 @@ pub fn answer_line<N: WithBody<Six>, T: Wait, W: Write>(
     answers: &mut Vec<Claimed>,
     number: u32,
     line: Line<Command>,
-    outbox: &mut Outbox<'_, W>,
+    buffer: &mut ReplyBuffer<'_, W>,
 ) -> Result<(), Fault>
-    requires { HasRoom outbox.old.held.now LINE }
-    ensures places { SamePlaces outbox.old outbox.new }
+    requires { HasRoom buffer.old.held.now LINE }
+    ensures places { SamePlaces buffer.old buffer.new }
     ensures ok { OnOk result ((reply : List ℕ)
         × SessionLineAnswer N.limits (session_at share.old answers.old.items) number line reply (session_at share.new answers.new.items)
-        × Puts W.contents outbox.old outbox.new reply) }
+        × Puts W.contents buffer.old buffer.new reply) }
     ensures fault { IfErr result (λ fault. (fault ≡ Fault.WriteFault) × (reply : List ℕ)
         × SessionLineAnswer N.limits (session_at share.old answers.old.items) number line reply (session_at share.new answers.new.items)
-        × PutsFront W.contents outbox.old outbox.new reply) }
+        × PutsFront W.contents buffer.old buffer.new reply) }
     ensures parts { share.new.parts ≡ share.old.parts }
     ensures more { share.old.count ≤ share.new.count }
     ensures few { vec_len answers.old ≤ place.now.most → vec_len answers.new ≤ place.now.most }
 {
     match line {
         Line::Nothing => {}
-        Line::Bad => put_bad(outbox.held, number),
+        Line::Bad => put_bad(buffer.held, number),
         Line::Do(command) => {
-            return answer(place, share, answers, number, command, outbox);
+            return answer(place, share, answers, number, command, buffer);
         }
     }
     Ok(())
@@ -70,22 +70,22 @@ fn answer<N: WithBody<Six>, T: Wait, W: Write>(
     answers: &mut Vec<Claimed>,
     number: u32,
     command: Command,
-    outbox: &mut Outbox<'_, W>,
+    buffer: &mut ReplyBuffer<'_, W>,
 ) -> Result<(), Fault>
-    requires { HasRoom outbox.old.held.now LINE }
-    ensures places { SamePlaces outbox.old outbox.new }
+    requires { HasRoom buffer.old.held.now LINE }
+    ensures places { SamePlaces buffer.old buffer.new }
     ensures ok { OnOk result ((reply : List ℕ)
         × SessionCommandAnswer N.limits (session_at share.old answers.old.items) number command reply (session_at share.new answers.new.items)
-        × Puts W.contents outbox.old outbox.new reply) }
+        × Puts W.contents buffer.old buffer.new reply) }
     ensures fault { IfErr result (λ fault. (fault ≡ Fault.WriteFault) × (reply : List ℕ)
         × SessionCommandAnswer N.limits (session_at share.old answers.old.items) number command reply (session_at share.new answers.new.items)
-        × PutsFront W.contents outbox.old outbox.new reply) }
+        × PutsFront W.contents buffer.old buffer.new reply) }
     ensures parts { share.new.parts ≡ share.old.parts }
     ensures more { share.old.count ≤ share.new.count }
     ensures few { vec_len answers.old ≤ place.now.most → vec_len answers.new ≤ place.now.most }
 {
     match command {
-        Command::Edit(edit) => put_edit(place, share, edit, outbox.held),
+        Command::Edit(edit) => put_edit(place, share, edit, buffer.held),
         Command::Reduce { kind, lo, hi } => put_reduction(
             place,
             share,
@@ -93,7 +93,7 @@ fn answer<N: WithBody<Six>, T: Wait, W: Write>(
             kind,
             lo,
             hi,
-            outbox.held,
+            buffer.held,
         ),
         Command::Scan {
             inclusive,
@@ -110,10 +110,10 @@ fn answer<N: WithBody<Six>, T: Wait, W: Write>(
                     lo,
                     hi,
                 },
-                outbox,
+                buffer,
             );
         }
-        _ => put_bad(outbox.held, number),
+        _ => put_bad(buffer.held, number),
     }
     Ok(())
 }
@@ -196,16 +196,16 @@ fn put_scanned<N: WithBody<Six>, T: Wait, W: Write>(
     place: &SessionPlace<'_, N, T>,
     share: &mut Share<N>,
     asked: &Asked,
-    outbox: &mut Outbox<'_, W>,
+    buffer: &mut ReplyBuffer<'_, W>,
 ) -> Result<(), Fault>
-    requires { HasRoom outbox.old.held.now LINE }
-    ensures places { SamePlaces outbox.old outbox.new }
+    requires { HasRoom buffer.old.held.now LINE }
+    ensures places { SamePlaces buffer.old buffer.new }
     ensures ok { OnOk result ((reply : List ℕ)
         × ((answers : List Claimed) → TellsScan N.limits (session_at share.old answers) asked.now.inclusive asked.now.kind asked.now.lo asked.now.hi reply (session_at share.new answers))
-        × Puts W.contents outbox.old outbox.new reply) }
+        × Puts W.contents buffer.old buffer.new reply) }
     ensures fault { IfErr result (λ fault. (fault ≡ Fault.WriteFault) × (reply : List ℕ)
         × ((answers : List Claimed) → TellsScan N.limits (session_at share.old answers) asked.now.inclusive asked.now.kind asked.now.lo asked.now.hi reply (session_at share.new answers))
-        × PutsFront W.contents outbox.old outbox.new reply) }
+        × PutsFront W.contents buffer.old buffer.new reply) }
     ensures share { share.new ≡ having_seen share.old share.new.seen }
 {
     let (lo, hi) = (asked.lo, asked.hi);
@@ -214,14 +214,14 @@ fn put_scanned<N: WithBody<Six>, T: Wait, W: Write>(
         .scan_alone(place.rt, place.alloc, share, lo, hi, asked.inclusive);
     match scan {
         Ok(scan) => put_scan(
-            outbox,
+            buffer,
             scan.edit,
             asked.inclusive,
             asked.kind,
             scan.values.as_slice(),
         ),
         Err(refusal) => {
-            put_refusal(outbox.held, refusal);
+            put_refusal(buffer.held, refusal);
             Ok(())
         }
     }

@@ -1,7 +1,7 @@
 //! Sessions on a hub: lines that are read, and replies that are written.
 ghost use Rattle.std.specs.Prelude.{◌≡◌, ◌+◌, ◌≤◌, ◌++◌, ℕ, All, List, [], Ok, Err, MatchResult, OnOk, OnErr, IfOk, IfErr, vec_len, vec_capacity};
 ghost use mathlib.Core.List.{IsPrefix};
-ghost use Rattle.lv_lines.specs.Replies.{Conversed};
+ghost use Rattle.lv_lines.specs.Replies.{LinesServed};
 ghost use Rattle.lv_transcript.specs.declared.claimed.Claimed.{Claimed};
 ghost use Rattle.lv_transcript.specs.Transcript.{AreInOrder, IsTrueAnswer};
 ghost use Rattle.std.specs.List.Sorted.{IsPermutation};
@@ -15,7 +15,7 @@ use crate::naming::WithBody;
 use crate::replying::{SessionPlace, answer_line};
 use crate::shares::Share;
 use lv_bodies::Six;
-use lv_script::{Claimed, Fault, LINE, Outbox, Responder, converse, read_line};
+use lv_script::{Claimed, Fault, LINE, LineHandler, ReplyBuffer, read_line, serve_lines};
 use std::alloc::{AllocError, Global};
 use std::io::{Read, Write};
 use std::marker::{Brand, Model, PhantomData};
@@ -35,14 +35,14 @@ pub fn run_session<N: WithBody<Six>, T: Wait, R: Read, W: Write>(
     reader: &mut R,
     writer: &mut W,
 ) -> Result<Vec<Claimed>, Fault>
-    ensures conversed { (last : SessionState)
-        × Conversed (SessionStep N.limits) (session_at share.old []) last
+    ensures lines_served { (last : SessionState)
+        × LinesServed (SessionStep N.limits) (session_at share.old []) last
         (R.remaining reader.old) (R.remaining reader.new) (W.contents writer.old) (W.contents writer.new) result
         × (share.new.count ≡ last.count)
         × (share.new.seen ≡ last.seen)
         × IfOk result (λ answers. answers.items ≡ last.answers) }
     // Line by line the replies are those of the plain interpreter, each at some edits of the hub's.
-    ensures plain { Conversed (PlainSessionStep N.limits) (seen_by share.old) (seen_by share.new)
+    ensures plain { LinesServed (PlainSessionStep N.limits) (seen_by share.old) (seen_by share.new)
         (R.remaining reader.old) (R.remaining reader.new) (W.contents writer.old) (W.contents writer.new) result }
     ensures parts { share.new.parts ≡ share.old.parts }
     ensures more { share.old.count ≤ share.new.count }
@@ -67,14 +67,14 @@ pub fn run_session_at<N: WithBody<Six>, T: Wait, R: Read, W: Write>(
     reader: &mut R,
     writer: &mut W,
 ) -> Result<Vec<Claimed>, Fault>
-    ensures conversed { (last : SessionState)
-        × Conversed (SessionStep N.limits) (session_at share.old []) last
+    ensures lines_served { (last : SessionState)
+        × LinesServed (SessionStep N.limits) (session_at share.old []) last
         (R.remaining reader.old) (R.remaining reader.new) (W.contents writer.old) (W.contents writer.new) result
         × (share.new.count ≡ last.count)
         × (share.new.seen ≡ last.seen)
         × IfOk result (λ answers. answers.items ≡ last.answers) }
     // Line by line the replies are those of the plain interpreter, each at some edits of the hub's.
-    ensures plain { Conversed (PlainSessionStep N.limits) (seen_by share.old) (seen_by share.new)
+    ensures plain { LinesServed (PlainSessionStep N.limits) (seen_by share.old) (seen_by share.new)
         (R.remaining reader.old) (R.remaining reader.new) (W.contents writer.old) (W.contents writer.new) result }
     ensures parts { share.new.parts ≡ share.old.parts }
     ensures more { share.old.count ≤ share.new.count }
@@ -134,7 +134,7 @@ fn hold<K: SessionStart, N: WithBody<Six>, T: Wait, R: Read, W: Write>(
 ) -> (Share<N>, Vec<Claimed>, Result<(), Fault>)
     requires lent { share ≡ K.holding }
     requires most { place.most ≡ K.most }
-    ensures conversed { Conversed (TellsLine N.limits) (session_at share []) (session_at result.0 result.1.items)
+    ensures lines_served { LinesServed (TellsLine N.limits) (session_at share []) (session_at result.0 result.1.items)
         (R.remaining reader.old) (R.remaining reader.new) (W.contents writer.old) (W.contents writer.new) result.2 }
     ensures parts { result.0.parts ≡ share.parts }
     ensures more { share.count ≤ result.0.count }
@@ -147,7 +147,7 @@ fn hold<K: SessionStart, N: WithBody<Six>, T: Wait, R: Read, W: Write>(
         answers: Vec::new(alloc),
         of: PhantomData,
     };
-    let ended = converse(alloc, &mut session, reader, writer);
+    let ended = serve_lines(alloc, &mut session, reader, writer);
     let Session { share, answers, .. } = session;
     (share, answers, ended)
 }
@@ -172,27 +172,27 @@ impl<'a, N: WithBody<Six>, T: Wait, K: SessionStart> Model for Session<'a, N, T,
     ghost invariant = { λ s. (s.share.parts ≡ K.holding.parts) × (K.holding.count ≤ s.share.count) × (s.place.most ≡ K.most) × (vec_len s.answers ≤ K.most) };
 }
 
-impl<'a, N: WithBody<Six>, T: Wait, K: SessionStart> Responder for Session<'a, N, T, K> {
+impl<'a, N: WithBody<Six>, T: Wait, K: SessionStart> LineHandler for Session<'a, N, T, K> {
     ghost State = { SessionState };
 
     ghost state = { λ s. s };
 
     ghost step = { TellsLine N.limits };
 
-    fn respond<W: Write>(
+    fn handle<W: Write>(
         &mut self,
         number: u32,
         line: &[u8],
-        outbox: &mut Outbox<'_, W>,
+        buffer: &mut ReplyBuffer<'_, W>,
     ) -> Result<(), Fault> {
-        outbox.make_room(LINE)?;
+        buffer.make_room(LINE)?;
         answer_line(
             &self.place,
             &mut self.share,
             &mut self.answers,
             number,
             read_line(line),
-            outbox,
+            buffer,
         )
     }
 }

@@ -1,14 +1,14 @@
 -- Names the files of lemmas of `lv_lines`.
-pub mod ConversationLemmas
-pub mod Conversing
+pub mod LineLoopLemmas
+pub mod LineLoopLaws
 pub mod CutWords
-pub mod HearingLemmas
+pub mod ReadLinesLemmas
 pub mod InputLemmas
 pub mod LineEnds
 pub mod OutputLemmas
 pub mod PrintedNumbers
 pub mod PrintedWords
-pub mod ProgressLemmas
+pub mod LineReaderLemmas
 pub mod ReadAgain
 pub mod ReadDigits
 pub mod ReadFirst

@@ -5,7 +5,7 @@ pub mod Input
 pub mod Numbers
 pub mod Output
 pub mod Printed
-pub mod Progress
+pub mod LineReader
 pub mod Replies
 pub mod Texts
 pub mod Words

@@ -72,7 +72,7 @@ module _ {S : Type 0} (step : S → ℕ → List ℕ → List ℕ → S → Type
       (new ≡ old) × (remaining_new ≡ remaining_old) × (contents_new ≡ contents_old)
 
   -- bytes were read and their lines answered, from state old to state new
-  pub record Conversed {T : Type 0} (old new : S) (remaining_old remaining_new contents_old contents_new : Option (List ℕ)) (result : Result T Fault) : Type 0 where
+  pub record LinesServed {T : Type 0} (old new : S) (remaining_old remaining_new contents_old contents_new : Option (List ℕ)) (result : Result T Fault) : Type 0 where
     pub seen : List ℕ
     pub read : Consumes remaining_old remaining_new seen
     pub few : length seen ≤ 2 ^ 30 + 1

@@ -3,8 +3,8 @@ ghost use Rattle.std.specs.Prelude.{◌≡◌, ◌+◌, ◌≤◌, ◌++◌, vec
 ghost use Rattle.lv_lines.specs.Output.{HasRoom, KeepsRoom};
 ghost use Rattle.lv_lines.specs.Texts.{named_text, note_text, unwatched_text, watching_text};
 
+use crate::output::{put, put_name, put_number};
 use crate::replies::{LINE, put_shown};
-use crate::sender::{put, put_name, put_number};
 use lv_bodies::{Name, Shown};
 
 /// That a query stands under the name from now on.

@@ -9,7 +9,7 @@ ghost use Rattle.lv_lines.specs.Printed.{verb_of, arguments_of, range_words, pri
 
 use crate::command::Command;
 use crate::lines::Line;
-use crate::sender::{put, put_element, put_name, put_number};
+use crate::output::{put, put_element, put_name, put_number};
 use crate::words::{kind_name, scan_name};
 use lv_bodies::{Kind, Name};
 use lv_edits::Edit;

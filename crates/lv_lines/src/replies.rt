@@ -6,8 +6,8 @@ ghost use Rattle.lv_lines.specs.Output.{HasRoom, KeepsRoom};
 ghost use Rattle.lv_lines.specs.Words.{spaced};
 ghost use Rattle.lv_lines.specs.Texts.{answer_text, bad_text, capacity_text, receipt_text, refused_by, refused_text, reply_line, scan_head, settled_text, size_text, shown_text, element_text, value_text};
 
-use crate::sender::{put, put_element, put_number, put_wide};
-use crate::tail::Tail;
+use crate::backward_line::BackwardLine;
+use crate::output::{put, put_element, put_number, put_wide};
 use crate::words::{kind_name, scan_name};
 use lv_bodies::{Kind, Shown};
 use lv_edits::Receipt;
@@ -50,7 +50,7 @@ pub fn put_counted(held: &mut Vec<u8>, edit: u64, word: &[u8], count: u64)
     ensures len { vec_len held.new ≤ vec_len held.old + 80 }
     ensures room { KeepsRoom held.old held.new }
 {
-    let mut line = Tail::new();
+    let mut line = BackwardLine::new();
     line.put_number(count);
     line.put(word);
     line.put_number(edit);
@@ -67,7 +67,7 @@ pub fn put_valued(held: &mut Vec<u8>, edit: u64, word: &[u8], x: i64)
     ensures len { vec_len held.new ≤ vec_len held.old + 80 }
     ensures room { KeepsRoom held.old held.new }
 {
-    let mut line = Tail::new();
+    let mut line = BackwardLine::new();
     line.put_element(x);
     line.put(word);
     line.put_number(edit);
@@ -82,7 +82,7 @@ pub fn put_swapped(held: &mut Vec<u8>, edit: u64, first: i64, second: i64)
     ensures len { vec_len held.new ≤ vec_len held.old + 80 }
     ensures room { KeepsRoom held.old held.new }
 {
-    let mut line = Tail::new();
+    let mut line = BackwardLine::new();
     line.put_element(second);
     line.put(b" ");
     line.put_element(first);
@@ -150,7 +150,7 @@ pub fn put_found(held: &mut Vec<u8>, x: i64)
     ensures text { held.new.items ≡ held.old.items ++ value_text x }
     ensures room { KeepsRoom held.old held.new }
 {
-    let mut line = Tail::new();
+    let mut line = BackwardLine::new();
     line.put_element(x);
     line.put(b"value ");
     put(held, line.as_bytes());
@@ -162,7 +162,7 @@ pub fn put_size(held: &mut Vec<u8>, size: u64, edit: u64)
     ensures text { held.new.items ≡ held.old.items ++ size_text size edit }
     ensures room { KeepsRoom held.old held.new }
 {
-    let mut line = Tail::new();
+    let mut line = BackwardLine::new();
     line.put_number(edit);
     line.put(b" edit ");
     line.put_number(size);
@@ -187,7 +187,7 @@ pub fn put_answer(held: &mut Vec<u8>, edit: u64, kind: Kind, value: Shown)
     ensures text { held.new.items ≡ held.old.items ++ answer_text edit kind value }
     ensures room { KeepsRoom held.old held.new }
 {
-    let mut head = Tail::empty();
+    let mut head = BackwardLine::empty();
     head.put(b" ");
     head.put(kind_name(kind).as_bytes());
     head.put(b" ");

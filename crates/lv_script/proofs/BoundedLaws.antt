@@ -7,8 +7,8 @@ use Rattle.lv_refresh.specs.Carried.{Carried}
 use Rattle.lv_live.specs.State.{node_and_version}
 use Rattle.lv_lines.specs.declared.fault.Fault.{Fault}
 use Rattle.lv_lines.specs.declared.fault.Fault.TheVariants.{WriteFault}
-use Rattle.lv_lines.specs.Replies.{Conversed}
-use Rattle.lv_lines.proofs.Conversing.{conversed_as}
+use Rattle.lv_lines.specs.Replies.{LinesServed}
+use Rattle.lv_lines.proofs.LineLoopLaws.{lines_served_as}
 use Rattle.lv_script.specs.Script.{ScriptState, ScriptStep}
 use Rattle.lv_script.specs.Scripted.{Bounded, BoundedStep}
 
@@ -22,10 +22,10 @@ is_of_after jobs s t n line text u is step =
     (u.script, (refl, step.most ∙ is.1, step.few is.2), subst (λ t. ScriptStep t n line text u.script) (sym is.0) step.step)
 
 -- and after all
-pub conversed_within : {R : Type 0} (jobs : ℕ) (first last : Bounded) (a b k l : Option (List ℕ)) (result : Result R Fault) → first.most ≡ jobs → length first.script.seen.issued ≤ first.most → Conversed BoundedStep first last a b k l result
-    → (end : ScriptState) × (length end.seen.issued ≤ jobs) × Conversed ScriptStep first.script end a b k l result
-conversed_within jobs first last a b k l result most few c =
-    let came = conversed_as (IsOf jobs) (record { moves = is_of_after jobs }) first first.script last a b k l result (refl, most, few) c in
+pub lines_served_within : {R : Type 0} (jobs : ℕ) (first last : Bounded) (a b k l : Option (List ℕ)) (result : Result R Fault) → first.most ≡ jobs → length first.script.seen.issued ≤ first.most → LinesServed BoundedStep first last a b k l result
+    → (end : ScriptState) × (length end.seen.issued ≤ jobs) × LinesServed ScriptStep first.script end a b k l result
+lines_served_within jobs first last a b k l result most few c =
+    let came = lines_served_as (IsOf jobs) (record { moves = is_of_after jobs }) first first.script last a b k l result (refl, most, few) c in
     let is = came.1 in
     (came.0, subst (λ (s : ScriptState). length s.seen.issued ≤ jobs) (sym is.0) (subst (λ most. length last.script.seen.issued ≤ most) is.1 is.2), came.2)
 

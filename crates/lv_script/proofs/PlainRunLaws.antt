@@ -18,7 +18,7 @@ use Rattle.lv_lines.specs.declared.lines.Line.TheVariants.{Nothing, Bad, Do}
 use Rattle.lv_lines.specs.declared.fault.Fault.{Fault}
 use Rattle.lv_lines.specs.Grammar.{line_of}
 use Rattle.lv_lines.specs.Input.{lines_of, whole_lines_of}
-use Rattle.lv_lines.specs.Replies.{Answered, Conversed}
+use Rattle.lv_lines.specs.Replies.{Answered, LinesServed}
 use Rattle.lv_lines.proofs.InputLemmas.{lines_of-append, whole_lines_of-ended}
 use Rattle.lv_lines.specs.Texts.{receipt_text, refused_text, reply_line}
 use Rattle.lv_script.specs.PlainRuns.{AnswerStep, IsOneLine, IsPlainText, IsTrueOf, MeetsWant, NeverWants, PlainStep, Takes, TrueStep, asked_by, asked_in, plain_answers}
@@ -96,7 +96,7 @@ room_text s last n (line ∷ lines) text (reply, rest, mid, step, more, is) neve
     )
 
 -- what a conversation wrote that came to the end of its input
-pub written_plain : {T : Type 0} (limits : Bounds) (last : Plain) (a b k l : Option (List ℕ)) (result : Result T Fault) → Conversed PlainStep (start limits) last a b k l result
+pub written_plain : {T : Type 0} (limits : Bounds) (last : Plain) (a b k l : Option (List ℕ)) (result : Result T Fault) → LinesServed PlainStep (start limits) last a b k l result
     → OnOk result ((input : List ℕ) × (text : List ℕ) × Consumes a b input × IsAtEnd b × Appends k l text × (NeverWants text → IsPlainText limits input text))
 written_plain limits last a b k l (Ok done) c =
     let all = c.ends.2 in

@@ -30,9 +30,9 @@ use Rattle.lv_lines.specs.declared.lines.Line.{Line}
 use Rattle.lv_lines.specs.declared.lines.Line.TheVariants.{Nothing, Bad, Do}
 use Rattle.lv_lines.specs.declared.fault.Fault.{Fault}
 use Rattle.lv_lines.specs.Grammar.{line_of}
-use Rattle.lv_lines.specs.Replies.{Conversed}
+use Rattle.lv_lines.specs.Replies.{LinesServed}
 use Rattle.lv_lines.specs.Texts.{named_text, note_text, receipt_text, refused_text}
-use Rattle.lv_lines.proofs.Conversing.{conversed_as}
+use Rattle.lv_lines.proofs.LineLoopLaws.{lines_served_as}
 use Rattle.lv_script.specs.PlainRuns.{IsOneLine, MeetsWant, PlainStep, may_want}
 use Rattle.lv_script.specs.PlainScript.{Plain, after, note_of, plain_after, plain_reply, refusal_of, reply_of, same_value, start, unknown}
 use Rattle.lv_script.specs.Script.{CommandAnswer, HasQueries, LineAnswer, ScriptState, ScriptStep, Tells, TellsEvent, TellsUnwatch, TellsWatch, edit_text, named_answer_text, notes_text, reduced_text, reply_text, scanned_range_text}
@@ -238,8 +238,8 @@ begins_plain : (limits : Bounds) (s : ScriptState) → Begins limits s → start
 begins_plain limits s b = λ i. record { limits = sym b.limits_are i; edits = sym b.edits i; queries = sym b.queries i }
 
 -- the conversation of a script is one of the interpreter
-pub conversed_plain : {R : Type 0} (limits : Bounds) (first last : ScriptState) (a b k l : Option (List ℕ)) (result : Result R Fault) → Begins limits first → Conversed ScriptStep first last a b k l result
-    → (end : Plain) × Conversed PlainStep (start limits) end a b k l result
-conversed_plain limits first last a b k l result begins c =
-    let came = conversed_as (λ s p. p ≡ plain_of s) (record { moves = step_plain }) first (start limits) last a b k l result (begins_plain limits first begins) c in
+pub lines_served_plain : {R : Type 0} (limits : Bounds) (first last : ScriptState) (a b k l : Option (List ℕ)) (result : Result R Fault) → Begins limits first → LinesServed ScriptStep first last a b k l result
+    → (end : Plain) × LinesServed PlainStep (start limits) end a b k l result
+lines_served_plain limits first last a b k l result begins c =
+    let came = lines_served_as (λ s p. p ≡ plain_of s) (record { moves = step_plain }) first (start limits) last a b k l result (begins_plain limits first begins) c in
     (came.0, came.2)

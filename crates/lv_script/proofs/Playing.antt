@@ -1,8 +1,8 @@
 -- What a schedule's player stands for, at the end of it.
 use Rattle.std.proofs.Common.{◌≡◌, ℕ, Option, Result, List, refl, sym, ◌∙◌}
 use Rattle.lv_lines.specs.declared.fault.Fault.{Fault}
-use Rattle.lv_lines.specs.Replies.{Conversed}
-use Rattle.lv_lines.proofs.Conversing.{conversed_as}
+use Rattle.lv_lines.specs.Replies.{LinesServed}
+use Rattle.lv_lines.proofs.LineLoopLaws.{lines_served_as}
 use Rattle.lv_script.specs.Played.{Played, PlayedStep}
 use Rattle.lv_script.specs.Schedule.{ScheduleStep, SumMachine}
 
@@ -19,9 +19,9 @@ line_as place s m n line text u fits step = (u.machine, record { here = step.pla
 -- where the player's machine is still in the owner's place, the owner has the machine of the end
 pub played_as : {R : Type 0} (name place : ℕ) (first last owned : SumMachine) (a b k l : Option (List ℕ)) (result : Result R Fault)
     → (name ≡ place → owned ≡ last)
-    → Conversed PlayedStep record { machine = first; place = name } record { machine = last; place = place } a b k l result
-    → Conversed ScheduleStep first owned a b k l result
+    → LinesServed PlayedStep record { machine = first; place = name } record { machine = last; place = place } a b k l result
+    → LinesServed ScheduleStep first owned a b k l result
 played_as name place first last owned a b k l result is c =
-    let came = conversed_as (Plays name) (record { moves = line_as name }) _ first _ a b k l result (record { here = refl; machine = refl }) c in
+    let came = lines_served_as (Plays name) (record { moves = line_as name }) _ first _ a b k l result (record { here = refl; machine = refl }) c in
     let same = is (sym came.1.here) in
     rw (same, came.1.machine) came.2

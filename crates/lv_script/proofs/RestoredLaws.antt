@@ -9,8 +9,8 @@ use Rattle.lv_edits.specs.History.{History, with_edit}
 use Rattle.lv_edits.specs.Verdict.{verdict_of}
 use Rattle.lv_lines.specs.declared.fault.Fault.{Fault}
 use Rattle.lv_lines.specs.declared.fault.Fault.TheVariants.{NoMemory}
-use Rattle.lv_lines.specs.Replies.{Conversed}
-use Rattle.lv_lines.proofs.Conversing.{conversed_as}
+use Rattle.lv_lines.specs.Replies.{LinesServed}
+use Rattle.lv_lines.proofs.LineLoopLaws.{lines_served_as}
 use Rattle.lv_transcript.specs.Transcript.{AreAcceptedAfter}
 use Rattle.lv_script.specs.PlainRuns.{NeverWants, PlainStep}
 use Rattle.lv_script.specs.PlainScript.{Plain}
@@ -26,7 +26,7 @@ module _ (limits : Bounds) (edits : List Edit) where
   begins_after s b = λ i. record { limits = sym b.limits_are i; edits = sym b.edits_are i; queries = sym b.queries i }
 
   -- what a conversation wrote that came to the end of its input
-  written_after : {T : Type 0} (last : Plain) (a b k l : Option (List ℕ)) (result : Result T Fault) → Conversed PlainStep (start_after limits edits) last a b k l result
+  written_after : {T : Type 0} (last : Plain) (a b k l : Option (List ℕ)) (result : Result T Fault) → LinesServed PlainStep (start_after limits edits) last a b k l result
       → OnOk result ((input : List ℕ) × (text : List ℕ) × Consumes a b input × IsAtEnd b × Appends k l text × (NeverWants text → IsPlainTextAfter limits edits input text))
   written_after last a b k l (Ok done) c =
       let all = c.ends.2 in
@@ -34,10 +34,10 @@ module _ (limits : Bounds) (edits : List Edit) where
   written_after last a b k l (Err fault) c = tt
 
   -- a script's conversation from these edits on
-  pub answers_after : {T : Type 0} (first last : ScriptState) (a b k l : Option (List ℕ)) (result : Result T Fault) → BeginsAfter limits edits first → Conversed ScriptStep first last a b k l result
+  pub answers_after : {T : Type 0} (first last : ScriptState) (a b k l : Option (List ℕ)) (result : Result T Fault) → BeginsAfter limits edits first → LinesServed ScriptStep first last a b k l result
       → AnswersAfter limits edits a b k l result
   answers_after first last a b k l result begins c =
-      let came = conversed_as (λ s p. p ≡ plain_of s) (record { moves = step_plain }) first (start_after limits edits) last a b k l result (begins_after first begins) c in
+      let came = lines_served_as (λ s p. p ≡ plain_of s) (record { moves = step_plain }) first (start_after limits edits) last a b k l result (begins_after first begins) c in
       record { seen = (first, last, begins, c); plain = (came.0, came.2); text = written_after came.0 a b k l result came.2 }
 
   -- it never began, for want of memory

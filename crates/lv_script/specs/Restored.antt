@@ -5,7 +5,7 @@ use Rattle.lv_geometry.specs.Bounds.{Bounds}
 use Rattle.lv_edits.specs.declared.edit.Edit.{Edit}
 use Rattle.lv_lines.specs.declared.fault.Fault.{Fault}
 use Rattle.lv_lines.specs.Input.{lines_of}
-use Rattle.lv_lines.specs.Replies.{Conversed}
+use Rattle.lv_lines.specs.Replies.{LinesServed}
 use Rattle.lv_transcript.specs.declared.fronts.FrontVerdict.{FrontVerdict}
 use Rattle.lv_transcript.specs.declared.fronts.FrontVerdict.TheVariants as verdicts
 use Rattle.lv_transcript.specs.Fronts.{FrontFound, IsRightOfFront, ReadingEnds}
@@ -30,8 +30,8 @@ IsPlainTextAfter limits edits input text =
 -- text, unless a line of it tells that memory was wanting
 pub record AnswersAfter {T : Type 0} (limits : Bounds) (edits : List Edit) (remaining_old remaining_new contents_old contents_new : Option (List ℕ)) (result : Result T Fault) : Type 0 where
   pub seen :
-      (first : ScriptState) × (last : ScriptState) × BeginsAfter limits edits first × Conversed ScriptStep first last remaining_old remaining_new contents_old contents_new result
-  pub plain : (last : Plain) × Conversed PlainStep (start_after limits edits) last remaining_old remaining_new contents_old contents_new result
+      (first : ScriptState) × (last : ScriptState) × BeginsAfter limits edits first × LinesServed ScriptStep first last remaining_old remaining_new contents_old contents_new result
+  pub plain : (last : Plain) × LinesServed PlainStep (start_after limits edits) last remaining_old remaining_new contents_old contents_new result
   pub text :
       OnOk result (
       (input : List ℕ) × (text : List ℕ) × Consumes remaining_old remaining_new input × IsAtEnd remaining_new × Appends contents_old contents_new text

@@ -25,7 +25,7 @@ use lv_bodies::{Body, Kind, Six};
 use lv_edits::Edit;
 use lv_geometry::Refusal;
 use lv_lines::{
-    Command, Fault, Outbox, put_answer, put_capacity, put_receipt, put_refusal, put_settled,
+    Command, Fault, ReplyBuffer, put_answer, put_capacity, put_receipt, put_refusal, put_settled,
     put_size, put_value,
 };
 use lv_live::{Issued, Live};
@@ -39,28 +39,28 @@ pub fn answer<W: Write>(
     notes: &mut Vec<Note>,
     issued: &mut Issued<Six>,
     command: Command,
-    outbox: &mut Outbox<'_, W>,
+    buffer: &mut ReplyBuffer<'_, W>,
 ) -> Result<(), Fault>
     requires world { IsWorld six_operations standing.old.live issued.old.jobs }
-    requires room { HasRoom outbox.old.held.now ROOM }
-    ensures places { SamePlaces outbox.old outbox.new }
+    requires room { HasRoom buffer.old.held.now ROOM }
+    ensures places { SamePlaces buffer.old buffer.new }
     ensures ok { OnOk result ((reply : List ℕ) × CommandAnswer (state_of standing.old issued.old.jobs) command reply (state_of standing.new issued.new.jobs)
-        × Puts W.contents outbox.old outbox.new reply) }
+        × Puts W.contents buffer.old buffer.new reply) }
     ensures fault { IfErr result (λ fault. (fault ≡ Fault.WriteFault) × (reply : List ℕ)
         × CommandAnswer (state_of standing.old issued.old.jobs) command reply (state_of standing.new issued.new.jobs)
-        × PutsFront W.contents outbox.old outbox.new reply) }
+        × PutsFront W.contents buffer.old buffer.new reply) }
     ensures world { IsWorld six_operations standing.new.live issued.new.jobs }
     ensures most { issued.new.most ≡ issued.old.most }
     ensures few { length issued.old.jobs ≤ issued.old.most → length issued.new.jobs ≤ issued.new.most }
 {
     match command {
-        Command::Edit(edit) => put_edit(standing, notes, edit, outbox.held),
-        Command::Settle => put_settle(standing, outbox.held),
-        Command::Get(i) => put_element_at(standing, i, outbox.held),
-        Command::Size => put_extent(standing, outbox.held),
-        Command::Capacity => put_room(standing, outbox.held),
-        Command::Reduce { kind, lo, hi } => put_reduced(standing, kind, lo, hi, outbox.held),
-        Command::Cost { lo, hi } => put_reads(standing, lo, hi, outbox.held),
+        Command::Edit(edit) => put_edit(standing, notes, edit, buffer.held),
+        Command::Settle => put_settle(standing, buffer.held),
+        Command::Get(i) => put_element_at(standing, i, buffer.held),
+        Command::Size => put_extent(standing, buffer.held),
+        Command::Capacity => put_room(standing, buffer.held),
+        Command::Reduce { kind, lo, hi } => put_reduced(standing, kind, lo, hi, buffer.held),
+        Command::Cost { lo, hi } => put_reads(standing, lo, hi, buffer.held),
         Command::Scan {
             inclusive,
             kind,
@@ -69,7 +69,7 @@ pub fn answer<W: Write>(
         } => {
             return answer_scan(
                 standing,
-                outbox,
+                buffer,
                 &Asked {
                     inclusive,
                     kind,
@@ -78,19 +78,19 @@ pub fn answer<W: Write>(
                 },
             );
         }
-        Command::Claim => put_claim(standing, issued, outbox.held),
-        Command::Deliver(k) => put_delivery(standing, issued, k, outbox.held),
-        Command::Forget => put_forget(standing, outbox.held),
+        Command::Claim => put_claim(standing, issued, buffer.held),
+        Command::Deliver(k) => put_delivery(standing, issued, k, buffer.held),
+        Command::Forget => put_forget(standing, buffer.held),
         Command::Watch { name, kind, lo, hi } => put_watch(
             standing,
             name,
             kind,
             lo,
             hi,
-            outbox.held,
+            buffer.held,
         ),
-        Command::Unwatch(name) => put_unwatch(standing, name, outbox.held),
-        Command::Answer(name) => put_named_answer(standing, name, outbox.held),
+        Command::Unwatch(name) => put_unwatch(standing, name, buffer.held),
+        Command::Answer(name) => put_named_answer(standing, name, buffer.held),
     }
     Ok(())
 }

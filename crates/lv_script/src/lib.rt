@@ -35,8 +35,8 @@ pub use laws::{
     refresh_lines_change_no_answer, the_tour_in_the_readme,
 };
 pub use lv_lines::{
-    Command, Fault, HELD, LINE, Line, Outbox, Responder, converse, print_command, put, put_answer,
-    put_bad, put_element, put_number, put_receipt, put_refusal, put_wide, read_line,
+    Command, Fault, HELD, LINE, Line, LineHandler, ReplyBuffer, print_command, put, put_answer,
+    put_bad, put_element, put_number, put_receipt, put_refusal, put_wide, read_line, serve_lines,
 };
 pub use lv_transcript::{
     Claimed, FrontVerdict, Verdict, audit, audit_front, read_front, write_transcript,

@@ -19,7 +19,7 @@ use lv_bodies::{
     Affine, Automaton, Best, Greatest, Kind, Least, Shown, Single, Six, Sum, fold_more,
 };
 use lv_geometry::Refusal;
-use lv_lines::{Fault, LINE, Outbox, put_refusal};
+use lv_lines::{Fault, LINE, ReplyBuffer, put_refusal};
 use lv_live::Live;
 use lv_standing::Standing;
 use std::io::Write;
@@ -36,22 +36,22 @@ pub struct Asked {
 /// Answers a scan. Its reply may be longer than what is held: each value is put as it is computed, so no memory is taken.
 pub fn answer_scan<W: Write>(
     standing: &Standing,
-    outbox: &mut Outbox<'_, W>,
+    buffer: &mut ReplyBuffer<'_, W>,
     asked: &Asked,
 ) -> Result<(), Fault>
-    requires { HasRoom outbox.old.held.now LINE }
-    ensures places { SamePlaces outbox.old outbox.new }
+    requires { HasRoom buffer.old.held.now LINE }
+    ensures places { SamePlaces buffer.old buffer.new }
     ensures ok { OnOk result ((reply : List ℕ) × ((jobs : List (Carried Six SixSummary)) → TellsScan (state_of standing.now jobs) asked.now.inclusive asked.now.kind asked.now.lo asked.now.hi reply (state_of standing.now jobs))
-        × Puts W.contents outbox.old outbox.new reply) }
+        × Puts W.contents buffer.old buffer.new reply) }
     ensures fault { IfErr result (λ fault. (fault ≡ Fault.WriteFault) × (reply : List ℕ)
         × ((jobs : List (Carried Six SixSummary)) → TellsScan (state_of standing.now jobs) asked.now.inclusive asked.now.kind asked.now.lo asked.now.hi reply (state_of standing.now jobs))
-        × PutsFront W.contents outbox.old outbox.new reply) }
+        × PutsFront W.contents buffer.old buffer.new reply) }
 {
     let live = standing.live();
     match refusal_of(live, asked.lo, asked.hi) {
-        None => put_range_scan(outbox, live, asked),
+        None => put_range_scan(buffer, live, asked),
         Some(refusal) => {
-            put_refusal(outbox.held, refusal);
+            put_refusal(buffer.held, refusal);
             Ok(())
         }
     }
@@ -75,56 +75,56 @@ fn refusal_of(live: &Live<Six>, lo: u32, hi: u32) -> Option<Refusal>
 
 // The scan of a range that lies in the vector.
 fn put_range_scan<W: Write>(
-    outbox: &mut Outbox<'_, W>,
+    buffer: &mut ReplyBuffer<'_, W>,
     live: &Live<Six>,
     asked: &Asked,
 ) -> Result<(), Fault>
     requires order { asked.now.lo ≤ asked.now.hi }
     requires inside { asked.now.hi ≤ length (list_of live.now.history.journal) }
     requires limits { IsLegalInLimits live.now.history }
-    ensures places { SamePlaces outbox.old outbox.new }
-    ensures ok { OnOk result (Puts W.contents outbox.old outbox.new
+    ensures places { SamePlaces buffer.old buffer.new }
+    ensures ok { OnOk result (Puts W.contents buffer.old buffer.new
         (scan_text (length live.now.history.journal) asked.now.inclusive asked.now.kind
         (plain_scan asked.now.inclusive asked.now.kind (slice_of live.now.history.journal asked.now.lo asked.now.hi)))) }
     ensures fault { IfErr result (λ fault. (fault ≡ Fault.WriteFault)
-        × PutsFront W.contents outbox.old outbox.new
+        × PutsFront W.contents buffer.old buffer.new
         (scan_text (length live.now.history.journal) asked.now.inclusive asked.now.kind
         (plain_scan asked.now.inclusive asked.now.kind (slice_of live.now.history.journal asked.now.lo asked.now.hi)))) }
 {
     let count = u64::from(asked.hi - asked.lo);
-    put_head(outbox, live.edit(), asked.inclusive, asked.kind, count)?;
-    put_plain_values(outbox, live, asked)
+    put_head(buffer, live.edit(), asked.inclusive, asked.kind, count)?;
+    put_plain_values(buffer, live, asked)
 }
 
 // Its values, by the body of its kind alone.
 fn put_plain_values<W: Write>(
-    outbox: &mut Outbox<'_, W>,
+    buffer: &mut ReplyBuffer<'_, W>,
     live: &Live<Six>,
     asked: &Asked,
 ) -> Result<(), Fault>
     requires order { asked.now.lo ≤ asked.now.hi }
     requires inside { asked.now.hi ≤ length (list_of live.now.history.journal) }
     requires limits { IsLegalInLimits live.now.history }
-    ensures places { SamePlaces outbox.old outbox.new }
-    ensures ok { OnOk result (Puts W.contents outbox.old outbox.new
+    ensures places { SamePlaces buffer.old buffer.new }
+    ensures ok { OnOk result (Puts W.contents buffer.old buffer.new
         (values_text (plain_scan asked.now.inclusive asked.now.kind (slice_of live.now.history.journal asked.now.lo asked.now.hi)))) }
     ensures fault { IfErr result (λ fault. (fault ≡ Fault.WriteFault)
-        × PutsFront W.contents outbox.old outbox.new
+        × PutsFront W.contents buffer.old buffer.new
         (values_text (plain_scan asked.now.inclusive asked.now.kind (slice_of live.now.history.journal asked.now.lo asked.now.hi)))) }
 {
     match asked.kind {
-        Kind::Sum => put_running_values(outbox, live, &Sum, asked),
-        Kind::Least => put_running_values(outbox, live, &Least, asked),
-        Kind::Greatest => put_running_values(outbox, live, &Greatest, asked),
-        Kind::Best => put_running_values(outbox, live, &Best, asked),
-        Kind::Affine => put_running_values(outbox, live, &Affine, asked),
-        Kind::Automaton => put_running_values(outbox, live, &Automaton::program(), asked),
+        Kind::Sum => put_running_values(buffer, live, &Sum, asked),
+        Kind::Least => put_running_values(buffer, live, &Least, asked),
+        Kind::Greatest => put_running_values(buffer, live, &Greatest, asked),
+        Kind::Best => put_running_values(buffer, live, &Best, asked),
+        Kind::Affine => put_running_values(buffer, live, &Affine, asked),
+        Kind::Automaton => put_running_values(buffer, live, &Automaton::program(), asked),
     }
 }
 
 // What a body shows of the running fold at each element of a range, each on a line of its own.
 fn put_running_values<B: Single, W: Write>(
-    outbox: &mut Outbox<'_, W>,
+    buffer: &mut ReplyBuffer<'_, W>,
     live: &Live<Six>,
     body: &B,
     asked: &Asked,
@@ -132,11 +132,11 @@ fn put_running_values<B: Single, W: Write>(
     requires order { asked.now.lo ≤ asked.now.hi }
     requires inside { asked.now.hi ≤ length (list_of live.now.history.journal) }
     requires limits { IsLegalInLimits live.now.history }
-    ensures places { SamePlaces outbox.old outbox.new }
-    ensures ok { OnOk result (Puts W.contents outbox.old outbox.new
+    ensures places { SamePlaces buffer.old buffer.new }
+    ensures ok { OnOk result (Puts W.contents buffer.old buffer.new
         (values_text (scan_by (B.plain body.now) asked.now.inclusive (slice_of live.now.history.journal asked.now.lo asked.now.hi)))) }
     ensures fault { IfErr result (λ fault. (fault ≡ Fault.WriteFault)
-        × PutsFront W.contents outbox.old outbox.new
+        × PutsFront W.contents buffer.old buffer.new
         (values_text (scan_by (B.plain body.now) asked.now.inclusive (slice_of live.now.history.journal asked.now.lo asked.now.hi)))) }
 {
     let mut sum = body.identity();
@@ -144,7 +144,7 @@ fn put_running_values<B: Single, W: Write>(
         let before = sum;
         sum = fold_more(body, before, element_at(live, i));
         let value = if asked.inclusive { sum } else { before };
-        put_scanned(outbox, show_fold(body, value))?;
+        put_scanned(buffer, show_fold(body, value))?;
     }
     Ok(())
 }

@@ -1,14 +1,14 @@
 //! Schedules: each line is an event on a machine.
 ghost use Rattle.std.specs.Prelude.{◌≡◌, ◌++◌};
 ghost use Rattle.lv_lines.specs.Output.{HasRoom, KeepsRoom};
-ghost use Rattle.lv_lines.specs.Replies.{Conversed};
+ghost use Rattle.lv_lines.specs.Replies.{LinesServed};
 ghost use Rattle.lv_script.specs.Played.{Played, PlayedStep};
 ghost use Rattle.lv_script.specs.Schedule.{ScheduleStep, actor_of, event_text, line_text, machine_after, sum_step};
 
 use crate::schedule_lines::read_schedule_line;
 use crate::schedule_replies::{EVENT, put_outcome};
 use lv_bodies::Sum;
-use lv_lines::{Fault, Line, Outbox, Responder, converse, put_bad};
+use lv_lines::{Fault, Line, LineHandler, ReplyBuffer, put_bad, serve_lines};
 use lv_machine::{Event, Machine};
 use std::alloc::Global;
 use std::io::{Read, Write};
@@ -23,11 +23,11 @@ pub fn run_schedule<R: Read, W: Write>(
     reader: &mut R,
     writer: &mut W,
 ) -> Result<(), Fault>
-    ensures { Conversed ScheduleStep machine.old machine.new
+    ensures { LinesServed ScheduleStep machine.old machine.new
         (R.remaining reader.old) (R.remaining reader.new) (W.contents writer.old) (W.contents writer.new) result }
 {
     let mut player = Player { machine };
-    converse(alloc, &mut player, reader, writer)
+    serve_lines(alloc, &mut player, reader, writer)
 }
 
 // What answers the lines of a schedule: whoever plays it on a machine.
@@ -36,21 +36,21 @@ struct Player<'m> {
     machine: &'m mut Machine<Sum>,
 }
 
-impl Responder for Player<'_> {
+impl LineHandler for Player<'_> {
     ghost State = { Played };
 
     ghost state = { λ p. record { machine = p.machine.now; place = p.machine.ghost_name } };
 
     ghost step = { PlayedStep };
 
-    fn respond<W: Write>(
+    fn handle<W: Write>(
         &mut self,
         number: u32,
         line: &[u8],
-        outbox: &mut Outbox<'_, W>,
+        buffer: &mut ReplyBuffer<'_, W>,
     ) -> Result<(), Fault> {
-        outbox.make_room(EVENT)?;
-        answer_line(self.machine, number, read_schedule_line(line), outbox.held);
+        buffer.make_room(EVENT)?;
+        answer_line(self.machine, number, read_schedule_line(line), buffer.held);
         Ok(())
     }
 }

@@ -5,7 +5,7 @@ ghost use Rattle.lv_bodies.specs.Six.{six_operations};
 ghost use Rattle.lv_edits.specs.Kept.{IsLegalInLimits};
 ghost use Rattle.lv_live.specs.Kept.{IsWorld};
 ghost use Rattle.lv_lines.specs.Output.{HasRoom, Puts, PutsFront, SamePlaces};
-ghost use Rattle.lv_lines.specs.Replies.{Conversed, FailsToReply, Replies};
+ghost use Rattle.lv_lines.specs.Replies.{LinesServed, FailsToReply, Replies};
 ghost use Rattle.lv_script.specs.PlainRuns.{IsPlainText, NeverWants, PlainStep};
 ghost use Rattle.lv_script.specs.PlainScript.{Plain, start};
 ghost use Rattle.lv_script.specs.Script.{LineAnswer, ScriptState, ScriptStep};
@@ -16,7 +16,7 @@ use crate::answers::answer;
 use crate::watch_replies::ROOM;
 use lv_bodies::Six;
 use lv_geometry::Limits;
-use lv_lines::{Command, Fault, Line, Outbox, Responder, converse, put_bad, read_line};
+use lv_lines::{Command, Fault, Line, LineHandler, ReplyBuffer, put_bad, read_line, serve_lines};
 use lv_live::Issued;
 use lv_standing::{Note, Standing};
 use std::alloc::Global;
@@ -34,10 +34,10 @@ pub fn run_script<R: Read, W: Write>(
     reader: &mut R,
     writer: &mut W,
 ) -> Result<(), Fault>
-    ensures seen { (first : ScriptState) × (last : ScriptState) × Begins limits first × Conversed ScriptStep first last
+    ensures seen { (first : ScriptState) × (last : ScriptState) × Begins limits first × LinesServed ScriptStep first last
         (R.remaining reader.old) (R.remaining reader.new) (W.contents writer.old) (W.contents writer.new) result }
     // Line by line the replies are those of the plain interpreter, which knows edits and standing queries alone.
-    ensures plain { (last : Plain) × Conversed PlainStep (start limits) last
+    ensures plain { (last : Plain) × LinesServed PlainStep (start limits) last
         (R.remaining reader.old) (R.remaining reader.new) (W.contents writer.old) (W.contents writer.new) result }
     // At the end of the input all that was written is the plain interpreter's text, unless a line of it tells that memory was wanting.
     ensures text { OnOk result ((input : List ℕ) × (text : List ℕ) × Consumes (R.remaining reader.old) (R.remaining reader.new) input × IsAtEnd (R.remaining reader.new)
@@ -55,9 +55,9 @@ pub fn run_script_within<R: Read, W: Write>(
     reader: &mut R,
     writer: &mut W,
 ) -> Result<(), Fault>
-    ensures seen { (first : ScriptState) × (last : ScriptState) × Begins limits first × (length last.seen.issued ≤ jobs) × Conversed ScriptStep first last
+    ensures seen { (first : ScriptState) × (last : ScriptState) × Begins limits first × (length last.seen.issued ≤ jobs) × LinesServed ScriptStep first last
         (R.remaining reader.old) (R.remaining reader.new) (W.contents writer.old) (W.contents writer.new) result }
-    ensures plain { (last : Plain) × Conversed PlainStep (start limits) last
+    ensures plain { (last : Plain) × LinesServed PlainStep (start limits) last
         (R.remaining reader.old) (R.remaining reader.new) (W.contents writer.old) (W.contents writer.new) result }
     ensures text { OnOk result ((input : List ℕ) × (text : List ℕ) × Consumes (R.remaining reader.old) (R.remaining reader.new) input × IsAtEnd (R.remaining reader.new)
         × Appends (W.contents writer.old) (W.contents writer.new) text × (NeverWants text → IsPlainText limits input text)) }
@@ -74,7 +74,7 @@ pub(crate) fn answer_script<R: Read, W: Write>(
     writer: &mut W,
 ) -> Result<(), Fault>
     requires { IsLegalInLimits standing.live.history }
-    ensures { (last : ScriptState) × (length last.seen.issued ≤ jobs) × Conversed ScriptStep (state_of standing []) last
+    ensures { (last : ScriptState) × (length last.seen.issued ≤ jobs) × LinesServed ScriptStep (state_of standing []) last
         (R.remaining reader.old) (R.remaining reader.new) (W.contents writer.old) (W.contents writer.new) result }
 {
     let mut script = Script {
@@ -82,7 +82,7 @@ pub(crate) fn answer_script<R: Read, W: Write>(
         issued: Issued::at_most(alloc, jobs),
         notes: Vec::new(alloc),
     };
-    let ended = converse(alloc, &mut script, reader, writer);
+    let ended = serve_lines(alloc, &mut script, reader, writer);
     drop(script);
     ended
 }
@@ -108,27 +108,27 @@ impl Model for Script {
     ghost invariant = { λ a. IsWorld six_operations a.standing.live a.issued.jobs };
 }
 
-impl Responder for Script {
+impl LineHandler for Script {
     ghost State = { Bounded };
 
     ghost state = { λ s. record { script = state_of s.standing s.jobs; most = s.most } };
 
     ghost step = { BoundedStep };
 
-    fn respond<W: Write>(
+    fn handle<W: Write>(
         &mut self,
         number: u32,
         line: &[u8],
-        outbox: &mut Outbox<'_, W>,
+        buffer: &mut ReplyBuffer<'_, W>,
     ) -> Result<(), Fault> {
-        outbox.make_room(ROOM)?;
+        buffer.make_room(ROOM)?;
         answer_line(
             &mut self.standing,
             &mut self.notes,
             &mut self.issued,
             number,
             read_line(line),
-            outbox,
+            buffer,
         )
     }
 }
@@ -140,24 +140,24 @@ fn answer_line<W: Write>(
     issued: &mut Issued<Six>,
     number: u32,
     line: Line<Command>,
-    outbox: &mut Outbox<'_, W>,
+    buffer: &mut ReplyBuffer<'_, W>,
 ) -> Result<(), Fault>
     requires world { IsWorld six_operations standing.old.live issued.old.jobs }
-    requires room { HasRoom outbox.old.held.now ROOM }
-    ensures places { SamePlaces outbox.old outbox.new }
+    requires room { HasRoom buffer.old.held.now ROOM }
+    ensures places { SamePlaces buffer.old buffer.new }
     ensures ok { OnOk result ((reply : List ℕ) × LineAnswer (state_of standing.old issued.old.jobs) number line reply (state_of standing.new issued.new.jobs)
-        × Puts W.contents outbox.old outbox.new reply) }
+        × Puts W.contents buffer.old buffer.new reply) }
     ensures fault { IfErr result (λ fault. (fault ≡ Fault.WriteFault) × (reply : List ℕ)
         × LineAnswer (state_of standing.old issued.old.jobs) number line reply (state_of standing.new issued.new.jobs)
-        × PutsFront W.contents outbox.old outbox.new reply) }
+        × PutsFront W.contents buffer.old buffer.new reply) }
     ensures world { IsWorld six_operations standing.new.live issued.new.jobs }
     ensures most { issued.new.most ≡ issued.old.most }
     ensures few { length issued.old.jobs ≤ issued.old.most → length issued.new.jobs ≤ issued.new.most }
 {
     match line {
         Line::Nothing => {}
-        Line::Bad => put_bad(outbox.held, number),
-        Line::Do(command) => return answer(standing, notes, issued, command, outbox),
+        Line::Bad => put_bad(buffer.held, number),
+        Line::Do(command) => return answer(standing, notes, issued, command, buffer),
     }
     Ok(())
 }

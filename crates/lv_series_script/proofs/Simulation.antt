@@ -4,8 +4,8 @@ use Rattle.std.specs.Option.{option_map_or}
 use Rattle.std.proofs.lemmas.List.{length_push}
 use Rattle.std.proofs.lemmas.List.Sums.{fold_push}
 use Rattle.lv_lines.specs.declared.fault.Fault.{Fault}
-use Rattle.lv_lines.specs.Replies.{Conversed}
-use Rattle.lv_lines.proofs.Conversing.{conversed_as}
+use Rattle.lv_lines.specs.Replies.{LinesServed}
+use Rattle.lv_lines.proofs.LineLoopLaws.{lines_served_as}
 use Rattle.lv_series.specs.declared.edits.LongEdit.{LongEdit}
 use Rattle.lv_series.specs.Series.{changed}
 use Rattle.lv_series_script.specs.declared.long_commands.LongCommand.{LongCommand}
@@ -68,8 +68,8 @@ unfolding KnownStep
 known_moves k s n line text u fits step = told_plain s n line text u (subst (λ k. Tells k n (long_line_of line) text u) fits step)
 
 -- a conversation that begins with nothing
-pub conversed_plain : {R : Type 0} (first last : Known) (a b k l : Option (List ℕ)) (result : Result R Fault) → first ≡ known_by start → Conversed KnownStep first last a b k l result
-    → (end : Plain) × Conversed PlainStep start end a b k l result
-conversed_plain first last a b k l result begins c =
-    let came = conversed_as Fits (record { moves = known_moves }) first start last a b k l result begins c in
+pub lines_served_plain : {R : Type 0} (first last : Known) (a b k l : Option (List ℕ)) (result : Result R Fault) → first ≡ known_by start → LinesServed KnownStep first last a b k l result
+    → (end : Plain) × LinesServed PlainStep start end a b k l result
+lines_served_plain first last a b k l result begins c =
+    let came = lines_served_as Fits (record { moves = known_moves }) first start last a b k l result begins c in
     (came.0, came.2)

@@ -16,7 +16,7 @@ use Rattle.lv_series.specs.Series.{changed, element_at, receipt_of, size_of, sli
 use Rattle.lv_lines.specs.declared.fault.Fault.{Fault}
 use Rattle.lv_lines.specs.Grammar.{kind_name}
 use Rattle.lv_lines.specs.Input.{lines_of, unended_of, whole_lines_of}
-use Rattle.lv_lines.specs.Replies.{Answered, Conversed}
+use Rattle.lv_lines.specs.Replies.{Answered, LinesServed}
 use Rattle.lv_lines.specs.Texts.{named_text, note_text, refused_text, reply_line, scan_head, scan_name, scan_text, scanned_text, shown_text, refused_by}
 use Rattle.lv_lines.proofs.InputLemmas.{lines_of-append, unended_of-append, whole_lines_of-ended}
 use Rattle.lv_script.specs.PlainRuns.{NeverWants}
@@ -167,7 +167,7 @@ room_text s last n (line ∷ lines) text (reply, rest, mid, step, more, is) neve
     is ∙ ap₂ ◌++◌ one.0 (room_text mid last (n + 1) lines rest more one.2 ∙ ap (λ m. plain_text m (n + 1) lines) one.1)
 
 -- what a conversation wrote that came to the end of its input
-pub written_plain : {T : Type 0} (last : Plain) (a b k l : Option (List ℕ)) (result : Result T Fault) → Conversed PlainStep start last a b k l result
+pub written_plain : {T : Type 0} (last : Plain) (a b k l : Option (List ℕ)) (result : Result T Fault) → LinesServed PlainStep start last a b k l result
     → OnOk result ((input : List ℕ) × (text : List ℕ) × Consumes a b input × IsAtEnd b × Appends k l text × (NeverWants text → IsPlainText input text))
 written_plain last a b k l (Ok done) c =
     let all = c.ends.2 in

@@ -18,7 +18,8 @@ use crate::watched::Watched;
 use lv_bodies::{Kind, Name};
 use lv_geometry::Refusal;
 use lv_lines::{
-    Fault, LINE, Outbox, put_answer, put_named, put_refused, put_size, put_unwatched, put_watching,
+    Fault, LINE, ReplyBuffer, put_answer, put_named, put_refused, put_size, put_unwatched,
+    put_watching,
 };
 use lv_series::{LongEdit, Series};
 use lv_tree::Bound;
@@ -32,42 +33,42 @@ pub fn answer<W: Write>(
     series: &mut Series,
     entries: &mut Vec<Watched>,
     command: LongCommand,
-    outbox: &mut Outbox<'_, W>,
+    buffer: &mut ReplyBuffer<'_, W>,
 ) -> Result<(), Fault>
     requires ready { IsReady series.old entries.old.items }
-    requires room { HasRoom outbox.old.held.now ROOM }
-    ensures places { SamePlaces outbox.old outbox.new }
+    requires room { HasRoom buffer.old.held.now ROOM }
+    ensures places { SamePlaces buffer.old buffer.new }
     ensures ok { OnOk result ((reply : List ℕ) × Told (known_of series.old entries.old.items) command reply (known_of series.new entries.new.items)
-        × Puts W.contents outbox.old outbox.new reply) }
+        × Puts W.contents buffer.old buffer.new reply) }
     ensures fault { IfErr result (λ fault. (fault ≡ Fault.WriteFault) × (reply : List ℕ)
         × Told (known_of series.old entries.old.items) command reply (known_of series.new entries.new.items)
-        × PutsFront W.contents outbox.old outbox.new reply) }
+        × PutsFront W.contents buffer.old buffer.new reply) }
     ensures ready { IsReady series.new entries.new.items }
 {
     match command {
-        LongCommand::Edit(edit) => put_edit(series, entries, edit, outbox.held),
-        LongCommand::First => put_front(series, outbox.held),
-        LongCommand::Size => put_extent(series, outbox.held),
-        LongCommand::Get(i) => put_element_at(series, i, outbox.held),
-        LongCommand::Reduce { kind, lo, hi } => put_reduced(series, kind, lo, hi, outbox.held),
+        LongCommand::Edit(edit) => put_edit(series, entries, edit, buffer.held),
+        LongCommand::First => put_front(series, buffer.held),
+        LongCommand::Size => put_extent(series, buffer.held),
+        LongCommand::Get(i) => put_element_at(series, i, buffer.held),
+        LongCommand::Reduce { kind, lo, hi } => put_reduced(series, kind, lo, hi, buffer.held),
         LongCommand::Scan {
             inclusive,
             kind,
             lo,
             hi,
         } => {
-            return answer_scan(series, outbox, inclusive, kind, lo, hi);
+            return answer_scan(series, buffer, inclusive, kind, lo, hi);
         }
-        LongCommand::Find { sought, lo, hi } => put_index_of(series, sought, lo, hi, outbox.held),
-        LongCommand::BestRun { lo, hi } => put_run_of(series, lo, hi, outbox.held),
+        LongCommand::Find { sought, lo, hi } => put_index_of(series, sought, lo, hi, buffer.held),
+        LongCommand::BestRun { lo, hi } => put_run_of(series, lo, hi, buffer.held),
         LongCommand::Watch {
             name,
             kind,
             span,
             bound,
-        } => put_watch(series, entries, name, kind, span, bound, outbox.held),
-        LongCommand::Unwatch(name) => put_unwatch(entries, name, outbox.held),
-        LongCommand::Answer(name) => put_named_answer(series, entries, name, outbox.held),
+        } => put_watch(series, entries, name, kind, span, bound, buffer.held),
+        LongCommand::Unwatch(name) => put_unwatch(entries, name, buffer.held),
+        LongCommand::Answer(name) => put_named_answer(series, entries, name, buffer.held),
     }
     Ok(())
 }
@@ -135,26 +136,26 @@ fn put_reduced(series: &mut Series, kind: Kind, lo: u64, hi: u64, held: &mut Vec
 // A scan of a range, or why the range is refused.
 fn answer_scan<W: Write>(
     series: &Series,
-    outbox: &mut Outbox<'_, W>,
+    buffer: &mut ReplyBuffer<'_, W>,
     inclusive: bool,
     kind: Kind,
     lo: u64,
     hi: u64,
 ) -> Result<(), Fault>
-    requires room { HasRoom outbox.old.held.now ROOM }
-    ensures places { SamePlaces outbox.old outbox.new }
+    requires room { HasRoom buffer.old.held.now ROOM }
+    ensures places { SamePlaces buffer.old buffer.new }
     ensures ok { OnOk result ((reply : List ℕ)
         × ((entries : List Entry) → Told (known_of series.now entries) (LongCommand.Scan inclusive kind lo hi) reply (known_of series.now entries))
-        × Puts W.contents outbox.old outbox.new reply) }
+        × Puts W.contents buffer.old buffer.new reply) }
     ensures fault { IfErr result (λ fault. (fault ≡ Fault.WriteFault) × (reply : List ℕ)
         × ((entries : List Entry) → Told (known_of series.now entries) (LongCommand.Scan inclusive kind lo hi) reply (known_of series.now entries))
-        × PutsFront W.contents outbox.old outbox.new reply) }
+        × PutsFront W.contents buffer.old buffer.new reply) }
 {
     series.holds();
     match series.elements(lo, hi) {
-        Ok(elements) => put_scan(outbox, series.edits(), inclusive, kind, elements),
+        Ok(elements) => put_scan(buffer, series.edits(), inclusive, kind, elements),
         Err(refusal) => {
-            put_refused(outbox.held, refusal.number());
+            put_refused(buffer.held, refusal.number());
             Ok(())
         }
     }

@@ -2,7 +2,7 @@
 ghost use Rattle.std.specs.Prelude.{◌≡◌, List, ℕ, IfErr, OnOk};
 ghost use Rattle.std.specs.Io.KnownBytes.{Appends, Consumes, IsAtEnd};
 ghost use Rattle.lv_lines.specs.Output.{HasRoom, Puts, PutsFront, SamePlaces};
-ghost use Rattle.lv_lines.specs.Replies.{Conversed};
+ghost use Rattle.lv_lines.specs.Replies.{LinesServed};
 ghost use Rattle.lv_script.specs.PlainRuns.{NeverWants};
 ghost use Rattle.lv_series_script.specs.Inside.{IsReady, KnownStep, Tells, known_of};
 ghost use Rattle.lv_series_script.specs.PlainSeriesScript.{Known, Plain, start};
@@ -13,7 +13,7 @@ use crate::long_commands::LongCommand;
 use crate::long_grammar::read_long_line;
 use crate::watched::Watched;
 use lv_bodies::Automaton;
-use lv_lines::{Fault, Line, Outbox, Responder, converse, put_bad};
+use lv_lines::{Fault, Line, LineHandler, ReplyBuffer, put_bad, serve_lines};
 use lv_series::Series;
 use std::alloc::Global;
 use std::io::{Read, Write};
@@ -30,7 +30,7 @@ pub fn run_series_script<R: Read, W: Write>(
     writer: &mut W,
 ) -> Result<(), Fault>
     // Line by line the replies are those of the plain interpreter, which knows edits and standing queries alone.
-    ensures plain { (last : Plain) × Conversed PlainStep start last
+    ensures plain { (last : Plain) × LinesServed PlainStep start last
         (R.remaining reader.old) (R.remaining reader.new) (W.contents writer.old) (W.contents writer.new) result }
     // At the end of the input all that was written is the plain interpreter's text, unless a line of it tells that memory was wanting.
     ensures text { OnOk result ((input : List ℕ) × (text : List ℕ) × Consumes (R.remaining reader.old) (R.remaining reader.new) input × IsAtEnd (R.remaining reader.new)
@@ -40,7 +40,7 @@ pub fn run_series_script<R: Read, W: Write>(
         series: Series::new(alloc, Automaton::program()),
         entries: Vec::new(alloc),
     };
-    let ended = converse(alloc, &mut script, reader, writer);
+    let ended = serve_lines(alloc, &mut script, reader, writer);
     drop(script);
     ended
 }
@@ -63,26 +63,26 @@ impl Model for SeriesScript {
     ghost invariant = { λ a. IsReady a.series a.entries.items };
 }
 
-impl Responder for SeriesScript {
+impl LineHandler for SeriesScript {
     ghost State = { Known };
 
     ghost state = { λ s. s };
 
     ghost step = { KnownStep };
 
-    fn respond<W: Write>(
+    fn handle<W: Write>(
         &mut self,
         number: u32,
         line: &[u8],
-        outbox: &mut Outbox<'_, W>,
+        buffer: &mut ReplyBuffer<'_, W>,
     ) -> Result<(), Fault> {
-        outbox.make_room(ROOM)?;
+        buffer.make_room(ROOM)?;
         answer_line(
             &mut self.series,
             &mut self.entries,
             number,
             read_long_line(line),
-            outbox,
+            buffer,
         )
     }
 }
@@ -93,22 +93,22 @@ fn answer_line<W: Write>(
     entries: &mut Vec<Watched>,
     number: u32,
     line: Line<LongCommand>,
-    outbox: &mut Outbox<'_, W>,
+    buffer: &mut ReplyBuffer<'_, W>,
 ) -> Result<(), Fault>
     requires ready { IsReady series.old entries.old.items }
-    requires room { HasRoom outbox.old.held.now ROOM }
-    ensures places { SamePlaces outbox.old outbox.new }
+    requires room { HasRoom buffer.old.held.now ROOM }
+    ensures places { SamePlaces buffer.old buffer.new }
     ensures ok { OnOk result ((reply : List ℕ) × Tells (known_of series.old entries.old.items) number line reply (known_of series.new entries.new.items)
-        × Puts W.contents outbox.old outbox.new reply) }
+        × Puts W.contents buffer.old buffer.new reply) }
     ensures fault { IfErr result (λ fault. (fault ≡ Fault.WriteFault) × (reply : List ℕ)
         × Tells (known_of series.old entries.old.items) number line reply (known_of series.new entries.new.items)
-        × PutsFront W.contents outbox.old outbox.new reply) }
+        × PutsFront W.contents buffer.old buffer.new reply) }
     ensures ready { IsReady series.new entries.new.items }
 {
     match line {
         Line::Nothing => {}
-        Line::Bad => put_bad(outbox.held, number),
-        Line::Do(command) => return answer(series, entries, command, outbox),
+        Line::Bad => put_bad(buffer.held, number),
+        Line::Do(command) => return answer(series, entries, command, buffer),
     }
     Ok(())
 }

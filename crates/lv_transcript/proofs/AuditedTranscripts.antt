@@ -8,7 +8,7 @@ use Rattle.lv_lines.specs.declared.fault.Fault.{Fault}
 use Rattle.lv_lines.specs.declared.fault.Fault.TheVariants as fault
 use Rattle.lv_lines.specs.Input.{lines_of}
 use Rattle.lv_lines.specs.Output.{Writes, WritesFront}
-use Rattle.lv_lines.specs.Replies.{Answered, AnswersAll, AnswersFront, Conversed, IsNotTooLong}
+use Rattle.lv_lines.specs.Replies.{Answered, AnswersAll, AnswersFront, LinesServed, IsNotTooLong}
 use Rattle.lv_lines.proofs.OutputLemmas.{Writes-put, WritesFront-after, Writes-trans}
 use Rattle.lv_lines.proofs.PrintedWords.{IsPrintable}
 use Rattle.lv_transcript.specs.declared.auditor.Stage.{Stage}
@@ -135,7 +135,7 @@ front_nothing old new lines before after a =
 
 module _ {remaining_old remaining_new before : Option (List ℕ)} (old new : CountedState) (after : Option (List ℕ)) where
   -- a conversation that ended by a fault wrote nothing
-  pub Audited-stopped : (T : Type 0) (f : Fault) → Conversed CountedStep {T = T} old new remaining_old remaining_new before after (Err f) → Audited remaining_old remaining_new before after (Err f)
+  pub Audited-stopped : (T : Type 0) (f : Fault) → LinesServed CountedStep {T = T} old new remaining_old remaining_new before after (Err f) → Audited remaining_old remaining_new before after (Err f)
   Audited-stopped T fault.NoMemory c = record { seen = c.seen; read = c.read; few = c.few; ends = rw c.ends.2 (Appends-nil before) }
   Audited-stopped T fault.ReadFault c = record { seen = c.seen; read = c.read; few = c.few; ends = (c.ends.0, all_nothing old new _ before after c.ends.1) }
   Audited-stopped T fault.TooLong c = record { seen = c.seen; read = c.read; few = c.few; ends = (c.ends.0, all_nothing old new _ before after c.ends.1) }
@@ -147,11 +147,11 @@ module _ {remaining_old remaining_new before : Option (List ℕ)} (old new : Cou
   }
 
   -- there was no memory for the edits
-  pub Audited-starved : {T : Type 0} (x : T) → Conversed CountedStep {T = T} old new remaining_old remaining_new before after (Ok x) → Audited remaining_old remaining_new before after (Err fault.NoMemory)
+  pub Audited-starved : {T : Type 0} (x : T) → LinesServed CountedStep {T = T} old new remaining_old remaining_new before after (Ok x) → Audited remaining_old remaining_new before after (Err fault.NoMemory)
   Audited-starved x c = record { seen = c.seen; read = c.read; few = c.few; ends = all_nothing old new _ before after c.ends.2 }
 
   -- the verdict was written
-  pub Audited-sent : {T : Type 0} (x : T) (verdict : Verdict) (held : List ℕ) (last : Option (List ℕ)) → old.audit ≡ start_state → old.lines ≡ 0 → Conversed CountedStep {T = T} old new remaining_old remaining_new before after (Ok x)
+  pub Audited-sent : {T : Type 0} (x : T) (verdict : Verdict) (held : List ℕ) (last : Option (List ℕ)) → old.audit ≡ start_state → old.lines ≡ 0 → LinesServed CountedStep {T = T} old new remaining_old remaining_new before after (Ok x)
       → IsVerdictAt new.audit.stage new.lines verdict → held ≡ verdict_text verdict → Appends after last held
       → Audited remaining_old remaining_new before last (Ok verdict)
   Audited-sent x verdict held last start none c told put sent = record {
@@ -166,7 +166,7 @@ module _ {remaining_old remaining_new before : Option (List ℕ)} (old new : Cou
   }
 
   -- or no more than a front of it
-  pub Audited-unsent : {T : Type 0} (x : T) (verdict : Verdict) (held : List ℕ) (last : Option (List ℕ)) → old.audit ≡ start_state → old.lines ≡ 0 → Conversed CountedStep {T = T} old new remaining_old remaining_new before after (Ok x)
+  pub Audited-unsent : {T : Type 0} (x : T) (verdict : Verdict) (held : List ℕ) (last : Option (List ℕ)) → old.audit ≡ start_state → old.lines ≡ 0 → LinesServed CountedStep {T = T} old new remaining_old remaining_new before after (Ok x)
       → IsVerdictAt new.audit.stage new.lines verdict → held ≡ verdict_text verdict → WritesFront after held last []
       → Audited remaining_old remaining_new before last (Err fault.WriteFault)
   Audited-unsent x verdict held last start none c told put unsent =

@@ -9,7 +9,7 @@ use Rattle.lv_lines.specs.declared.fault.Fault.{Fault}
 use Rattle.lv_lines.specs.declared.fault.Fault.TheVariants as fault
 use Rattle.lv_lines.specs.Input.{whole_lines_of}
 use Rattle.lv_lines.specs.Output.{Writes, WritesFront}
-use Rattle.lv_lines.specs.Replies.{Answered, Conversed}
+use Rattle.lv_lines.specs.Replies.{Answered, LinesServed}
 use Rattle.lv_lines.proofs.OutputLemmas.{Writes-put, WritesFront-after}
 use Rattle.lv_transcript.specs.declared.auditor.Stage.{Stage}
 use Rattle.lv_transcript.specs.declared.auditor.Stage.TheVariants.{Start, Edits, AnswersFollow, End, NoMemory}
@@ -166,7 +166,7 @@ right_at seen text new verdict NoMemory at a told =
 module _ {remaining rest before after : Option (List ℕ)} (old : FrontState) where
   -- the input was read to its end
   pub ReadsFront-found : (T : Type 0) (stage : Stage) (edits : History) (last lines : ℕ) (result : Result FoundFront Fault) → old ≡ front_start
-      → Conversed FrontStep {T = T} old (front_at stage edits last lines) remaining rest before after (Err fault.ReadFault) → IsAtEnd rest
+      → LinesServed FrontStep {T = T} old (front_at stage edits last lines) remaining rest before after (Err fault.ReadFault) → IsAtEnd rest
       → MatchResult result (λ found. (found.edits ≡ edits) × IsFoundAt stage lines (length edits.journal) found.verdict) (λ f. f ≡ fault.NoMemory)
       → ReadsFront remaining result
   ReadsFront-found T stage edits last lines (Ok found) start c end told = record {
@@ -183,14 +183,14 @@ module _ {remaining rest before after : Option (List ℕ)} (old : FrontState) wh
   ReadsFront-found T stage edits last lines (Err f) start c end told = rw told record { rest = rest; seen = c.seen; read = c.read; few = c.few; ends = tt }
 
   -- it was not
-  pub ReadsFront-stopped : (T : Type 0) (new : FrontState) (f : Fault) → Conversed FrontStep {T = T} old new remaining rest before after (Err f) → ReadsFront remaining (Err f)
+  pub ReadsFront-stopped : (T : Type 0) (new : FrontState) (f : Fault) → LinesServed FrontStep {T = T} old new remaining rest before after (Err f) → ReadsFront remaining (Err f)
   ReadsFront-stopped T new fault.NoMemory c = record { rest = rest; seen = c.seen; read = c.read; few = c.few; ends = tt }
   ReadsFront-stopped T new fault.ReadFault c = record { rest = rest; seen = c.seen; read = c.read; few = c.few; ends = c.ends.0 }
   ReadsFront-stopped T new fault.TooLong c = record { rest = rest; seen = c.seen; read = c.read; few = c.few; ends = c.ends.0 }
   ReadsFront-stopped T new fault.WriteFault c = record { rest = rest; seen = c.seen; read = c.read; few = c.few; ends = tt }
 
   -- a reader that finds its end fails there, so this is never met
-  pub ReadsFront-ended : (T : Type 0) (x : T) (new : FrontState) → Conversed FrontStep {T = T} old new remaining rest before after (Ok x) → ReadsFront remaining (Err fault.ReadFault)
+  pub ReadsFront-ended : (T : Type 0) (x : T) (new : FrontState) → LinesServed FrontStep {T = T} old new remaining rest before after (Ok x) → ReadsFront remaining (Err fault.ReadFault)
   ReadsFront-ended T x new c = record { rest = rest; seen = c.seen; read = c.read; few = c.few; ends = c.ends.1 }
 
 -- ---- how the audit ends

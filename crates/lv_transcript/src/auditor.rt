@@ -15,7 +15,8 @@ use lv_bodies::Shown;
 use lv_edits::{Edit, Edits};
 use lv_geometry::Limits;
 use lv_lines::{
-    Fault, LINE, Outbox, Responder, converse, put, put_bad, put_number, put_shown, write_whole,
+    Fault, LINE, LineHandler, ReplyBuffer, put, put_bad, put_number, put_shown, serve_lines,
+    write_whole,
 };
 use std::alloc::{AllocError, Global};
 use std::io::{Read, Write};
@@ -50,7 +51,7 @@ pub fn audit<R: Read, W: Write>(
     let Ok(mut held) = Vec::with_capacity(alloc, LINE) else {
         return Err(Fault::NoMemory);
     };
-    converse(alloc, &mut auditor, reader, writer)?;
+    serve_lines(alloc, &mut auditor, reader, writer)?;
     let verdict = auditor.verdict()?;
     put_verdict(&mut held, verdict);
     write_whole(writer, held.as_slice())?;
@@ -111,18 +112,18 @@ pub(crate) struct Auditor {
     ghost kept: { AreKept replay.folds replay.list.items },
 }
 
-impl Responder for Auditor {
+impl LineHandler for Auditor {
     ghost State = { CountedState };
 
     ghost state = { λ a. counted_at a.stage a.edits a.replay.edit a.lines };
 
     ghost step = { CountedStep };
 
-    fn respond<W: Write>(
+    fn handle<W: Write>(
         &mut self,
         number: u32,
         line: &[u8],
-        _outbox: &mut Outbox<'_, W>,
+        _outbox: &mut ReplyBuffer<'_, W>,
     ) -> Result<(), Fault> {
         self.take_line(number, line);
         Ok(())

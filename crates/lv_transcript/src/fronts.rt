@@ -8,7 +8,9 @@ ghost use Rattle.lv_transcript.specs.Fronts.{FrontAudited, ReadsFront, front_tex
 use crate::auditor::{Auditor, Stage};
 use crate::whole_lines::WholeLines;
 use lv_edits::Edits;
-use lv_lines::{Fault, LINE, Outbox, Responder, converse, put, put_bad, put_number, write_whole};
+use lv_lines::{
+    Fault, LINE, LineHandler, ReplyBuffer, put, put_bad, put_number, serve_lines, write_whole,
+};
 use std::alloc::{AllocError, Global};
 use std::io;
 use std::io::{Read, Write};
@@ -96,7 +98,7 @@ pub fn read_front<R: Read + Drop>(alloc: Global, reader: R) -> Result<FoundFront
         return Err(Fault::NoMemory);
     };
     let mut whole = WholeLines::new(reader);
-    match converse(alloc, &mut auditor, &mut whole, &mut io::sink()) {
+    match serve_lines(alloc, &mut auditor, &mut whole, &mut io::sink()) {
         Err(Fault::ReadFault) if whole.is_at_end() => auditor.found(),
         Err(fault) => Err(fault),
         // Never: the reader fails at its end.
@@ -112,18 +114,18 @@ struct FrontAuditor {
     lines: u32,
 }
 
-impl Responder for FrontAuditor {
+impl LineHandler for FrontAuditor {
     ghost State = { FrontState };
 
     ghost state = { λ a. front_at a.auditor.stage a.auditor.edits a.auditor.replay.edit a.lines };
 
     ghost step = { FrontStep };
 
-    fn respond<W: Write>(
+    fn handle<W: Write>(
         &mut self,
         number: u32,
         line: &[u8],
-        _outbox: &mut Outbox<'_, W>,
+        _outbox: &mut ReplyBuffer<'_, W>,
     ) -> Result<(), Fault> {
         self.auditor.take_line(number, line);
         self.auditor.reopen();

@@ -7,7 +7,7 @@ ghost use Rattle.lv_transcript.specs.Scribing.{EndsWhole, Rests, Scribed, Scribe
 use crate::claimed::Claimed;
 use crate::transcripts::{write_answer, write_edit, write_end};
 use lv_edits::Edit;
-use lv_lines::{Fault, HELD, Outbox, put};
+use lv_lines::{Fault, HELD, ReplyBuffer, put};
 use std::alloc::{AllocError, Global};
 use std::io::Write;
 use std::marker::Model;
@@ -23,7 +23,7 @@ pub struct Scribe<W: Write + Drop> {
 
 impl<W: Write + Drop> Model for Scribe<W> {
     ghost use Rattle.std.specs.Prelude.{◌≤◌, vec_capacity};
-    ghost use Rattle.lv_lines.specs.declared.sender.TheConstants.{HELD};
+    ghost use Rattle.lv_lines.specs.declared.output.TheConstants.{HELD};
     ghost use Rattle.lv_transcript.specs.Scribing.{ScribeState};
 
     ghost Value = { ScribeState };
@@ -54,11 +54,11 @@ impl<W: Write + Drop> Scribe<W> {
         if self.failed {
             return;
         }
-        let mut outbox = Outbox {
+        let mut buffer = ReplyBuffer {
             writer: &mut self.writer,
             held: &mut self.held,
         };
-        match write_edit(*edit, &mut outbox) {
+        match write_edit(*edit, &mut buffer) {
             Ok(()) => {}
             Err(_) => self.failed = true,
         }
@@ -71,11 +71,11 @@ impl<W: Write + Drop> Scribe<W> {
         if self.failed {
             return;
         }
-        let mut outbox = Outbox {
+        let mut buffer = ReplyBuffer {
             writer: &mut self.writer,
             held: &mut self.held,
         };
-        match write_answer(*answer, &mut outbox) {
+        match write_answer(*answer, &mut buffer) {
             Ok(()) => {}
             Err(_) => self.failed = true,
         }
@@ -89,11 +89,11 @@ impl<W: Write + Drop> Scribe<W> {
         if self.failed || self.held.is_empty() {
             return;
         }
-        let mut outbox = Outbox {
+        let mut buffer = ReplyBuffer {
             writer: &mut self.writer,
             held: &mut self.held,
         };
-        match outbox.send() {
+        match buffer.send() {
             Ok(()) => {}
             Err(_) => self.failed = true,
         }
@@ -126,10 +126,10 @@ impl<W: Write + Drop> Scribe<W> {
         if self.failed {
             return Err(Fault::WriteFault);
         }
-        let mut outbox = Outbox {
+        let mut buffer = ReplyBuffer {
             writer: &mut self.writer,
             held: &mut self.held,
         };
-        write_end(&mut outbox)
+        write_end(&mut buffer)
     }
 }

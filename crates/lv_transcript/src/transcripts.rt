@@ -9,7 +9,7 @@ use crate::claimed::Claimed;
 use crate::queues::{Queue, take_least};
 use crate::transcript_lines::{put_edit_line, put_question};
 use lv_edits::Edit;
-use lv_lines::{Fault, HELD, LINE, Outbox, put, put_shown};
+use lv_lines::{Fault, HELD, LINE, ReplyBuffer, put, put_shown};
 use std::alloc::Global;
 use std::io::Write;
 
@@ -54,26 +54,26 @@ pub fn write_joined_transcript<W: Write>(
         → OnOk result (IsSoundTranscript (transcript_text edits.now (joined queues.old.items))) }
     ensures fault { IfErr result (λ fault. fault ≡ Fault.WriteFault) }
 {
-    let mut outbox = Outbox { writer, held };
-    write_joined_lines(edits, queues, &mut outbox)
+    let mut buffer = ReplyBuffer { writer, held };
+    write_joined_lines(edits, queues, &mut buffer)
 }
 
-// Writes the lines of that transcript by an empty outbox.
+// Writes the lines of that transcript by an empty reply buffer.
 fn write_joined_lines<W: Write>(
     edits: &[Edit],
     queues: &mut Vec<Queue>,
-    outbox: &mut Outbox<'_, W>,
+    buffer: &mut ReplyBuffer<'_, W>,
 ) -> Result<(), Fault>
-    requires held { outbox.old.held.now.items ≡ [] }
-    ensures places { SamePlaces outbox.old outbox.new }
-    ensures text { Transcribes (W.contents outbox.old.writer.now) (W.contents outbox.new.writer.now) (transcript_text edits.now (joined queues.old.items)) result }
+    requires held { buffer.old.held.now.items ≡ [] }
+    ensures places { SamePlaces buffer.old buffer.new }
+    ensures text { Transcribes (W.contents buffer.old.writer.now) (W.contents buffer.new.writer.now) (transcript_text edits.now (joined queues.old.items)) result }
     ensures fits { OnOk result (All IsEdit edits.now) }
     ensures fault { IfErr result (λ fault. fault ≡ Fault.WriteFault) }
 {
-    put(outbox.held, b"livevec 1\n");
-    write_edits(edits, outbox)?;
-    write_queues(queues, outbox)?;
-    write_end(outbox)
+    put(buffer.held, b"livevec 1\n");
+    write_edits(edits, buffer)?;
+    write_queues(queues, buffer)?;
+    write_end(buffer)
 }
 
 // Writes a transcript by a buffer that was made for it.
@@ -88,93 +88,99 @@ fn write_by<W: Write>(
     ensures text { Transcribes (W.contents writer.old) (W.contents writer.new) (transcript_text edits.now answers.now) result }
     ensures fits { OnOk result (All IsEdit edits.now) }
 {
-    let mut outbox = Outbox { writer, held };
-    write_lines(edits, answers, &mut outbox)
+    let mut buffer = ReplyBuffer { writer, held };
+    write_lines(edits, answers, &mut buffer)
 }
 
-// Writes the lines of a transcript by an empty outbox.
+// Writes the lines of a transcript by an empty reply buffer.
 fn write_lines<W: Write>(
     edits: &[Edit],
     answers: &[Claimed],
-    outbox: &mut Outbox<'_, W>,
+    buffer: &mut ReplyBuffer<'_, W>,
 ) -> Result<(), Fault>
-    requires held { outbox.old.held.now.items ≡ [] }
-    ensures places { SamePlaces outbox.old outbox.new }
-    ensures text { Transcribes (W.contents outbox.old.writer.now) (W.contents outbox.new.writer.now) (transcript_text edits.now answers.now) result }
+    requires held { buffer.old.held.now.items ≡ [] }
+    ensures places { SamePlaces buffer.old buffer.new }
+    ensures text { Transcribes (W.contents buffer.old.writer.now) (W.contents buffer.new.writer.now) (transcript_text edits.now answers.now) result }
     ensures fits { OnOk result (All IsEdit edits.now) }
 {
-    put(outbox.held, b"livevec 1\n");
-    write_edits(edits, outbox)?;
-    write_answers(answers, outbox)?;
-    write_end(outbox)
+    put(buffer.held, b"livevec 1\n");
+    write_edits(edits, buffer)?;
+    write_answers(answers, buffer)?;
+    write_end(buffer)
 }
 
 // Writes the last line behind what is held, and all that is held then.
-pub(crate) fn write_end<W: Write>(outbox: &mut Outbox<'_, W>) -> Result<(), Fault>
-    ensures places { SamePlaces outbox.old outbox.new }
-    ensures ok { OnOk result ((outbox.new.held.now.items ≡ [])
-        × Puts W.contents outbox.old outbox.new (end_line ++ 10 ∷ [])) }
+pub(crate) fn write_end<W: Write>(buffer: &mut ReplyBuffer<'_, W>) -> Result<(), Fault>
+    ensures places { SamePlaces buffer.old buffer.new }
+    ensures ok { OnOk result ((buffer.new.held.now.items ≡ [])
+        × Puts W.contents buffer.old buffer.new (end_line ++ 10 ∷ [])) }
     ensures fault { IfErr result (λ fault. (fault ≡ Fault.WriteFault)
-        × PutsFront W.contents outbox.old outbox.new (end_line ++ 10 ∷ [])) }
+        × PutsFront W.contents buffer.old buffer.new (end_line ++ 10 ∷ [])) }
 {
-    outbox.make_room(LINE)?;
-    put(outbox.held, b"end\n");
-    outbox.send()
+    buffer.make_room(LINE)?;
+    put(buffer.held, b"end\n");
+    buffer.send()
 }
 
 // Writes the lines of the edits behind what is held.
-fn write_edits<W: Write>(edits: &[Edit], outbox: &mut Outbox<'_, W>) -> Result<(), Fault>
-    ensures places { SamePlaces outbox.old outbox.new }
-    ensures ok { OnOk result (Puts W.contents outbox.old outbox.new
+fn write_edits<W: Write>(edits: &[Edit], buffer: &mut ReplyBuffer<'_, W>) -> Result<(), Fault>
+    ensures places { SamePlaces buffer.old buffer.new }
+    ensures ok { OnOk result (Puts W.contents buffer.old buffer.new
         (flat_map (λ edit. edit_line edit ++ 10 ∷ []) edits.now)) }
     ensures fault { IfErr result (λ fault. (fault ≡ Fault.WriteFault)
-        × PutsFront W.contents outbox.old outbox.new (flat_map (λ edit. edit_line edit ++ 10 ∷ []) edits.now)) }
+        × PutsFront W.contents buffer.old buffer.new (flat_map (λ edit. edit_line edit ++ 10 ∷ []) edits.now)) }
     ensures fits { OnOk result (All IsEdit edits.now) }
 {
     for edit in edits {
-        write_edit(*edit, outbox)?;
+        write_edit(*edit, buffer)?;
     }
     Ok(())
 }
 
 // Writes the line of an edit behind what is held.
-pub(crate) fn write_edit<W: Write>(edit: Edit, outbox: &mut Outbox<'_, W>) -> Result<(), Fault>
-    ensures places { SamePlaces outbox.old outbox.new }
-    ensures ok { OnOk result (Puts W.contents outbox.old outbox.new (edit_line edit ++ 10 ∷ [])) }
+pub(crate) fn write_edit<W: Write>(edit: Edit, buffer: &mut ReplyBuffer<'_, W>) -> Result<(), Fault>
+    ensures places { SamePlaces buffer.old buffer.new }
+    ensures ok { OnOk result (Puts W.contents buffer.old buffer.new (edit_line edit ++ 10 ∷ [])) }
     ensures fault { IfErr result (λ fault. (fault ≡ Fault.WriteFault)
-        × PutsFront W.contents outbox.old outbox.new []) }
+        × PutsFront W.contents buffer.old buffer.new []) }
     ensures fits { OnOk result (IsEdit edit) }
 {
-    outbox.make_room(LINE)?;
-    put_edit_line(outbox.held, edit);
-    put(outbox.held, b"\n");
+    buffer.make_room(LINE)?;
+    put_edit_line(buffer.held, edit);
+    put(buffer.held, b"\n");
     Ok(())
 }
 
 // Writes the lines of the answers behind what is held.
-fn write_answers<W: Write>(answers: &[Claimed], outbox: &mut Outbox<'_, W>) -> Result<(), Fault>
-    ensures places { SamePlaces outbox.old outbox.new }
-    ensures ok { OnOk result (Puts W.contents outbox.old outbox.new
+fn write_answers<W: Write>(
+    answers: &[Claimed],
+    buffer: &mut ReplyBuffer<'_, W>,
+) -> Result<(), Fault>
+    ensures places { SamePlaces buffer.old buffer.new }
+    ensures ok { OnOk result (Puts W.contents buffer.old buffer.new
         (flat_map (λ answer. answer_line answer ++ 10 ∷ []) answers.now)) }
     ensures fault { IfErr result (λ fault. (fault ≡ Fault.WriteFault)
-        × PutsFront W.contents outbox.old outbox.new (flat_map (λ answer. answer_line answer ++ 10 ∷ []) answers.now)) }
+        × PutsFront W.contents buffer.old buffer.new (flat_map (λ answer. answer_line answer ++ 10 ∷ []) answers.now)) }
 {
     for answer in answers {
-        write_answer(*answer, outbox)?;
+        write_answer(*answer, buffer)?;
     }
     Ok(())
 }
 
 // Writes the lines of the answers in some queues behind what is held.
-fn write_queues<W: Write>(queues: &mut Vec<Queue>, outbox: &mut Outbox<'_, W>) -> Result<(), Fault>
-    ensures places { SamePlaces outbox.old outbox.new }
-    ensures ok { OnOk result (Puts W.contents outbox.old outbox.new
+fn write_queues<W: Write>(
+    queues: &mut Vec<Queue>,
+    buffer: &mut ReplyBuffer<'_, W>,
+) -> Result<(), Fault>
+    ensures places { SamePlaces buffer.old buffer.new }
+    ensures ok { OnOk result (Puts W.contents buffer.old buffer.new
         (flat_map (λ answer. answer_line answer ++ 10 ∷ []) (joined queues.old.items))) }
     ensures fault { IfErr result (λ fault. (fault ≡ Fault.WriteFault)
-        × PutsFront W.contents outbox.old outbox.new (flat_map (λ answer. answer_line answer ++ 10 ∷ []) (joined queues.old.items))) }
+        × PutsFront W.contents buffer.old buffer.new (flat_map (λ answer. answer_line answer ++ 10 ∷ []) (joined queues.old.items))) }
 {
     while let Some(answer) = take_least(queues) {
-        write_answer(answer, outbox)?;
+        write_answer(answer, buffer)?;
     }
     Ok(())
 }
@@ -182,16 +188,16 @@ fn write_queues<W: Write>(queues: &mut Vec<Queue>, outbox: &mut Outbox<'_, W>) -
 // Writes the line of an answer behind what is held.
 pub(crate) fn write_answer<W: Write>(
     answer: Claimed,
-    outbox: &mut Outbox<'_, W>,
+    buffer: &mut ReplyBuffer<'_, W>,
 ) -> Result<(), Fault>
-    ensures places { SamePlaces outbox.old outbox.new }
-    ensures ok { OnOk result (Puts W.contents outbox.old outbox.new (answer_line answer ++ 10 ∷ [])) }
+    ensures places { SamePlaces buffer.old buffer.new }
+    ensures ok { OnOk result (Puts W.contents buffer.old buffer.new (answer_line answer ++ 10 ∷ [])) }
     ensures fault { IfErr result (λ fault. (fault ≡ Fault.WriteFault)
-        × PutsFront W.contents outbox.old outbox.new []) }
+        × PutsFront W.contents buffer.old buffer.new []) }
 {
-    outbox.make_room(LINE)?;
-    put_question(outbox.held, answer.edit, answer.kind, answer.lo, answer.hi);
-    put_shown(outbox.held, answer.value);
-    put(outbox.held, b"\n");
+    buffer.make_room(LINE)?;
+    put_question(buffer.held, answer.edit, answer.kind, answer.lo, answer.hi);
+    put_shown(buffer.held, answer.value);
+    put(buffer.held, b"\n");
     Ok(())
 }

@@ -9,7 +9,7 @@ use Rattle.lv_lines.specs.declared.lines.Line.{Line}
 use Rattle.lv_lines.specs.declared.lines.Line.TheVariants.{Nothing, Do}
 use Rattle.lv_lines.specs.declared.fault.Fault.{Fault}
 use Rattle.lv_lines.specs.Grammar.{line_of}
-use Rattle.lv_lines.specs.Replies.{Conversed}
+use Rattle.lv_lines.specs.Replies.{LinesServed}
 use Rattle.lv_standing.specs.declared.queries.Query.{Query}
 use Rattle.lv_hub.specs.Notes.{question_refusal}
 use Rattle.lv_watchers.specs.declared.queries.Damage as damages
@@ -54,7 +54,7 @@ AskStep old n line text new = (text ≡ []) × TakesUnless old.damage old n (lin
 pub record AsksAll {T : Type 0} (remaining_old remaining_new : Option (List ℕ)) (asked : Asked) (result : Result T Fault) : Type 0 where
   pub before : Option (List ℕ)
   pub after : Option (List ℕ)
-  pub conversed : Conversed AskStep no_questions asked remaining_old remaining_new before after result
+  pub lines_served : LinesServed AskStep no_questions asked remaining_old remaining_new before after result
 
 -- what is found once all lines were taken
 abbrev pub Finds : {Z : Type 0} → Asked → Result (Vec Query Z) Unasked → Type 0

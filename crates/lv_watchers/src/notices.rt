@@ -6,7 +6,7 @@ ghost use Rattle.lv_lines.specs.Texts.{named_text};
 ghost use Rattle.lv_watchers.specs.Noticing.{WritesMore, notes_at, told_text};
 
 use lv_hub::Told;
-use lv_lines::{Fault, HELD, LINE, Outbox, put_named};
+use lv_lines::{Fault, HELD, LINE, ReplyBuffer, put_named};
 use lv_standing::Note;
 use std::alloc::{AllocError, Global};
 use std::io::Write;
@@ -23,7 +23,7 @@ pub struct Notices<F: Write + Drop> {
 
 impl<F: Write + Drop> Model for Notices<F> {
     ghost use Rattle.std.specs.Prelude.{◌≡◌, ◌≤◌, [], vec_capacity};
-    ghost use Rattle.lv_lines.specs.declared.sender.TheConstants.{HELD};
+    ghost use Rattle.lv_lines.specs.declared.output.TheConstants.{HELD};
     ghost use Rattle.lv_watchers.specs.Noticing.{NoticesState};
 
     ghost Value = { NoticesState };
@@ -52,11 +52,11 @@ impl<F: Write + Drop> Notices<F> {
         if self.failed {
             return;
         }
-        let mut outbox = Outbox {
+        let mut buffer = ReplyBuffer {
             writer: &mut self.writer,
             held: &mut self.held,
         };
-        match write_told(told, &mut outbox) {
+        match write_told(told, &mut buffer) {
             Ok(()) => {}
             Err(_) => {
                 self.held.clear();
@@ -74,34 +74,38 @@ impl<F: Write + Drop> Notices<F> {
 }
 
 // Writes the lines of what was told.
-fn write_told<W: Write>(told: &Told, outbox: &mut Outbox<'_, W>) -> Result<(), Fault>
-    ensures places { SamePlaces outbox.old outbox.new }
-    ensures ok { OnOk result ((outbox.new.held.now.items ≡ []) × Puts W.contents outbox.old outbox.new (told_text told.now)) }
-    ensures fault { IfErr result (λ fault. PutsFront W.contents outbox.old outbox.new (told_text told.now)) }
+fn write_told<W: Write>(told: &Told, buffer: &mut ReplyBuffer<'_, W>) -> Result<(), Fault>
+    ensures places { SamePlaces buffer.old buffer.new }
+    ensures ok { OnOk result ((buffer.new.held.now.items ≡ []) × Puts W.contents buffer.old buffer.new (told_text told.now)) }
+    ensures fault { IfErr result (λ fault. PutsFront W.contents buffer.old buffer.new (told_text told.now)) }
 {
-    put_all(told.edit, &told.notes, outbox)?;
-    outbox.send()
+    put_all(told.edit, &told.notes, buffer)?;
+    buffer.send()
 }
 
 // Puts the lines of notes at an edit.
-fn put_all<W: Write>(edit: u32, notes: &[Note], outbox: &mut Outbox<'_, W>) -> Result<(), Fault>
-    ensures places { SamePlaces outbox.old outbox.new }
-    ensures ok { OnOk result (Puts W.contents outbox.old outbox.new (notes_at edit notes.now)) }
-    ensures fault { IfErr result (λ fault. PutsFront W.contents outbox.old outbox.new (notes_at edit notes.now)) }
+fn put_all<W: Write>(
+    edit: u32,
+    notes: &[Note],
+    buffer: &mut ReplyBuffer<'_, W>,
+) -> Result<(), Fault>
+    ensures places { SamePlaces buffer.old buffer.new }
+    ensures ok { OnOk result (Puts W.contents buffer.old buffer.new (notes_at edit notes.now)) }
+    ensures fault { IfErr result (λ fault. PutsFront W.contents buffer.old buffer.new (notes_at edit notes.now)) }
 {
     for note in notes {
-        put_one(edit, note, outbox)?;
+        put_one(edit, note, buffer)?;
     }
     Ok(())
 }
 
 // Puts the line of a note at an edit.
-fn put_one<W: Write>(edit: u32, note: &Note, outbox: &mut Outbox<'_, W>) -> Result<(), Fault>
-    ensures places { SamePlaces outbox.old outbox.new }
-    ensures ok { OnOk result (Puts W.contents outbox.old outbox.new (named_text edit note.now.name note.now.value)) }
-    ensures fault { IfErr result (λ fault. PutsFront W.contents outbox.old outbox.new []) }
+fn put_one<W: Write>(edit: u32, note: &Note, buffer: &mut ReplyBuffer<'_, W>) -> Result<(), Fault>
+    ensures places { SamePlaces buffer.old buffer.new }
+    ensures ok { OnOk result (Puts W.contents buffer.old buffer.new (named_text edit note.now.name note.now.value)) }
+    ensures fault { IfErr result (λ fault. PutsFront W.contents buffer.old buffer.new []) }
 {
-    outbox.make_room(LINE)?;
-    put_named(outbox.held, edit.into(), note.name, note.value);
+    buffer.make_room(LINE)?;
+    put_named(buffer.held, edit.into(), note.name, note.value);
     Ok(())
 }

@@ -5,7 +5,7 @@ ghost use Rattle.lv_watchers.specs.Asking.{AskStep, Asked, Asks, Finds, ReadsQue
 
 use lv_geometry::Refusal;
 use lv_hub::{MOST_QUERIES, Query};
-use lv_lines::{Command, Fault, Line, Outbox, Responder, converse, read_line};
+use lv_lines::{Command, Fault, Line, LineHandler, ReplyBuffer, read_line, serve_lines};
 use std::alloc::Global;
 use std::io;
 use std::io::{Read, Write};
@@ -38,7 +38,7 @@ pub fn read_questions<R: Read>(alloc: Global, reader: &mut R) -> Result<Vec<Quer
         questions: Vec::new(alloc),
         damage: None,
     };
-    match converse(alloc, &mut asker, reader, &mut io::sink()) {
+    match serve_lines(alloc, &mut asker, reader, &mut io::sink()) {
         Ok(()) => found(asker),
         Err(fault) => Err(Unasked::Fault(fault)),
     }
@@ -51,18 +51,18 @@ struct Asker {
     damage: Option<Damage>,
 }
 
-impl Responder for Asker {
+impl LineHandler for Asker {
     ghost State = { Asked };
 
     ghost state = { λ a. record { questions = a.questions.items; damage = a.damage } };
 
     ghost step = { AskStep };
 
-    fn respond<W: Write>(
+    fn handle<W: Write>(
         &mut self,
         number: u32,
         line: &[u8],
-        _outbox: &mut Outbox<'_, W>,
+        _outbox: &mut ReplyBuffer<'_, W>,
     ) -> Result<(), Fault> {
         self.take(number, read_line(line));
         Ok(())

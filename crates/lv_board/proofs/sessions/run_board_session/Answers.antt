@@ -18,8 +18,8 @@ pub hold-requires-clause-right : goal.hold-requires-clause-right
 hold-requires-clause-right g c κs within s n line held u left done =
     rw c.requires.here.terms (of_call (λ s n line held u left. Line Call × IsAnswered g.B.BoardBody.folding g.B.Body.operations g.B.Single.the_kind g.B.Single.shown_as c.args.board.now.terms s n line held u left) s n line held u left done).1
 
-pub returns-clause-conversed : goal.returns-clause-conversed
-returns-clause-conversed g c = rw c.requires.here.terms at c.hold.ensures.conversed
+pub returns-clause-lines_served : goal.returns-clause-lines_served
+returns-clause-lines_served g c = rw c.requires.here.terms at c.hold.ensures.lines_served
 
 pub returns-clause-plain : goal.returns-clause-plain
 returns-clause-plain g c =
@@ -27,4 +27,4 @@ returns-clause-plain g c =
     session_plain (terms_of g.B.BoardBody.folding board.terms) (g.B.Body.operations board.terms.body) g.B.Single.the_kind (g.B.Single.shown_as board.terms.body) (g.B.Single.plain board.terms.body)
     (are_terms g.B.BoardBody.folding g.B.Parted.PARTS g.B.Parted.parts_of g.B.Body.operations board.terms (g.met.B.BoardBody g.world.𝓛 g.world.𝓜 g.world.𝓡 ((λ s x. x), (λ p. p), (λ n s. n s), (λ p. p))).keeps_parts g.B.Parted.some.1 g.B.Parted.are_parts board.basis)
     ((g.met.B.Single g.world.𝓛 g.world.𝓜 g.world.𝓡 ((λ s x. x), (λ p. p), (λ n s. n s), (λ p. p))).shows_plain board.terms.body)
-    _ _ _ _ _ _ _ (rw c.requires.here.terms at c.hold.ensures.conversed)
+    _ _ _ _ _ _ _ (rw c.requires.here.terms at c.hold.ensures.lines_served)

@@ -11,4 +11,4 @@ returns g c = λ old new xs ys text answered.
     let first = whole_lines_of xs in
     let later = lines_of (unended_of xs ++ ys) in
     let parts = ap (map (take 121)) (lines_of-append xs ys) ∙ map-append (take 121) first later in
-    Answered-split g.A.Responder.step old 1 (map (take 121) first) (map (take 121) later) text new (rw parts at answered)
+    Answered-split g.A.LineHandler.step old 1 (map (take 121) first) (map (take 121) later) text new (rw parts at answered)

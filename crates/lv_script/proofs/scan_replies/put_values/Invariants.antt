@@ -9,10 +9,10 @@ use Rattle.lv_script.proofs.scan_replies.put_values.Given as goal
 abbrev pub invariant-loop-value : goal.invariant-loop-value
 invariant-loop-value g l =
     record {
-      written : Puts g.W.Write.contents l.initial.outbox l.outbox
+      written : Puts g.W.Write.contents l.initial.buffer l.buffer
           (values_text (map (face_of l.kind) (take l.value-index l.values)));
-      idle : HasRoom l.initial.outbox.held.now (256 * length l.values)
-          → (l.outbox.writer.now ≡ l.initial.outbox.writer.now) × (vec_len l.outbox.held.now ≤ vec_len l.initial.outbox.held.now + 256 * l.value-index);
-      room : KeepsRoom l.initial.outbox.held.now l.outbox.held.now;
-      places : SamePlaces l.initial.outbox l.outbox;
+      idle : HasRoom l.initial.buffer.held.now (256 * length l.values)
+          → (l.buffer.writer.now ≡ l.initial.buffer.writer.now) × (vec_len l.buffer.held.now ≤ vec_len l.initial.buffer.held.now + 256 * l.value-index);
+      room : KeepsRoom l.initial.buffer.held.now l.buffer.held.now;
+      places : SamePlaces l.initial.buffer l.buffer;
     }

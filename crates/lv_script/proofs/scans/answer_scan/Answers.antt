@@ -9,7 +9,7 @@ returns-in-None-clause-ok g c =
     let granted = rw c.live-live.ensures.value at (sym c.refusal_of.ensures.value ∙ c.in-None.is) in
     let put = rw c.live-live.ensures.value at c.put_range_scan.ensures.ok in
     scan_put c.put_range_scan.result c.args.standing.now c.args.asked.now.inclusive c.args.asked.now.kind c.args.asked.now.lo c.args.asked.now.hi
-    (Puts g.W.Write.contents c.args.outbox.now c.put_range_scan.new.outbox)
+    (Puts g.W.Write.contents c.args.buffer.now c.put_range_scan.new.buffer)
     granted put
 
 pub returns-in-None-clause-fault : goal.returns-in-None-clause-fault
@@ -17,5 +17,5 @@ returns-in-None-clause-fault g c =
     let granted = rw c.live-live.ensures.value at (sym c.refusal_of.ensures.value ∙ c.in-None.is) in
     let front = rw c.live-live.ensures.value at c.put_range_scan.ensures.fault in
     scan_put_front c.put_range_scan.result c.args.standing.now c.args.asked.now.inclusive c.args.asked.now.kind c.args.asked.now.lo c.args.asked.now.hi
-    (PutsFront g.W.Write.contents c.args.outbox.now c.put_range_scan.new.outbox)
+    (PutsFront g.W.Write.contents c.args.buffer.now c.put_range_scan.new.buffer)
     granted front

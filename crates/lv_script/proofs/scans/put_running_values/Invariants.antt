@@ -15,7 +15,7 @@ invariant-loop-i g l =
     record {
       fold : l.sum ≡ fold_of (g.B.Body.operations body) (slice_of edits l.asked.lo l.i);
       within : g.B.Body.is_within body l.sum (l.i - l.asked.lo);
-      written : Puts g.W.Write.contents l.initial.outbox l.outbox
+      written : Puts g.W.Write.contents l.initial.buffer l.buffer
           (values_up_to (value_at (g.B.Single.plain l.body) l.asked.inclusive xs) (length xs) (l.i - l.asked.lo));
-      places : SamePlaces l.initial.outbox l.outbox;
+      places : SamePlaces l.initial.buffer l.buffer;
     }

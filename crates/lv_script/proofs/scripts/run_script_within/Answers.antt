@@ -3,7 +3,7 @@ use Rattle.std.proofs.Common.{[], ap, refl}
 use Rattle.lv_script.specs.Script.{ScriptState}
 use Rattle.lv_script.specs.Scripted.{state_of}
 use Rattle.lv_script.proofs.PlainRunLaws.{written_plain}
-use Rattle.lv_script.proofs.PlainStepLaws.{conversed_plain}
+use Rattle.lv_script.proofs.PlainStepLaws.{lines_served_plain}
 use Rattle.lv_script.proofs.scripts.run_script_within.Goals as goal
 
 pub returns-clause-seen : goal.returns-clause-seen
@@ -26,7 +26,7 @@ returns-clause-seen g c =
 pub returns-clause-plain : goal.returns-clause-plain
 returns-clause-plain g c =
     let seen = returns-clause-seen g c in
-    conversed_plain _ seen.0 seen.1 _ _ _ _ _ seen.2 seen.4
+    lines_served_plain _ seen.0 seen.1 _ _ _ _ _ seen.2 seen.4
 
 pub returns-clause-text : goal.returns-clause-text
 returns-clause-text g c =

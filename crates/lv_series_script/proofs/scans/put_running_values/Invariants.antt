@@ -10,6 +10,6 @@ use Rattle.lv_series_script.proofs.scans.put_running_values.Given as goal
 abbrev pub invariant-loop-i : goal.invariant-loop-i
 invariant-loop-i g l = record {
   fold : l.sum ≡ fold_of (g.K.Body.operations l.body) (take l.i l.elements);
-  written : Puts g.W.Write.contents l.initial.outbox l.outbox (values_before (plain_value g.K.OfKind.told_kind) l.inclusive l.elements l.i);
-  places : SamePlaces l.initial.outbox l.outbox;
+  written : Puts g.W.Write.contents l.initial.buffer l.buffer (values_before (plain_value g.K.OfKind.told_kind) l.inclusive l.elements l.i);
+  places : SamePlaces l.initial.buffer l.buffer;
 }

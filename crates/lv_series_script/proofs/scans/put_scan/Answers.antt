@@ -10,11 +10,11 @@ use Rattle.lv_series_script.proofs.scans.put_scan.Goals as goal
 pub returns-clause-ok : goal.returns-clause-ok
 returns-clause-ok g c =
     let count = length-scan (plain_value c.args.kind) c.args.inclusive c.args.elements.now in
-    let text = c.put_scan_head.ensures.text ∙ ap (λ n. c.args.outbox.now.held.now.items ++ scan_head c.args.edit c.args.inclusive c.args.kind n) (sym count) in
+    let text = c.put_scan_head.ensures.text ∙ ap (λ n. c.args.buffer.now.held.now.items ++ scan_head c.args.edit c.args.inclusive c.args.kind n) (sym count) in
     on_ok_weaker c.put_values.result (Writes-trans (Writes-put _ _ _ _ text)) c.put_values.ensures.ok
 
 pub returns-clause-fault : goal.returns-clause-fault
 returns-clause-fault g c =
     let count = length-scan (plain_value c.args.kind) c.args.inclusive c.args.elements.now in
-    let text = c.put_scan_head.ensures.text ∙ ap (λ n. c.args.outbox.now.held.now.items ++ scan_head c.args.edit c.args.inclusive c.args.kind n) (sym count) in
+    let text = c.put_scan_head.ensures.text ∙ ap (λ n. c.args.buffer.now.held.now.items ++ scan_head c.args.edit c.args.inclusive c.args.kind n) (sym count) in
     IfErr-weaker c.put_values.result _ _ (λ fault fails. (fails.0, WritesFront-after (Writes-put _ _ _ _ text) fails.1)) c.put_values.ensures.fault

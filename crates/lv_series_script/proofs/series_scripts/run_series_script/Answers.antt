@@ -2,7 +2,7 @@
 use Rattle.std.proofs.Common.{◌≡◌, [], ap₂, arith, rules}
 use Rattle.std.proofs.lemmas.List.Elements.{All-nil}
 use Rattle.lv_series_script.specs.Inside.{known_of}
-use Rattle.lv_series_script.proofs.Simulation.{conversed_plain}
+use Rattle.lv_series_script.proofs.Simulation.{lines_served_plain}
 use Rattle.lv_series_script.proofs.WholeText.{written_plain}
 use Rattle.lv_series_script.proofs.series_scripts.run_series_script.Goals as goal
 
@@ -14,7 +14,7 @@ invariant_of-script g c =
 pub returns-clause-plain : goal.returns-clause-plain
 returns-clause-plain g c =
     let none : c.new-2.result.items ≡ [] = search rules in
-    conversed_plain _ _ _ _ _ _ _ (ap₂ known_of c.new.ensures none) c.converse-ended.ensures
+    lines_served_plain _ _ _ _ _ _ _ (ap₂ known_of c.new.ensures none) c.serve_lines-ended.ensures
 
 pub returns-clause-text : goal.returns-clause-text
 returns-clause-text g c =

@@ -12,8 +12,8 @@ returns-in_default g c = record { rest = g.R.Read.remaining c.args.reader; seen 
 pub returns-in-Err-ReadFault : goal.returns-in-Err-ReadFault
 returns-in-Err-ReadFault g c =
     let old = c.in-Ok.auditor in
-    let new = c.converse.new.responder in
-    let conversed = rw c.in-Err-ReadFault.field-0-is at c.in-Err-ReadFault.ensures in
+    let new = c.serve_lines.new.handler in
+    let lines_served = rw c.in-Err-ReadFault.field-0-is at c.in-Err-ReadFault.ensures in
     subst (λ (known : Option (List ℕ)). ReadsFront known c.found.result) c.new-whole.ensures
     (ReadsFront-found (front_at old.auditor.stage old.auditor.edits old.auditor.replay.edit old.lines) (Unit {0}) new.auditor.stage new.auditor.edits new.auditor.replay.edit new.lines c.found.result
-    c.in-Ok.ensures conversed (c.is_at_end.ensures c.if-is_at_end.true) c.found.ensures)
+    c.in-Ok.ensures lines_served (c.is_at_end.ensures c.if-is_at_end.true) c.found.ensures)

@@ -9,7 +9,7 @@ use Rattle.lv_transcript.proofs.transcripts.write_answers.Given as goal
 abbrev pub invariant-loop-answer : goal.invariant-loop-answer
 invariant-loop-answer g l =
     record {
-      written : Puts g.W.Write.contents l.initial.outbox l.outbox
+      written : Puts g.W.Write.contents l.initial.buffer l.buffer
           (flat_map (λ answer. answer_line answer ++ 10 ∷ []) (take l.answer-index l.answers));
-      places : SamePlaces l.initial.outbox l.outbox;
+      places : SamePlaces l.initial.buffer l.buffer;
     }

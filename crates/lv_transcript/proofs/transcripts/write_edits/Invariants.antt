@@ -9,8 +9,8 @@ use Rattle.lv_transcript.proofs.transcripts.write_edits.Given as goal
 abbrev pub invariant-loop-edit : goal.invariant-loop-edit
 invariant-loop-edit g l =
     record {
-      written : Puts g.W.Write.contents l.initial.outbox l.outbox
+      written : Puts g.W.Write.contents l.initial.buffer l.buffer
           (flat_map (λ edit. edit_line edit ++ 10 ∷ []) (take l.edit-index l.edits));
       fits : All IsEdit (take l.edit-index l.edits);
-      places : SamePlaces l.initial.outbox l.outbox;
+      places : SamePlaces l.initial.buffer l.buffer;
     }

@@ -1,4 +1,4 @@
--- Proof of `write_joined_lines`: writes the lines of a transcript of several queues by an empty outbox.
+-- Proof of `write_joined_lines`: writes the lines of a transcript of several queues by an empty reply buffer.
 use Rattle.std.proofs.Common.{◌≡◌, List, ℕ, ◌++◌, ◌∙◌, Result, Ok, Err, IfErr, ap}
 use Rattle.lv_lines.specs.declared.fault.Fault.{Fault}
 use Rattle.lv_lines.specs.declared.fault.Fault.TheVariants.{WriteFault}

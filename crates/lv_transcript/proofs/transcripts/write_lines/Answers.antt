@@ -1,4 +1,4 @@
--- Proof of `write_lines`: writes the lines of a transcript by an empty outbox.
+-- Proof of `write_lines`: writes the lines of a transcript by an empty reply buffer.
 use Rattle.std.proofs.Common.{List, ℕ, ◌++◌, ◌∙◌, ap}
 use Rattle.std.proofs.lemmas.Result.{err_from_is_err_and}
 use Rattle.lv_lines.proofs.OutputLemmas.{Writes-trans}

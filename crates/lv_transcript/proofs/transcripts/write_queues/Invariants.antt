@@ -13,8 +13,8 @@ invariant-loop-answer g l =
     record {
       done : List Claimed;
       parts : joined l.initial.queues.items ≡ done ++ joined l.queues.items;
-      written : Puts g.W.Write.contents l.initial.outbox l.outbox (flat_map (λ answer. answer_line answer ++ 10 ∷ []) done);
-      places : SamePlaces l.initial.outbox l.outbox;
+      written : Puts g.W.Write.contents l.initial.buffer l.buffer (flat_map (λ answer. answer_line answer ++ 10 ∷ []) done);
+      places : SamePlaces l.initial.buffer l.buffer;
     }
 
 abbrev pub decreases-loop-answer : goal.decreases-loop-answer

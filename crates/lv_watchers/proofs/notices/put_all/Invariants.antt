@@ -7,6 +7,6 @@ use Rattle.lv_watchers.proofs.notices.put_all.Given as goal
 -- the lines so far are put
 abbrev pub invariant-loop-note : goal.invariant-loop-note
 invariant-loop-note g l = record {
-  written : Puts g.W.Write.contents l.initial.outbox l.outbox (notes_at l.edit (take l.note-index l.notes));
-  places : SamePlaces l.initial.outbox l.outbox;
+  written : Puts g.W.Write.contents l.initial.buffer l.buffer (notes_at l.edit (take l.note-index l.notes));
+  places : SamePlaces l.initial.buffer l.buffer;
 }

@@ -13,10 +13,10 @@ pub returns-in-Ok : goal.returns-in-Ok
 returns-in-Ok g c =
     λ start entries was.
     let s : ScribeState = record { contents = g.W.Write.contents c.self.inside.writer; held = c.self.inside.held.items; failed = c.self.inside.failed } in
-    scribed_more start entries s (subst (Scribed start entries) (sym c.self.view_is) was) (inl c.args.edit.now) (g.W.Write.contents c.write_edit.new.outbox.writer.now) c.write_edit.new.outbox.held.now.items c.if-self.false c.in-Ok.ensures.ok
+    scribed_more start entries s (subst (Scribed start entries) (sym c.self.view_is) was) (inl c.args.edit.now) (g.W.Write.contents c.write_edit.new.buffer.writer.now) c.write_edit.new.buffer.held.now.items c.if-self.false c.in-Ok.ensures.ok
 
 pub returns-in-Err : goal.returns-in-Err
 returns-in-Err g c =
     λ start entries was.
     let s : ScribeState = record { contents = g.W.Write.contents c.self.inside.writer; held = c.self.inside.held.items; failed = c.self.inside.failed } in
-    scribed_lost start entries s (subst (Scribed start entries) (sym c.self.view_is) was) (inl c.args.edit.now) (g.W.Write.contents c.write_edit.new.outbox.writer.now) c.write_edit.new.outbox.held.now.items c.if-self.false c.in-Err.ensures.fault.1
+    scribed_lost start entries s (subst (Scribed start entries) (sym c.self.view_is) was) (inl c.args.edit.now) (g.W.Write.contents c.write_edit.new.buffer.writer.now) c.write_edit.new.buffer.held.now.items c.if-self.false c.in-Err.ensures.fault.1

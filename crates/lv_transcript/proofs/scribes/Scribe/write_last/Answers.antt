@@ -13,4 +13,4 @@ pub returns-clause-ends : goal.returns-clause-ends
 returns-clause-ends g c =
     λ start entries was.
     let s : ScribeState = record { contents = g.W.Write.contents c.self.inside.writer; held = c.self.inside.held.items; failed = c.self.inside.failed } in
-    whole_ends start entries s (subst (Scribed start entries) (sym c.self.view_is) was) (g.W.Write.contents c.write_end.new.outbox.writer.now) c.write_end.new.outbox.held.now.items c.write_end.result c.if-self.false c.write_end.ensures.ok c.write_end.ensures.fault
+    whole_ends start entries s (subst (Scribed start entries) (sym c.self.view_is) was) (g.W.Write.contents c.write_end.new.buffer.writer.now) c.write_end.new.buffer.held.now.items c.write_end.result c.if-self.false c.write_end.ensures.ok c.write_end.ensures.fault

@@ -11,9 +11,9 @@ returns-then-self g c = wrote_nothing (told_text c.args.told.now) c.args.self.no
 pub returns-in-Ok : goal.returns-in-Ok
 returns-in-Ok g c =
     let s : NoticesState = record { contents = g.F.Write.contents c.self.inside.writer; failed = c.self.inside.failed } in
-    rw (← c.self.view_is) (wrote_more (told_text c.args.told.now) s (g.F.Write.contents c.write_told.new.outbox.writer.now) c.write_told.new.outbox.held.now.items c.if-self.false (rw c.self.invariant.0 at c.in-Ok.ensures.ok))
+    rw (← c.self.view_is) (wrote_more (told_text c.args.told.now) s (g.F.Write.contents c.write_told.new.buffer.writer.now) c.write_told.new.buffer.held.now.items c.if-self.false (rw c.self.invariant.0 at c.in-Ok.ensures.ok))
 
 pub returns-in-Err : goal.returns-in-Err
 returns-in-Err g c =
     let s : NoticesState = record { contents = g.F.Write.contents c.self.inside.writer; failed = c.self.inside.failed } in
-    rw (← c.self.view_is) (wrote_part (told_text c.args.told.now) s (g.F.Write.contents c.write_told.new.outbox.writer.now) c.if-self.false (rw c.self.invariant.0 at c.in-Err.ensures.fault))
+    rw (← c.self.view_is) (wrote_part (told_text c.args.told.now) s (g.F.Write.contents c.write_told.new.buffer.writer.now) c.if-self.false (rw c.self.invariant.0 at c.in-Err.ensures.fault))

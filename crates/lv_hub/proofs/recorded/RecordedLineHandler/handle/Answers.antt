@@ -1,0 +1,24 @@
+-- Proof of `RecordedLineHandler::handle`.
+use Rattle.lv_hub.specs.Replying.{TellsLine}
+use Rattle.lv_script.proofs.EventLaws.{fails_after, replies_after}
+use Rattle.lv_hub.proofs.recorded.RecordedLineHandler.handle.Goals as goal
+
+pub returns-then-is_minuted-clause-ok : goal.returns-then-is_minuted-clause-ok
+unfolding TellsLine
+returns-then-is_minuted-clause-ok g c =
+    rw (← c.self.view_is) (replies_after (TellsLine _) _ _ c.answer_minuted.result _ _ c.args.number c.args.line.now c.in_ok-make_room.ensures.ok (rw c.read_line-line.ensures at c.answer_minuted.ensures.ok))
+
+pub returns-then-is_minuted-clause-fault : goal.returns-then-is_minuted-clause-fault
+unfolding TellsLine
+returns-then-is_minuted-clause-fault g c =
+    rw (← c.self.view_is) (fails_after (TellsLine _) _ c.answer_minuted.result _ _ c.args.number c.args.line.now c.in_ok-make_room.ensures.ok (rw c.read_line-line.ensures at c.answer_minuted.ensures.fault))
+
+pub returns-clause-ok : goal.returns-clause-ok
+unfolding TellsLine
+returns-clause-ok g c =
+    rw (← c.self.view_is) (replies_after (TellsLine _) _ _ c.answer_true.result _ _ c.args.number c.args.line.now c.in_ok-make_room.ensures.ok (rw c.read_line-line.ensures at c.answer_true.ensures.ok))
+
+pub returns-clause-fault : goal.returns-clause-fault
+unfolding TellsLine
+returns-clause-fault g c =
+    rw (← c.self.view_is) (fails_after (TellsLine _) _ c.answer_true.result _ _ c.args.number c.args.line.now c.in_ok-make_room.ensures.ok (rw c.read_line-line.ensures at c.answer_true.ensures.fault))

@@ -1,0 +1,81 @@
+-- How far a conversation has come, between two lines or two reads.
+use Rattle.std.specs.Prelude.{◌≡◌, ℕ, ◌+◌, ◌<◌, ◌≤◌, false, List, [], ◌++◌, length, take, map, Option, Result, Ok, Err}
+use Rattle.std.specs.Io.KnownBytes.{Consumes, IsAtEnd}
+use Rattle.lv_lines.specs.declared.fault.Fault.{Fault}
+use Rattle.lv_lines.specs.declared.fault.Fault.TheVariants.{NoMemory, ReadFault, TooLong, WriteFault}
+use Rattle.lv_lines.specs.declared.reply_buffer.ReplyBuffer.{ReplyBuffer}
+use Rattle.lv_lines.specs.declared.line_reader.LineReader.{LineReader}
+use Rattle.lv_lines.specs.Input.{whole_lines_of, has_end, unended_of, last_line}
+use Rattle.lv_lines.specs.Output.{Writes, WritesFront}
+use Rattle.lv_lines.specs.Replies.{Answered}
+
+-- the state of what answers, the number of the next line, the first bytes of the line that was begun, what the writer has, and what is held
+pub record Point (S : Type 0) : Type 0 where
+  pub state : S
+  pub number : ℕ
+  pub kept : List ℕ
+  pub contents : Option (List ℕ)
+  pub held : List ℕ
+
+-- a point of a conversation whose reader and whose reply buffer these are
+abbrev pub point_of : {S W : Type 0} → S → LineReader → (W → Option (List ℕ)) → ReplyBuffer W → Point S
+point_of state line_reader contents buffer = record {
+  state = state;
+  number = line_reader.number;
+  kept = line_reader.kept.items;
+  contents = contents buffer.writer.now;
+  held = buffer.held.now.items;
+}
+
+-- what is kept is the beginning of a line
+pub record IsReady (line_reader : LineReader) : Type 0 where
+  pub begun : has_end line_reader.kept.items ≡ false
+  pub short : length line_reader.kept.items ≤ 121
+
+module _ {S : Type 0} (step : S → ℕ → List ℕ → List ℕ → S → Type 0) where
+  -- the lines that the bytes end were answered in turn, and their replies written; what they leave of a line is kept
+  pub record PushesBytes (old new : Point S) (bytes : List ℕ) : Type 0 where
+    pub text : List ℕ
+    pub answered : Answered step old.state old.number (map (take 121) (whole_lines_of (old.kept ++ bytes))) text new.state
+    pub written : Writes old.contents old.held new.contents new.held text
+    pub kept : new.kept ≡ take 121 (unended_of (old.kept ++ bytes))
+    pub number : new.number ≡ old.number + length (whole_lines_of (old.kept ++ bytes))
+
+  -- a front of those lines was answered, and no more than a front of the replies written
+  pub record PushesBytesFront (old new : Point S) (bytes : List ℕ) : Type 0 where
+    pub front : List (List ℕ)
+    pub rest : List (List ℕ)
+    pub all : map (take 121) (whole_lines_of (old.kept ++ bytes)) ≡ front ++ rest
+    pub text : List ℕ
+    pub answered : Answered step old.state old.number front text new.state
+    pub written : WritesFront old.contents old.held new.contents text
+
+  -- the line that was begun was answered, where it isn't empty, and its reply written
+  pub record Finishes (old new : Point S) : Type 0 where
+    pub text : List ℕ
+    pub answered : Answered step old.state old.number (last_line old.kept) text new.state
+    pub written : Writes old.contents old.held new.contents new.held text
+
+  -- or not: no more than a front of what was held and of that reply
+  pub record FinishesFront (old new : Point S) : Type 0 where
+    pub front : List (List ℕ)
+    pub rest : List (List ℕ)
+    pub all : last_line old.kept ≡ front ++ rest
+    pub text : List ℕ
+    pub answered : Answered step old.state old.number front text new.state
+    pub written : WritesFront old.contents old.held new.contents text
+
+  -- how the reading ended, by the bytes that were seen: at the end of the input, where a read failed, where as many bytes were seen as are read, or where a write failed
+  abbrev pub Stops : {T : Type 0} → Point S → Point S → Option (List ℕ) → ℕ → List ℕ → Result T Fault → Type 0
+  Stops old new remaining_new most seen (Ok _) = IsAtEnd remaining_new × (length seen < most) × PushesBytes old new seen × (new.held ≡ [])
+  Stops old new remaining_new most seen (Err ReadFault) = (length seen < most) × PushesBytes old new seen × (new.held ≡ [])
+  Stops old new remaining_new most seen (Err TooLong) = (length seen ≡ most) × PushesBytes old new seen × (new.held ≡ [])
+  Stops old new remaining_new most seen (Err WriteFault) = PushesBytesFront old new seen
+  Stops old new remaining_new most seen (Err NoMemory) = ⊥
+
+  -- at most so many bytes were read and fed
+  pub record ReadsLines {T : Type 0} (old new : Point S) (remaining_old remaining_new : Option (List ℕ)) (most : ℕ) (result : Result T Fault) : Type 0 where
+    pub seen : List ℕ
+    pub read : Consumes remaining_old remaining_new seen
+    pub few : length seen ≤ most
+    pub stops : Stops old new remaining_new most seen result

@@ -1,0 +1,34 @@
+//! What answers the lines of a conversation.
+ghost use Rattle.std.specs.Prelude.{◌≡◌, ℕ, ◌≤◌, List, length, OnOk, IfErr};
+ghost use Rattle.lv_lines.specs.Output.{Puts, PutsFront, SamePlaces};
+ghost use Rattle.lv_lines.specs.Replies.{Replies, FailsToReply};
+
+use crate::fault::Fault;
+use crate::reply_buffer::ReplyBuffer;
+use std::io::Write;
+
+/// What answers the lines of a conversation, one after the other.
+pub trait LineHandler {
+    // What the answers depend on, and what they change.
+    ghost State: { Type 0 };
+
+    // The state that it is in.
+    ghost state: { Self → State };
+
+    // From a state, the line of a number may be answered with these bytes, to another state.
+    ghost step: { State → ℕ → List ℕ → List ℕ → State → Type 0 };
+
+    /// Answers a line, of which it gets the first 121 bytes: puts the reply into the reply buffer, which it may
+    /// send to make room. It has no other fault than `WriteFault`.
+    fn handle<W: Write>(
+        &mut self,
+        number: u32,
+        line: &[u8],
+        buffer: &mut ReplyBuffer<'_, W>,
+    ) -> Result<(), Fault>
+        requires short { length line.now ≤ 121 }
+        ensures places { SamePlaces buffer.old buffer.new }
+        ensures ok { OnOk result (Replies step (state self.old) number line.now (state self.new) (Puts W.contents buffer.old buffer.new)) }
+        ensures fault { IfErr result (λ fault. (fault ≡ Fault.WriteFault)
+            × FailsToReply step (state self.old) number line.now (state self.new) (PutsFront W.contents buffer.old buffer.new)) };
+}

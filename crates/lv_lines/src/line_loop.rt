@@ -1,0 +1,135 @@
+//! A conversation: lines are read and answered in turn, until the input ends.
+ghost use Rattle.std.specs.Prelude.{◌≡◌, ◌+◌, ◌^◌, ◌<◌, ◌≤◌, [], length, take, OnOk, IfOk, IfErr, vec_len, vec_capacity};
+ghost use Rattle.std.specs.Io.KnownBytes.{Keeps, Consumes, IsAtEnd};
+ghost use Rattle.lv_lines.specs.Output.{SamePlaces};
+ghost use Rattle.lv_lines.specs.Replies.{LinesServed};
+ghost use Rattle.lv_lines.specs.LineReader.{IsReady, ReadsLines, point_of};
+
+use crate::fault::Fault;
+use crate::line_handler::LineHandler;
+use crate::line_reader::LineReader;
+use crate::output::HELD;
+use crate::reply_buffer::ReplyBuffer;
+use std::alloc::{AllocError, Global};
+use std::io::{Read, Write};
+
+// At most how many bytes one read takes.
+const CHUNK: usize = 65_536;
+
+// At most how many bytes are read: one more than an input may have.
+const MOST: usize = (1 << 30) + 1;
+
+/// Reads lines and has each answered, in turn and numbered from 1, until the input ends. The replies are
+/// sent before more is read.
+///
+/// Memory is taken before anything is read or written: where there is none, the fault is `NoMemory`. A
+/// failed read is `ReadFault`; an input of more than 2^30 bytes `TooLong`; a failed write, and one that takes
+/// no byte, `WriteFault`.
+pub fn serve_lines<A: LineHandler, R: Read, W: Write>(
+    alloc: Global,
+    handler: &mut A,
+    reader: &mut R,
+    writer: &mut W,
+) -> Result<(), Fault>
+    ensures { LinesServed A.step (A.state handler.old) (A.state handler.new) (R.remaining reader.old) (R.remaining reader.new)
+        (W.contents writer.old) (W.contents writer.new) result }
+{
+    let Ok(mut chunk) = zeros(alloc, CHUNK) else {
+        return Err(Fault::NoMemory);
+    };
+    let Ok(mut held) = Vec::with_capacity(alloc, HELD) else {
+        return Err(Fault::NoMemory);
+    };
+    serve_lines_by(&mut chunk, &mut held, handler, reader, writer)
+}
+
+// Has a conversation by buffers that were made for it: one for what is read, and one for what is held.
+fn serve_lines_by<A: LineHandler, R: Read, W: Write>(
+    chunk: &mut [u8],
+    held: &mut Vec<u8>,
+    handler: &mut A,
+    reader: &mut R,
+    writer: &mut W,
+) -> Result<(), Fault>
+    requires chunk { 0 < length chunk.old }
+    requires held { held.old.items ≡ [] }
+    requires room { HELD ≤ vec_capacity held.old }
+    ensures { LinesServed A.step (A.state handler.old) (A.state handler.new) (R.remaining reader.old) (R.remaining reader.new)
+        (W.contents writer.old) (W.contents writer.new) result }
+{
+    let mut buffer = ReplyBuffer { writer, held };
+    serve_into(chunk, handler, reader, &mut buffer)
+}
+
+// Has a conversation whose replies go into an empty reply buffer.
+fn serve_into<A: LineHandler, R: Read, W: Write>(
+    chunk: &mut [u8],
+    handler: &mut A,
+    reader: &mut R,
+    buffer: &mut ReplyBuffer<'_, W>,
+) -> Result<(), Fault>
+    requires chunk { 0 < length chunk.old }
+    requires held { buffer.old.held.now.items ≡ [] }
+    ensures places { SamePlaces buffer.old buffer.new }
+    ensures lines_served { LinesServed A.step (A.state handler.old) (A.state handler.new) (R.remaining reader.old) (R.remaining reader.new)
+        (W.contents buffer.old.writer.now) (W.contents buffer.new.writer.now) result }
+{
+    let mut line_reader = LineReader::new();
+    read_lines(&mut line_reader, chunk, MOST, handler, reader, buffer)?;
+    line_reader.finish(handler, buffer)?;
+    buffer.send()
+}
+
+fn zeros(alloc: Global, len: usize) -> Result<Vec<u8>, AllocError>
+    ensures { IfOk result (λ chunk. vec_len chunk ≡ len) }
+{
+    Vec::from_elem(alloc, 0u8, len)
+}
+
+/// Reads chunks and feeds them, up to the end of the input. As many bytes as `most` are too many.
+pub(crate) fn read_lines<A: LineHandler, R: Read, W: Write>(
+    line_reader: &mut LineReader,
+    chunk: &mut [u8],
+    most: usize,
+    handler: &mut A,
+    reader: &mut R,
+    buffer: &mut ReplyBuffer<'_, W>,
+) -> Result<(), Fault>
+    requires ready { IsReady line_reader.old }
+    requires number { line_reader.old.number + most < 2 ^ 32 }
+    requires chunk { 0 < length chunk.old }
+    ensures places { SamePlaces buffer.old buffer.new }
+    ensures reads { ReadsLines A.step (point_of (A.state handler.old) line_reader.old W.contents buffer.old)
+        (point_of (A.state handler.new) line_reader.new W.contents buffer.new) (R.remaining reader.old) (R.remaining reader.new) most result }
+    ensures number { OnOk result (line_reader.new.number ≤ line_reader.old.number + most) }
+    ensures ready { OnOk result (IsReady line_reader.new) }
+{
+    let mut left = most;
+    while left > 0 {
+        buffer.send()?;
+        let count = read_front(reader, chunk, left)?;
+        if count == 0 {
+            return Ok(());
+        }
+        line_reader.push_bytes(handler, &chunk[..count], buffer)?;
+        left -= count;
+    }
+    buffer.send()?;
+    Err(Fault::TooLong)
+}
+
+// Reads at most `most` bytes into the front of the chunk. None are the end of the input.
+fn read_front<R: Read>(reader: &mut R, chunk: &mut [u8], most: usize) -> Result<usize, Fault>
+    requires chunk { 0 < length chunk.old }
+    requires most { 0 < most }
+    ensures within { IfOk result (λ count. count ≤ length chunk.new) }
+    ensures few { IfOk result (λ count. count ≤ most) }
+    ensures read { IfOk result (λ count. Consumes (R.remaining reader.old) (R.remaining reader.new) (take count chunk.new)) }
+    ensures end { IfOk result (λ count. count ≡ 0 → IsAtEnd (R.remaining reader.new)) }
+    ensures fault { IfErr result (λ fault. (fault ≡ Fault.ReadFault) × Keeps (R.remaining reader.old) (R.remaining reader.new)) }
+{
+    let room = chunk.len().min(most);
+    reader
+        .read(&mut chunk[..room])
+        .map_err(|_| Fault::ReadFault)
+}

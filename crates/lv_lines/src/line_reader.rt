@@ -1,0 +1,176 @@
+//! What a conversation has in hand between two lines: the number of the next line, and the first bytes of a
+//! line that was begun.
+ghost use Rattle.std.specs.Prelude.{◌≡◌, ◌+◌, ◌^◌, ◌<◌, ◌≤◌, ◌==◌, [], ◌++◌, length, take, position, OnOk, IfErr};
+ghost use Rattle.lv_lines.specs.Output.{Puts, PutsFront, SamePlaces};
+ghost use Rattle.lv_lines.specs.Replies.{Replies, FailsToReply};
+
+use crate::fault::Fault;
+use crate::line_handler::LineHandler;
+use crate::reply_buffer::ReplyBuffer;
+use arrayvec::ArrayVec;
+use memchr::memchr;
+use std::io::Write;
+
+const LF: u8 = 10;
+
+/// How many bytes of a line tell whether it is too long, and what it says where it isn't.
+const LONGEST: usize = 121;
+
+#[derive(Drop)]
+pub(crate) struct LineReader {
+    pub(crate) number: u32,
+    pub(crate) kept: ArrayVec<u8, LONGEST>,
+}
+
+impl LineReader {
+    ghost use Rattle.lv_lines.specs.LineReader.{IsReady, PushesBytes, PushesBytesFront, Finishes, FinishesFront, point_of};
+
+    /// Before the first line.
+    pub(crate) fn new() -> LineReader
+        ensures ready { IsReady result }
+        ensures number { result.number ≡ 1 }
+        ensures kept { result.kept.items ≡ [] }
+    {
+        LineReader {
+            number: 1,
+            kept: ArrayVec::new(),
+        }
+    }
+
+    /// Takes bytes of the input: has the lines that they end answered, and keeps what they leave.
+    pub(crate) fn push_bytes<A: LineHandler, W: Write>(
+        &mut self,
+        handler: &mut A,
+        bytes: &[u8],
+        buffer: &mut ReplyBuffer<'_, W>,
+    ) -> Result<(), Fault>
+        requires ready { IsReady self.old }
+        requires number { self.old.number + length bytes.now < 2 ^ 32 }
+        ensures places { SamePlaces buffer.old buffer.new }
+        ensures ok { OnOk result (PushesBytes A.step (point_of (A.state handler.old) self.old W.contents buffer.old)
+            (point_of (A.state handler.new) self.new W.contents buffer.new) bytes.now) }
+        ensures fault { IfErr result (λ fault. (fault ≡ Fault.WriteFault)
+            × PushesBytesFront A.step (point_of (A.state handler.old) self.old W.contents buffer.old)
+            (point_of (A.state handler.new) self.new W.contents buffer.new) bytes.now) }
+        ensures ready { OnOk result (IsReady self.new) }
+    {
+        let mut rest = bytes;
+        while let Some(end) = end_of_line(rest) {
+            let (piece, ended) = rest.split_at(end);
+            self.end_line(handler, piece, buffer)?;
+            (_, rest) = ended.split_at(1);
+        }
+        keep(&mut self.kept, rest);
+        Ok(())
+    }
+
+    // Ends the line that was begun with these bytes, and has it answered.
+    fn end_line<A: LineHandler, W: Write>(
+        &mut self,
+        handler: &mut A,
+        piece: &[u8],
+        buffer: &mut ReplyBuffer<'_, W>,
+    ) -> Result<(), Fault>
+        requires ready { IsReady self.old }
+        requires number { self.old.number + 1 < 2 ^ 32 }
+        ensures places { SamePlaces buffer.old buffer.new }
+        ensures ok { OnOk result (Replies A.step (A.state handler.old) self.old.number (take 121 (self.old.kept.items ++ piece.now)) (A.state handler.new) (Puts W.contents buffer.old buffer.new)) }
+        ensures number { OnOk result (self.new.number ≡ self.old.number + 1) }
+        ensures kept { OnOk result (self.new.kept.items ≡ []) }
+        ensures fault { IfErr result (λ fault. (fault ≡ Fault.WriteFault)
+            × FailsToReply A.step (A.state handler.old) self.old.number (take 121 (self.old.kept.items ++ piece.now)) (A.state handler.new) (PutsFront W.contents buffer.old buffer.new)) }
+    {
+        if self.kept.is_empty() {
+            return self.answer(handler, front(piece, LONGEST), buffer);
+        }
+        keep(&mut self.kept, piece);
+        self.answer_kept(handler, buffer)
+    }
+
+    // Has a line answered of which nothing is kept.
+    fn answer<A: LineHandler, W: Write>(
+        &mut self,
+        handler: &mut A,
+        line: &[u8],
+        buffer: &mut ReplyBuffer<'_, W>,
+    ) -> Result<(), Fault>
+        requires number { self.old.number + 1 < 2 ^ 32 }
+        requires short { length line.now ≤ 121 }
+        ensures places { SamePlaces buffer.old buffer.new }
+        ensures ok { OnOk result (Replies A.step (A.state handler.old) self.old.number line.now (A.state handler.new) (Puts W.contents buffer.old buffer.new)) }
+        ensures number { OnOk result (self.new.number ≡ self.old.number + 1) }
+        ensures kept { self.new.kept ≡ self.old.kept }
+        ensures fault { IfErr result (λ fault. (fault ≡ Fault.WriteFault)
+            × FailsToReply A.step (A.state handler.old) self.old.number line.now (A.state handler.new) (PutsFront W.contents buffer.old buffer.new)) }
+    {
+        handler.handle(self.number, line, buffer)?;
+        self.number += 1;
+        Ok(())
+    }
+
+    // Has the line answered of which the first bytes are kept.
+    fn answer_kept<A: LineHandler, W: Write>(
+        &mut self,
+        handler: &mut A,
+        buffer: &mut ReplyBuffer<'_, W>,
+    ) -> Result<(), Fault>
+        requires number { self.old.number + 1 < 2 ^ 32 }
+        ensures places { SamePlaces buffer.old buffer.new }
+        ensures ok { OnOk result (Replies A.step (A.state handler.old) self.old.number self.old.kept.items (A.state handler.new) (Puts W.contents buffer.old buffer.new)) }
+        ensures number { OnOk result (self.new.number ≡ self.old.number + 1) }
+        ensures kept { OnOk result (self.new.kept.items ≡ []) }
+        ensures fault { IfErr result (λ fault. (fault ≡ Fault.WriteFault)
+            × FailsToReply A.step (A.state handler.old) self.old.number self.old.kept.items (A.state handler.new) (PutsFront W.contents buffer.old buffer.new)) }
+    {
+        handler.handle(self.number, self.kept.as_slice(), buffer)?;
+        self.kept.clear();
+        self.number += 1;
+        Ok(())
+    }
+
+    /// Has the line answered that was begun, where it isn't empty.
+    pub(crate) fn finish<A: LineHandler, W: Write>(
+        &mut self,
+        handler: &mut A,
+        buffer: &mut ReplyBuffer<'_, W>,
+    ) -> Result<(), Fault>
+        requires number { self.old.number + 1 < 2 ^ 32 }
+        ensures places { SamePlaces buffer.old buffer.new }
+        ensures ok { OnOk result (Finishes A.step (point_of (A.state handler.old) self.old W.contents buffer.old)
+            (point_of (A.state handler.new) self.new W.contents buffer.new)) }
+        ensures fault { IfErr result (λ fault. (fault ≡ Fault.WriteFault)
+            × FinishesFront A.step (point_of (A.state handler.old) self.old W.contents buffer.old)
+            (point_of (A.state handler.new) self.new W.contents buffer.new)) }
+    {
+        if self.kept.is_empty() {
+            return Ok(());
+        }
+        self.answer_kept(handler, buffer)
+    }
+}
+
+// Where the first LF is.
+fn end_of_line(bytes: &[u8]) -> Option<usize>
+    ensures { result ≡ position (λ byte. byte == 10) bytes.now }
+{
+    memchr(LF, bytes)
+}
+
+// The first bytes, at most `most`.
+fn front(bytes: &[u8], most: usize) -> &[u8]
+    ensures value { result.now ≡ take most bytes.now }
+    ensures short { length result.now ≤ most }
+{
+    let (front, _) = bytes.split_at(bytes.len().min(most));
+    front
+}
+
+// Keeps so many of the bytes as there is room for.
+fn keep(kept: &mut ArrayVec<u8, LONGEST>, bytes: &[u8])
+    ensures { kept.new.items ≡ take 121 (kept.old.items ++ bytes.now) }
+{
+    let room = LONGEST - kept.len();
+    let Ok(()) = kept.try_extend_from_slice(front(bytes, room)) else {
+        unreachable!();
+    };
+}
