@@ -1,5 +1,5 @@
 -- Where a line ends: what a search for the first LF found.
-use Rattle.std.proofs.Common.{◌≡◌, ◌<◌, get_or, position, Option, None, Some, ℕ, suc, ◌+◌, ◌-◌, ◌==◌, Bool, true, false, List, [], ◌∷◌, ◌++◌, length, take, drop, refl, sym, ap, ◌∙◌, inl, inr, arith, append_assoc}
+use Rattle.std.proofs.Common.{◌≡◌, ◌<◌, get_or, position, Option, None, Some, ℕ, suc, ◌+◌, ◌==◌, Bool, false, List, [], ◌∷◌, ◌++◌, length, take, drop, refl, sym, ap, ◌∙◌, inl, inr, arith, append_assoc}
 use Rattle.std.proofs.lemmas.List.{length-take, take-append-drop, drop_more, get_or-take}
 use Rattle.std.proofs.lemmas.List.Quantifiers.{position-Some}
 use Rattle.std.proofs.lemmas.List.Sums.{fails_before_first, position_or_len_is}

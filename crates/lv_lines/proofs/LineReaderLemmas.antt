@@ -56,6 +56,10 @@ count_ended : (xs ys : List ℕ) → has_end xs ≡ false → has_end ys ≡ fal
 count_ended xs ys begun none =
     rw (← append_assoc xs ys (10 ∷ []), whole_lines_of-ended (xs ++ ys) [] (has_end-append_none xs ys begun ∙ none)) refl
 
+-- if nothing follows what is kept of a line, it is the line
+pub line_kept : (kept : List ℕ) → length kept ≤ 121 → take 121 (kept ++ []) ≡ kept
+line_kept kept short = ap (take 121) (append-nil kept) ∙ take_all 121 kept short
+
 module _ {S : Type 0} (step : S → ℕ → List ℕ → List ℕ → S → Type 0) where
   -- no bytes, after the beginning of a line
   pub PushesBytes-nil : (point : Point S) → has_end point.kept ≡ false → length point.kept ≤ 121 → PushesBytes step point point []
@@ -199,6 +203,15 @@ module _ {S : Type 0} (step : S → ℕ → List ℕ → List ℕ → S → Type
     text = [];
     answered = rw (nil_from_length point.kept (eqb-true (length point.kept) 0 nothing)) (refl, refl);
     written = Writes-nil point.contents point.held;
+  }
+
+  -- one was, and is answered
+  pub Finishes-line : (old new : Point S) → (length old.kept == 0) ≡ false
+      → Replies step old.state old.number old.kept new.state (λ text. Writes old.contents old.held new.contents new.held text) → Finishes step old new
+  Finishes-line old new some replied = record {
+    text = replied.reply;
+    answered = rw (last_line-some old.kept some) (Answered-one step _ _ _ _ _ replied.answered);
+    written = replied.written;
   }
 
   -- one was, and is not answered, or in part

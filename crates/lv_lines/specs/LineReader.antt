@@ -1,4 +1,4 @@
--- How far a conversation has come, between two lines or two reads.
+-- How far the serving of lines has come, between two lines or two reads.
 use Rattle.std.specs.Prelude.{◌≡◌, ℕ, ◌+◌, ◌<◌, ◌≤◌, false, List, [], ◌++◌, length, take, map, Option, Result, Ok, Err}
 use Rattle.std.specs.Io.KnownBytes.{Consumes, IsAtEnd}
 use Rattle.lv_lines.specs.declared.fault.Fault.{Fault}

@@ -1,4 +1,4 @@
--- What it means that lines are answered in turn, and that a conversation was had.
+-- What it means that lines are answered in turn, and that all lines of an input were served.
 use Rattle.std.specs.Prelude.{◌≡◌, ◌⊎◌, ℕ, ◌+◌, ◌^◌, ◌≤◌, List, [], ◌∷◌, ◌++◌, length, take, map, Option, Result, Ok, Err}
 use Rattle.std.specs.Io.KnownBytes.{Appends, Consumes, IsAtEnd}
 use Rattle.lv_lines.specs.declared.fault.Fault.{Fault}
@@ -55,7 +55,7 @@ module _ {S : Type 0} (step : S → ℕ → List ℕ → List ℕ → S → Type
     pub answered : Answered old 1 front text new
     pub written : WritesFront old_contents [] new_contents text
 
-  -- how a conversation ended, by the bytes that were seen. Ok: at the end of the input. ReadFault: a read failed, and what was seen is
+  -- how the serving ended, by the bytes that were seen. Ok: at the end of the input. ReadFault: a read failed, and what was seen is
   -- not too long. TooLong: what was seen is. WriteFault: a write failed. NoMemory: it never began.
   -- No clause can say of ReadFault that the reader answered an error: all that `Read` tells of an error is that no byte is lost by it
   abbrev pub Ends : {T : Type 0} → S → S → Option (List ℕ) → Option (List ℕ) → Option (List ℕ) → Option (List ℕ) → List ℕ → Result T Fault → Type 0

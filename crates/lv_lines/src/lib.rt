@@ -28,7 +28,7 @@ pub use command::Command;
 pub use fault::Fault;
 pub use line_handler::LineHandler;
 pub use line_loop::serve_lines;
-pub use lines::{Line, LineGrammar, is_comment, read_line, read_line_by, without_cr};
+pub use lines::{Line, LineGrammar, read_line, read_line_by};
 pub use named_replies::{put_named, put_note, put_unwatched, put_watching};
 pub use numbers::{element, number, number_up_to};
 pub use output::{HELD, put, put_element, put_name, put_number, put_wide, write_whole};

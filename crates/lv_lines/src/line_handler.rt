@@ -1,4 +1,4 @@
-//! What answers the lines of a conversation.
+//! Who answers lines.
 ghost use Rattle.std.specs.Prelude.{◌≡◌, ℕ, ◌≤◌, List, length, OnOk, IfErr};
 ghost use Rattle.lv_lines.specs.Output.{Puts, PutsFront, SamePlaces};
 ghost use Rattle.lv_lines.specs.Replies.{Replies, FailsToReply};
@@ -7,7 +7,7 @@ use crate::fault::Fault;
 use crate::reply_buffer::ReplyBuffer;
 use std::io::Write;
 
-/// What answers the lines of a conversation, one after the other.
+/// Who answers lines, one after the other.
 pub trait LineHandler {
     // What the answers depend on, and what they change.
     ghost State: { Type 0 };

@@ -1,4 +1,4 @@
-//! A conversation: lines are read and answered in turn, until the input ends.
+//! The loop over lines: they are read and answered in turn, until the input ends.
 ghost use Rattle.std.specs.Prelude.{◌≡◌, ◌+◌, ◌^◌, ◌<◌, ◌≤◌, [], length, take, OnOk, IfOk, IfErr, vec_len, vec_capacity};
 ghost use Rattle.std.specs.Io.KnownBytes.{Keeps, Consumes, IsAtEnd};
 ghost use Rattle.lv_lines.specs.Output.{SamePlaces};
@@ -43,7 +43,7 @@ pub fn serve_lines<A: LineHandler, R: Read, W: Write>(
     serve_lines_by(&mut chunk, &mut held, handler, reader, writer)
 }
 
-// Has a conversation by buffers that were made for it: one for what is read, and one for what is held.
+// Serves lines by buffers that were made for it: one for what is read, and one for replies.
 fn serve_lines_by<A: LineHandler, R: Read, W: Write>(
     chunk: &mut [u8],
     held: &mut Vec<u8>,
@@ -61,7 +61,7 @@ fn serve_lines_by<A: LineHandler, R: Read, W: Write>(
     serve_into(chunk, handler, reader, &mut buffer)
 }
 
-// Has a conversation whose replies go into an empty reply buffer.
+// Serves lines whose replies go into an empty reply buffer.
 fn serve_into<A: LineHandler, R: Read, W: Write>(
     chunk: &mut [u8],
     handler: &mut A,

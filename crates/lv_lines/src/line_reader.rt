@@ -1,5 +1,4 @@
-//! What a conversation has in hand between two lines: the number of the next line, and the first bytes of a
-//! line that was begun.
+//! What is kept between two reads: the number of the next line, and the first bytes of a line that was begun.
 ghost use Rattle.std.specs.Prelude.{◌≡◌, ◌+◌, ◌^◌, ◌<◌, ◌≤◌, ◌==◌, [], ◌++◌, length, take, position, OnOk, IfErr};
 ghost use Rattle.lv_lines.specs.Output.{Puts, PutsFront, SamePlaces};
 ghost use Rattle.lv_lines.specs.Replies.{Replies, FailsToReply};
@@ -81,49 +80,12 @@ impl LineReader {
             × FailsToReply A.step (A.state handler.old) self.old.number (take 121 (self.old.kept.items ++ piece.now)) (A.state handler.new) (PutsFront W.contents buffer.old buffer.new)) }
     {
         if self.kept.is_empty() {
-            return self.answer(handler, front(piece, LONGEST), buffer);
+            handler.handle(self.number, front(piece, LONGEST), buffer)?;
+        } else {
+            keep(&mut self.kept, piece);
+            handler.handle(self.number, self.kept.as_slice(), buffer)?;
+            self.kept.clear();
         }
-        keep(&mut self.kept, piece);
-        self.answer_kept(handler, buffer)
-    }
-
-    // Has a line answered of which nothing is kept.
-    fn answer<A: LineHandler, W: Write>(
-        &mut self,
-        handler: &mut A,
-        line: &[u8],
-        buffer: &mut ReplyBuffer<'_, W>,
-    ) -> Result<(), Fault>
-        requires number { self.old.number + 1 < 2 ^ 32 }
-        requires short { length line.now ≤ 121 }
-        ensures places { SamePlaces buffer.old buffer.new }
-        ensures ok { OnOk result (Replies A.step (A.state handler.old) self.old.number line.now (A.state handler.new) (Puts W.contents buffer.old buffer.new)) }
-        ensures number { OnOk result (self.new.number ≡ self.old.number + 1) }
-        ensures kept { self.new.kept ≡ self.old.kept }
-        ensures fault { IfErr result (λ fault. (fault ≡ Fault.WriteFault)
-            × FailsToReply A.step (A.state handler.old) self.old.number line.now (A.state handler.new) (PutsFront W.contents buffer.old buffer.new)) }
-    {
-        handler.handle(self.number, line, buffer)?;
-        self.number += 1;
-        Ok(())
-    }
-
-    // Has the line answered of which the first bytes are kept.
-    fn answer_kept<A: LineHandler, W: Write>(
-        &mut self,
-        handler: &mut A,
-        buffer: &mut ReplyBuffer<'_, W>,
-    ) -> Result<(), Fault>
-        requires number { self.old.number + 1 < 2 ^ 32 }
-        ensures places { SamePlaces buffer.old buffer.new }
-        ensures ok { OnOk result (Replies A.step (A.state handler.old) self.old.number self.old.kept.items (A.state handler.new) (Puts W.contents buffer.old buffer.new)) }
-        ensures number { OnOk result (self.new.number ≡ self.old.number + 1) }
-        ensures kept { OnOk result (self.new.kept.items ≡ []) }
-        ensures fault { IfErr result (λ fault. (fault ≡ Fault.WriteFault)
-            × FailsToReply A.step (A.state handler.old) self.old.number self.old.kept.items (A.state handler.new) (PutsFront W.contents buffer.old buffer.new)) }
-    {
-        handler.handle(self.number, self.kept.as_slice(), buffer)?;
-        self.kept.clear();
         self.number += 1;
         Ok(())
     }
@@ -134,6 +96,7 @@ impl LineReader {
         handler: &mut A,
         buffer: &mut ReplyBuffer<'_, W>,
     ) -> Result<(), Fault>
+        requires ready { IsReady self.old }
         requires number { self.old.number + 1 < 2 ^ 32 }
         ensures places { SamePlaces buffer.old buffer.new }
         ensures ok { OnOk result (Finishes A.step (point_of (A.state handler.old) self.old W.contents buffer.old)
@@ -145,7 +108,7 @@ impl LineReader {
         if self.kept.is_empty() {
             return Ok(());
         }
-        self.answer_kept(handler, buffer)
+        self.end_line(handler, &[], buffer)
     }
 }
 

@@ -58,8 +58,8 @@ pub fn read_line(bytes: &[u8]) -> Line<Command>
     read_line_by(&ScriptGrammar, bytes)
 }
 
-/// A line without the CR at its end, where there is one.
-pub fn without_cr(bytes: &[u8]) -> &[u8]
+// A line without the CR at its end, where there is one.
+fn without_cr(bytes: &[u8]) -> &[u8]
     ensures { result.now ≡ without_cr bytes.now }
 {
     if bytes.ends_with(b"\r") {
@@ -68,8 +68,8 @@ pub fn without_cr(bytes: &[u8]) -> &[u8]
     bytes
 }
 
-/// Whether a line whose first word this is, is a comment.
-pub fn is_comment(word: &[u8]) -> bool
+// Whether a line whose first word this is, is a comment.
+fn is_comment(word: &[u8]) -> bool
     ensures { result ≡ is_comment word.now }
 {
     word.starts_with(b"#")

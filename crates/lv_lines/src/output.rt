@@ -10,7 +10,7 @@ use itoa::Buffer;
 use lv_bodies::Name;
 use std::io::Write;
 
-/// How many bytes of replies the buffer of a conversation has room for.
+/// How many bytes of replies a reply buffer has room for.
 pub const HELD: usize = 65_536;
 
 /// Writes all of the bytes, and flushes.
