@@ -44,13 +44,13 @@ want_text old new Bad text want = absurd want
 want_text old new (Do c) text want = want.2
 
 -- the lines of a text whose first part is whole are those of both parts
-lines_after : (front rest : List ℕ) → IsWhole front → NeverWants (front ++ rest) → NeverWants rest
+pub lines_after : (front rest : List ℕ) → IsWhole front → NeverWants (front ++ rest) → NeverWants rest
 lines_after front rest whole never =
     let parts : lines_of (front ++ rest) ≡ whole_lines_of front ++ lines_of rest = lines_of-append front rest ∙ ap (λ begun. whole_lines_of front ++ lines_of (begun ++ rest)) whole in
     all_second IsNoWant (whole_lines_of front) (lines_of rest) (subst (All IsNoWant) parts never)
 
 -- a text that begins with a refusal for want of memory tells it
-tells_want : (rest : List ℕ) → NeverWants (refused_text NoMemory ++ rest) → ⊥
+pub tells_want : (rest : List ℕ) → NeverWants (refused_text NoMemory ++ rest) → ⊥
 tells_want rest never =
     let bytes = refused_bytes NoMemory in
     let lines : whole_lines_of (reply_line bytes) ≡ bytes ∷ [] = whole_lines_of-ended bytes [] (refused_one NoMemory) in

@@ -39,11 +39,11 @@ whole_refused : (refusal : Refusal) → IsWhole (refused_text refusal)
 whole_refused refusal = whole_line (codes "refused " ++ decimal (number_of refusal))
 
 -- two parts
-whole_append : (xs ys : List ℕ) → IsWhole xs → IsWhole ys → IsWhole (xs ++ ys)
+pub whole_append : (xs ys : List ℕ) → IsWhole xs → IsWhole ys → IsWhole (xs ++ ys)
 whole_append xs ys first second = unended_of-append xs ys ∙ ap (λ begun. unended_of (begun ++ ys)) first ∙ second
 
 -- any number of parts
-whole_parts : {X : Type 0} (f : X → List ℕ) (xs : List X) → ((x : X) → IsWhole (f x)) → IsWhole (flat_map f xs)
+pub whole_parts : {X : Type 0} (f : X → List ℕ) (xs : List X) → ((x : X) → IsWhole (f x)) → IsWhole (flat_map f xs)
 whole_parts f [] each = refl
 whole_parts f (x ∷ xs) each = whole_append (f x) (flat_map f xs) (each x) (whole_parts f xs each)
 
@@ -72,7 +72,7 @@ whole_named edits name None = refl
 whole_named edits name (Some q) = whole_line (codes "at " ++ decimal (length edits) ++ codes " " ++ name ++ codes " " ++ shown_text (watch_answer edits q))
 
 -- a scan
-whole_scan : (edit : ℕ) (inclusive : Bool) (kind : Kind) (values : List Shown) → IsWhole (scan_text edit inclusive kind values)
+pub whole_scan : (edit : ℕ) (inclusive : Bool) (kind : Kind) (values : List Shown) → IsWhole (scan_text edit inclusive kind values)
 whole_scan edit inclusive kind values =
     whole_append (scan_head edit inclusive kind (length values)) (flat_map scanned_text values)
     (whole_line (codes "at " ++ decimal edit ++ codes " " ++ scan_name inclusive ++ codes " " ++ kind_name kind ++ codes " " ++ decimal (length values)))

@@ -21,8 +21,8 @@ use Rattle.lv_lines.specs.Texts.{named_text, note_text, refused_text, reply_line
 use Rattle.lv_lines.proofs.InputLemmas.{lines_of-append, unended_of-append, whole_lines_of-ended}
 use Rattle.lv_script.specs.PlainRuns.{NeverWants}
 use Rattle.lv_script.specs.PlainScript.{scan_by}
-use Rattle.lv_script.proofs.OneLineLaws.{refused_bytes, refused_one}
-use Rattle.lv_script.proofs.WholeLaws.{IsWhole, whole_line}
+use Rattle.lv_script.proofs.PlainRunLaws.{lines_after, tells_want}
+use Rattle.lv_script.proofs.WholeLaws.{IsWhole, whole_append, whole_line, whole_parts, whole_scan}
 use Rattle.lv_series_script.specs.declared.long_commands.LongCommand.{LongCommand}
 use Rattle.lv_series_script.specs.declared.long_commands.LongCommand.TheVariants as command
 use Rattle.lv_lines.specs.declared.lines.Line.{Line}
@@ -35,15 +35,6 @@ use Rattle.lv_series_script.specs.Searched.{best_run, index_of}
 use Rattle.lv_series_script.specs.SeriesRuns.{IsPlainText, MeetsWant, PlainStep}
 
 -- ---- replies are whole lines
-
--- two parts
-whole_append : (xs ys : List ℕ) → IsWhole xs → IsWhole ys → IsWhole (xs ++ ys)
-whole_append xs ys first second = unended_of-append xs ys ∙ ap (λ begun. unended_of (begun ++ ys)) first ∙ second
-
--- any number of parts
-whole_parts : {X : Type 0} (f : X → List ℕ) (xs : List X) → ((x : X) → IsWhole (f x)) → IsWhole (flat_map f xs)
-whole_parts f [] each = refl
-whole_parts f (x ∷ xs) each = whole_append (f x) (flat_map f xs) (each x) (whole_parts f xs each)
 
 -- a refusal
 whole_refused : (number : ℕ) → IsWhole (refused_by number)
@@ -83,13 +74,6 @@ whole_run : (edit : ℕ) (run : Option (ℕ × ℕ)) → IsWhole (run_text edit 
 whole_run edit None = whole_line (codes "at " ++ decimal edit ++ codes " none")
 whole_run edit (Some run) = whole_line (codes "at " ++ decimal edit ++ codes " from " ++ decimal run.0 ++ codes " to " ++ decimal run.1)
 
--- a scan
-whole_scan : (edit : ℕ) (inclusive : Bool) (kind : Kind) (values : List Shown) → IsWhole (scan_text edit inclusive kind values)
-whole_scan edit inclusive kind values =
-    whole_append (scan_head edit inclusive kind (length values)) (flat_map scanned_text values)
-    (whole_line (codes "at " ++ decimal edit ++ codes " " ++ scan_name inclusive ++ codes " " ++ kind_name kind ++ codes " " ++ decimal (length values)))
-    (whole_parts scanned_text values (λ value. whole_line (codes "= " ++ shown_text value)))
-
 -- the reply to a command that nothing refuses
 whole_command : (k : Known) (c : LongCommand) → IsWhole (reply_of k c)
 whole_command k (command.Edit e) =
@@ -121,35 +105,11 @@ whole_reply k n (Do c) = whole_decided (reply_of k c) (refusal_of k c) (whole_co
 
 -- ---- where memory was there
 
--- the second of two parts
-all_second : {X : Type 0} (P : X → Type 0) (xs ys : List X) → All P (xs ++ ys) → All P ys
-all_second P [] ys all = all
-all_second P (x ∷ xs) ys all = all_second P xs ys (All-tail P x (xs ++ ys) all)
-
--- a line doesn't tell that memory was wanting
-abbrev IsNoWant : List ℕ → Type 0
-IsNoWant line = reply_line line ≢ refused_text NoMemory
-
 -- what met want of memory was refused so
 want_text : (old new : Plain) (line : Line LongCommand) (text : List ℕ) → MeetsWant old line text new → text ≡ refused_text NoMemory
 want_text old new Nothing text want = absurd want
 want_text old new Bad text want = absurd want
 want_text old new (Do c) text want = want.2
-
--- the lines of a text whose first part is whole are those of both parts
-lines_after : (front rest : List ℕ) → IsWhole front → NeverWants (front ++ rest) → NeverWants rest
-lines_after front rest whole never =
-    let parts : lines_of (front ++ rest) ≡ whole_lines_of front ++ lines_of rest = lines_of-append front rest ∙ ap (λ begun. whole_lines_of front ++ lines_of (begun ++ rest)) whole in
-    all_second IsNoWant (whole_lines_of front) (lines_of rest) (subst (All IsNoWant) parts never)
-
--- a text that begins with a refusal for want of memory tells it
-tells_want : (rest : List ℕ) → NeverWants (refused_text NoMemory ++ rest) → ⊥
-tells_want rest never =
-    let bytes = refused_bytes NoMemory in
-    let lines : whole_lines_of (reply_line bytes) ≡ bytes ∷ [] = whole_lines_of-ended bytes [] (refused_one NoMemory) in
-    let parts : lines_of (reply_line bytes ++ rest) ≡ bytes ∷ lines_of rest =
-    lines_of-append (reply_line bytes) rest ∙ ap₂ (λ lines begun. lines ++ lines_of (begun ++ rest)) lines (whole_line bytes) in
-    All-head IsNoWant bytes (lines_of rest) (subst (All IsNoWant) parts never) refl
 
 -- a line that memory was there for, by the text from it on
 room_step : (old new : Plain) (n : ℕ) (line text rest : List ℕ) → PlainStep old n line text new → NeverWants (text ++ rest)
