@@ -4,6 +4,7 @@ pub mod EditLaws
 pub mod EntryLaws
 pub mod NoteLaws
 pub mod QueryLaws
+mod QuerySetLaws
 pub mod RangeLaws
 mod RoomLaws
 mod UnaskedLaws

@@ -1,4 +1,6 @@
 -- Names the files of definitions of `lv_standing`.
 pub mod Inner
 pub mod Queries
+pub mod QuerySets
 pub mod Standings
+pub mod SetLaws

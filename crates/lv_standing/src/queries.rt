@@ -1,7 +1,8 @@
 //! Queries by name, and why one is refused.
-ghost use Rattle.std.specs.Prelude.{◌≡◌, []};
+ghost use Rattle.std.specs.Prelude.{◌≡◌, ◌≢◌, []};
 ghost use Rattle.lv_standing.specs.Queries.{query_refusal, untold, watch_answer};
 
+use crate::questions::Question;
 use lv_bodies::{Body, Kind, Name, Shown, Six, face};
 use lv_geometry::Refusal;
 
@@ -15,12 +16,17 @@ pub struct Query {
     pub hi: u32,
 }
 
-impl Query {
-    /// Why a set that has these queries, and may have at most so many, refuses it, want of memory apart: `BadRange`, `NameTaken`, then
-    /// `TooMany`, if it does.
-    pub fn refusal_among(&self, queries: &[Query], most: usize) -> Option<Refusal>
-        ensures { result ≡ query_refusal most queries.now self.now }
-    {
+impl Question for Query {
+    ghost refusal = { query_refusal };
+
+    ghost name_of = { λ q. q.name };
+
+    ghost idle = { λ q before now. now ≡ before };
+
+    ghost due = { λ q before now. now ≢ before };
+
+    // `BadRange`, `NameTaken`, then `TooMany`.
+    fn refusal_among(&self, queries: &[Query], most: usize) -> Option<Refusal> {
         if self.hi < self.lo {
             return Some(Refusal::BadRange);
         }
@@ -34,6 +40,16 @@ impl Query {
         None
     }
 
+    fn name(&self) -> Name {
+        self.name
+    }
+
+    fn is_due(&self, before: &Shown, now: &Shown) -> bool {
+        *now != *before
+    }
+}
+
+impl Query {
     /// What it counts as told before its first note: its answer of no elements.
     pub fn untold(&self) -> Shown
         ensures value { result ≡ untold self.now }

@@ -5,24 +5,24 @@ use Rattle.std.specs.Str.{bytes_eq}
 use Rattle.std.proofs.lemmas.Iterator.{YieldsList-from_slice}
 use Rattle.std.proofs.lemmas.Iterator.Search.{any_from_yields_List}
 use Rattle.lv_standing.proofs.QueryLaws.{name_refused, name_taken, not_refused}
-use Rattle.lv_standing.proofs.queries.Query.refusal_among.Goals as goal
+use Rattle.lv_standing.proofs.queries.QueryQuestion.refusal_among.Goals as goal
 
-pub returns-then-any : goal.returns-then-any
-returns-then-any c =
+pub returns-then-any-clause-why : goal.returns-then-any-clause-why
+returns-then-any-clause-why c =
     let qs = c.args.queries.now in
     let found : c.any.result ≡ list_any (λ q. bytes_eq q.name c.args.self.now.name) qs =
     any_from_yields_List (λ q. bytes_eq q.name c.args.self.now.name) _ _ c.any.result c.any.ensures.ran (YieldsList-from_slice qs cc) (λ x b q k. search (rules, tests)) in
     sym (name_taken c.args.most qs c.args.self.now (omega arith) (sym found ∙ c.if-any.true))
 
-pub returns : goal.returns
-returns c =
+pub returns-clause-why : goal.returns-clause-why
+returns-clause-why c =
     let qs = c.args.queries.now in
     let found : c.any.result ≡ list_any (λ q. bytes_eq q.name c.args.self.now.name) qs =
     any_from_yields_List (λ q. bytes_eq q.name c.args.self.now.name) _ _ c.any.result c.any.ensures.ran (YieldsList-from_slice qs cc) (λ x b q k. search (rules, tests)) in
     sym (not_refused c.args.most qs c.args.self.now (omega arith) (sym found ∙ c.if-any.false) (omega arith))
 
-pub returns-then-queries-most : goal.returns-then-queries-most
-returns-then-queries-most c =
+pub returns-then-queries-most-clause-why : goal.returns-then-queries-most-clause-why
+returns-then-queries-most-clause-why c =
     let qs = c.args.queries.now in
     let found : c.any.result ≡ list_any (λ q. bytes_eq q.name c.args.self.now.name) qs =
     any_from_yields_List (λ q. bytes_eq q.name c.args.self.now.name) _ _ c.any.result c.any.ensures.ran (YieldsList-from_slice qs cc) (λ x b q k. search (rules, tests)) in

@@ -1,0 +1,49 @@
+-- The notes and the answers of some queries, one query after another.
+use Rattle.std.proofs.Common.{◌≡◌, ◌<◌, ◌+◌, ℕ, List, [], ◌∷◌, ◌++◌, length, map, take, get_or, append_assoc, ap, sym, subst, ◌∙◌, inl, inr, arith}
+use Rattle.std.proofs.lemmas.List.{length-take-le, map-append, take_more}
+use Rattle.lv_bodies.specs.declared.kinds.Shown.{Shown}
+use Rattle.lv_standing.specs.declared.notes.Note.{Note}
+use Rattle.lv_standing.specs.QuerySets.{AddsDue, AreDue}
+
+-- a list up to an index, and what stands there
+next_of : {A : Type 0} (xs : List A) (i : ℕ) (x : A) → x ≡ get_or xs i x → i < length xs → take (i + 1) xs ≡ take i xs ++ x ∷ []
+next_of xs i x is inside = take_more xs i x inside ∙ ap (λ y. take i xs ++ y ∷ []) (sym is)
+
+module _ {Q : Type 0} where
+  -- the queries up to an index were answered, and then what stands there
+  pub next_answer : (answer_of : Q → Shown) (q : Q) (answer : Shown) (queries : List Q) (answers more : List Shown) (i : ℕ) → answer ≡ answer_of q → q ≡ get_or queries i q → i < length queries
+      → more ≡ answers ++ answer ∷ [] → answers ≡ map answer_of (take i queries) → more ≡ map answer_of (take (i + 1) queries)
+  next_answer answer_of q answer queries answers more i is q_is inside pushed so_far =
+      pushed
+      ∙ ap (λ vs. vs ++ answer ∷ []) so_far
+      ∙ ap (λ v. map answer_of (take i queries) ++ v ∷ []) is
+      ∙ sym (ap (map answer_of) (next_of queries i q q_is inside) ∙ map-append answer_of (take i queries) (q ∷ []))
+
+  module _ (name_of : Q → List ℕ) (is_idle is_due : Q → Shown → Shown → Type 0) where
+    -- the notes of some queries and those of one more are the notes of all
+    due_more : (queries : List Q) (told answers : List Shown) (notes : List Note) (q : Q) (before answer : Shown) (more : List Note) → length told ≡ length queries → length answers ≡ length queries
+        → AreDue name_of is_idle is_due queries told answers notes → AreDue name_of is_idle is_due (q ∷ []) (before ∷ []) (answer ∷ []) more → AreDue name_of is_idle is_due (queries ++ q ∷ []) (told ++ before ∷ []) (answers ++ answer ∷ []) (notes ++ more)
+    due_more [] [] [] notes q before answer more as_told as_answers none one =
+        subst (λ ns. AreDue name_of is_idle is_due (q ∷ []) (before ∷ []) (answer ∷ []) (ns ++ more)) (sym none) one
+    due_more [] [] (v ∷ answers) notes q before answer more as_told as_answers none one = absurd (omega (arith, as_answers))
+    due_more [] (b ∷ told) answers notes q before answer more as_told as_answers none one = absurd (omega (arith, as_told))
+    due_more (p ∷ queries) [] answers notes q before answer more as_told as_answers none one = absurd (omega (arith, as_told))
+    due_more (p ∷ queries) (b ∷ told) [] notes q before answer more as_told as_answers none one = absurd (omega (arith, as_answers))
+    due_more (p ∷ queries) (b ∷ told) (v ∷ answers) notes q before answer more as_told as_answers (inl idle) one =
+        inl (idle.0, due_more queries told answers notes q before answer more (omega (arith, as_told)) (omega (arith, as_answers)) idle.1 one)
+    due_more (p ∷ queries) (b ∷ told) (v ∷ answers) notes q before answer more as_told as_answers (inr due) one =
+        inr (due.0, due.1 ++ more, ap (λ ns. ns ++ more) due.2, due_more queries told answers due.1 q before answer more (omega (arith, as_told)) (omega (arith, as_answers)) due.3 one)
+
+    -- what is due of the queries up to an index was noted, and then what stands there
+    pub next_due : (q : Q) (before answer : Shown) (queries : List Q) (told answers : List Shown) (first notes more : List Note) (i : ℕ) → AddsDue name_of is_idle is_due (q ∷ []) (before ∷ []) (answer ∷ []) notes more
+        → length told ≡ length queries → length answers ≡ length queries → i < length queries → q ≡ get_or queries i q → before ≡ get_or told i before → answer ≡ get_or answers i answer
+        → AddsDue name_of is_idle is_due (take i queries) (take i told) (take i answers) first notes → AddsDue name_of is_idle is_due (take (i + 1) queries) (take (i + 1) told) (take (i + 1) answers) first more
+    next_due q before answer queries told answers first notes more i one as_told as_answers inside q_is before_is answer_is so_far =
+        let many_told : length (take i told) ≡ length (take i queries) = length-take-le i told (omega arith) ∙ sym (length-take-le i queries (omega arith)) in
+        let many_answers : length (take i answers) ≡ length (take i queries) = length-take-le i answers (omega arith) ∙ sym (length-take-le i queries (omega arith)) in
+        let all = due_more (take i queries) (take i told) (take i answers) so_far.added q before answer one.added many_told many_answers so_far.are one.are in
+        record {
+          added = so_far.added ++ one.added;
+          are = rw (next_of queries i q q_is inside, next_of told i before before_is (omega arith), next_of answers i answer answer_is (omega arith)) all;
+          all = one.all ∙ ap (λ ns. ns ++ one.added) so_far.all ∙ append_assoc first so_far.added one.added;
+        }

@@ -1,0 +1,51 @@
+-- Sets of queries by name, whatever they ask: what a set has, and which notes are due.
+use Rattle.std.specs.Prelude.{◌≡◌, ◌⊎◌, ℕ, Option, List, [], ◌∷◌, ◌++◌, position}
+use Rattle.std.specs.List.{remove}
+use Rattle.std.specs.Str.{bytes_eq}
+use Rattle.lv_bodies.specs.declared.kinds.Shown.{Shown}
+use Rattle.lv_standing.specs.declared.notes.Note.{Note}
+
+-- a set: its queries in the order of their registration, what each was told last, what they were answered last, and how many it may have
+pub record QuerySetState (Q : Type 0) : Type 0 where
+  pub queries : List Q
+  pub told : List Shown
+  pub answers : List Shown
+  pub most : ℕ
+
+module _ {Q : Type 0} where
+  -- a set with a query more, which counts as told this answer; nothing was answered since
+  abbrev pub with_query : QuerySetState Q → Q → Shown → QuerySetState Q
+  with_query s q told = record { queries = s.queries ++ q ∷ []; told = s.told ++ told ∷ []; answers = []; most = s.most }
+
+  -- a set without the query at a place; the others keep their order, and what they were told
+  abbrev pub without_place : QuerySetState Q → ℕ → QuerySetState Q
+  without_place s at = record { queries = remove s.queries at; told = remove s.told at; answers = []; most = s.most }
+
+  -- a set whose queries were answered so
+  abbrev pub with_answers : QuerySetState Q → List Shown → QuerySetState Q
+  with_answers s answers = record { queries = s.queries; told = s.told; answers = answers; most = s.most }
+
+  -- a set whose queries count as told what they were answered
+  abbrev pub with_told : QuerySetState Q → QuerySetState Q
+  with_told s = record { queries = s.queries; told = s.answers; answers = []; most = s.most }
+
+  module _ (name_of : Q → List ℕ) where
+    -- where the query of a name is, if there is one
+    abbrev pub place_of : List Q → List ℕ → Option ℕ
+    place_of queries name = position (λ q. bytes_eq (name_of q) name) queries
+
+    module _ (is_idle is_due : Q → Shown → Shown → Type 0) where
+      -- the notes of some answers: one for each query, in order, whose answer is to be told after what it was told, with that answer
+      abbrev pub AreDue : List Q → List Shown → List Shown → List Note → Type 0
+      AreDue [] told answers notes = notes ≡ []
+      AreDue (q ∷ queries) [] answers notes = notes ≡ []
+      AreDue (q ∷ queries) (before ∷ told) [] notes = notes ≡ []
+      AreDue (q ∷ queries) (before ∷ told) (answer ∷ answers) notes =
+          (is_idle q before answer × AreDue queries told answers notes)
+          ⊎ (is_due q before answer × (rest : List Note) × (notes ≡ record { name = name_of q; value = answer } ∷ rest) × AreDue queries told answers rest)
+
+      -- they stand behind the notes that a list had
+      pub record AddsDue (queries : List Q) (told answers : List Shown) (notes more : List Note) : Type 0 where
+        pub added : List Note
+        pub are : AreDue queries told answers added
+        pub all : more ≡ notes ++ added

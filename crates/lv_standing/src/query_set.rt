@@ -1,0 +1,214 @@
+//! A set of queries by name, whatever they ask.
+ghost use Rattle.std.specs.Prelude.{◌≡◌, ◌+◌, ◌<◌, ◌≤◌, ◌∷◌, [], None, IfErr, OnErr, OnOk, length, map, vec_capacity, vec_len};
+ghost use Rattle.lv_edits.specs.Verdict.{IsRefusal};
+ghost use Rattle.lv_standing.specs.QuerySets.{AddsDue, place_of, with_answers, with_query, without_place, with_told};
+
+use crate::notes::Note;
+use crate::questions::{Answers, Question};
+use lv_bodies::{Name, Shown};
+use lv_geometry::Refusal;
+use std::alloc::{AllocError, Global};
+use std::marker::Model;
+use std::mem;
+
+/// Queries by name, in the order of their registration, and what each was told last. Asking is one step and telling another, so that all
+/// answers are of one edit and a lock need be held for the first only.
+#[derive(Drop)]
+pub struct QuerySet<Q> {
+    queries: Vec<Q>,
+    told: Vec<Shown>,
+    // What they were answered last, and room for the answers of all.
+    answers: Vec<Shown>,
+    most: usize,
+}
+
+impl<Q> Model for QuerySet<Q> {
+    ghost use Rattle.std.specs.Prelude.{◌≡◌, ◌≤◌, length, vec_capacity};
+    ghost use Rattle.lv_standing.specs.QuerySets.{QuerySetState};
+
+    ghost Value = { QuerySetState Q };
+
+    ghost view = { λ s. record { queries = s.queries.items; told = s.told.items; answers = s.answers.items; most = s.most } };
+
+    ghost invariant = { λ s. (length s.told.items ≡ length s.queries.items) × (length s.queries.items ≤ vec_capacity s.told) × (length s.queries.items ≤ vec_capacity s.answers) × (length s.queries.items ≤ s.most) };
+}
+
+impl<Q: Question> QuerySet<Q> {
+    /// A set without queries, which may have at most so many. Takes no memory.
+    pub fn new(alloc: Global, most: usize) -> QuerySet<Q>
+        ensures { result ≡ record { queries = []; told = []; answers = []; most = most } }
+    {
+        QuerySet {
+            queries: Vec::new(alloc),
+            told: Vec::new(alloc),
+            answers: Vec::new(alloc),
+            most,
+        }
+    }
+
+    /// Registers a query behind the others, which counts as told this answer. Refused as the query says, then with `NoMemory`; nothing has
+    /// changed then. What was answered before is forgotten.
+    pub fn watch(&mut self, query: &Q, told: Shown) -> Result<(), Refusal>
+        ensures ok { OnOk result ((Q.refusal self.old.most self.old.queries query.now ≡ None) × (self.new ≡ with_query self.old query.now told)) }
+        ensures err { IfErr result (λ refusal. IsRefusal (Q.refusal self.old.most self.old.queries query.now) refusal) }
+        ensures unchanged { OnErr result (self.new.queries ≡ self.old.queries) }
+        ensures untold { OnErr result (self.new.told ≡ self.old.told) }
+        ensures most { self.new.most ≡ self.old.most }
+    {
+        match query.refusal_among(&self.queries, self.most) {
+            Some(refusal) => Err(refusal),
+            None => self.add(query, told),
+        }
+    }
+
+    // Registers a query that nothing but a want of memory refuses.
+    fn add(&mut self, query: &Q, told: Shown) -> Result<(), Refusal>
+        requires free { Q.refusal self.old.most self.old.queries query.now ≡ None }
+        requires few { length self.old.queries < self.old.most }
+        ensures ok { OnOk result (self.new ≡ with_query self.old query.now told) }
+        ensures err { IfErr result (λ refusal. refusal ≡ Refusal.NoMemory) }
+        ensures unchanged { OnErr result (self.new.queries ≡ self.old.queries) }
+        ensures untold { OnErr result (self.new.told ≡ self.old.told) }
+        ensures most { self.new.most ≡ self.old.most }
+    {
+        let Ok(()) = make_room(&mut self.queries, &mut self.told, &mut self.answers) else {
+            return Err(Refusal::NoMemory);
+        };
+        self.queries.push_reserved(*query);
+        self.told.push_reserved(told);
+        Ok(())
+    }
+
+    /// Where the query of a name is, if there is one.
+    pub fn place(&self, name: &Name) -> Option<usize>
+        ensures { result ≡ place_of Q.name_of self.now.queries name.now }
+    {
+        self.queries.iter().position(|query| query.name() == *name)
+    }
+
+    /// Forgets the query at a place; the others keep their order, and what they were told.
+    pub fn forget(&mut self, place: usize)
+        requires { place < length self.old.queries }
+        ensures { self.new ≡ without_place self.old place }
+    {
+        self.queries.remove(place);
+        self.told.remove(place);
+        self.answers.clear();
+    }
+
+    /// The queries, in the order of their registration.
+    pub fn queries(&self) -> &[Q]
+        ensures queries { result.now ≡ self.now.queries }
+        ensures few { length result.now ≤ self.now.most }
+    {
+        &self.queries
+    }
+
+    /// What each was told last.
+    pub fn told(&self) -> &[Shown]
+        ensures told { result.now ≡ self.now.told }
+        ensures each { length result.now ≡ length self.now.queries }
+    {
+        &self.told
+    }
+
+    /// What they were answered last.
+    pub fn answers(&self) -> &[Shown]
+        ensures { result.now ≡ self.now.answers }
+    {
+        &self.answers
+    }
+
+    /// Asks all of them at once. Takes no memory, and nothing counts as told by it.
+    pub fn ask<A: Answers<Q>>(&mut self, asked: &mut A)
+        requires { A.may_ask asked.old }
+        ensures answers { self.new ≡ with_answers self.old (map (A.answer_of asked.old) self.old.queries) }
+        ensures same { A.same asked.old asked.new }
+    {
+        ask_each(&self.queries, asked, &mut self.answers);
+    }
+
+    /// Puts a note of each query, in order, whose last answer is due behind the notes that a list has.
+    pub fn put_due(&self, notes: &mut Vec<Note>)
+        requires asked { length self.now.answers ≡ length self.now.queries }
+        requires room { vec_len notes.old + length self.now.queries ≤ vec_capacity notes.old }
+        ensures notes { AddsDue Q.name_of Q.idle Q.due self.now.queries self.now.told self.now.answers notes.old.items notes.new.items }
+        ensures capacity { vec_capacity notes.new ≡ vec_capacity notes.old }
+    {
+        note_each(&self.queries, &self.told, &self.answers, notes);
+    }
+
+    /// Each counts as told what it was answered last.
+    pub fn mark_told(&mut self)
+        requires { length self.old.answers ≡ length self.old.queries }
+        ensures { self.new ≡ with_told self.old }
+    {
+        mem::swap(&mut self.told, &mut self.answers);
+        self.answers.clear();
+    }
+}
+
+// Makes room for one query more, for what it was told, and for the answers of all.
+fn make_room<Q>(
+    queries: &mut Vec<Q>,
+    told: &mut Vec<Shown>,
+    answers: &mut Vec<Shown>,
+) -> Result<(), AllocError>
+    ensures queries { queries.new.items ≡ queries.old.items }
+    ensures told { told.new.items ≡ told.old.items }
+    ensures answers { answers.new.items ≡ [] }
+    ensures query_room { OnOk result (vec_len queries.new + 1 ≤ vec_capacity queries.new) }
+    ensures told_room { OnOk result (vec_len told.new + 1 ≤ vec_capacity told.new) }
+    ensures answer_room { OnOk result (vec_len queries.new + 1 ≤ vec_capacity answers.new) }
+    ensures told_keeps { vec_capacity told.old ≤ vec_capacity told.new }
+    ensures answers_keep { vec_capacity answers.old ≤ vec_capacity answers.new }
+{
+    let count = queries.len().saturating_add(1);
+    answers.clear();
+    answers.reserve(count)?;
+    told.reserve(1)?;
+    queries.reserve(1)
+}
+
+// What each query is answered, in place of what they were answered. The room was made before.
+fn ask_each<Q, A: Answers<Q>>(queries: &[Q], asked: &mut A, answers: &mut Vec<Shown>)
+    requires may { A.may_ask asked.old }
+    requires room { length queries.now ≤ vec_capacity answers.old }
+    ensures answers { answers.new.items ≡ map (A.answer_of asked.old) queries.now }
+    ensures capacity { vec_capacity answers.new ≡ vec_capacity answers.old }
+    ensures same { A.same asked.old asked.new }
+{
+    answers.clear();
+    for query in queries {
+        let answer = asked.answer(query);
+        answers.push_reserved(answer);
+    }
+}
+
+// Puts a note of each query, in order, whose answer is due behind the notes that a list has.
+fn note_each<Q: Question>(queries: &[Q], told: &[Shown], answers: &[Shown], notes: &mut Vec<Note>)
+    requires told { length told.now ≡ length queries.now }
+    requires answers { length answers.now ≡ length queries.now }
+    requires room { vec_len notes.old + length queries.now ≤ vec_capacity notes.old }
+    ensures notes { AddsDue Q.name_of Q.idle Q.due queries.now told.now answers.now notes.old.items notes.new.items }
+    ensures capacity { vec_capacity notes.new ≡ vec_capacity notes.old }
+{
+    for i in 0..queries.len() {
+        note_one(&queries[i], &told[i], &answers[i], notes);
+    }
+}
+
+// Puts a note of a query, if its answer is due.
+fn note_one<Q: Question>(query: &Q, before: &Shown, answer: &Shown, notes: &mut Vec<Note>)
+    requires { vec_len notes.old + 1 ≤ vec_capacity notes.old }
+    ensures noted { AddsDue Q.name_of Q.idle Q.due (query.now ∷ []) (before.now ∷ []) (answer.now ∷ []) notes.old.items notes.new.items }
+    ensures few { vec_len notes.new ≤ vec_len notes.old + 1 }
+    ensures capacity { vec_capacity notes.new ≡ vec_capacity notes.old }
+{
+    if query.is_due(before, answer) {
+        notes.push_reserved(Note {
+            name: query.name(),
+            value: *answer,
+        });
+    }
+}

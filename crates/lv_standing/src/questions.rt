@@ -1,0 +1,94 @@
+//! What a query asks by a name, and who can be asked.
+ghost use Rattle.std.specs.Prelude.{◌≡◌, ◌<◌, ℕ, Option, None, List, length, true, false};
+ghost use Rattle.lv_geometry.specs.declared.refusals.Refusal.{Refusal as Refused};
+ghost use Rattle.lv_bodies.specs.declared.kinds.Shown.{Shown as Value};
+ghost use Rattle.lv_edits.specs.Kept.{IsLegalInLimits};
+ghost use Rattle.lv_live.specs.State.{SameLive};
+ghost use Rattle.lv_standing.specs.Queries.{watch_answer};
+ghost use Rattle.lv_standing.specs.SetLaws.{live_answers_alike, live_may_ask_on, live_same, live_same_after_both};
+
+use crate::queries::Query;
+use lv_bodies::{Name, Shown, Six, face};
+use lv_geometry::Refusal;
+use lv_live::Live;
+
+/// A query by a name: why a set refuses it, and when its answer is to be told.
+pub trait Question: Copy {
+    // Why a set that has these queries, and may have at most so many, refuses it, out of memory apart.
+    ghost refusal: { ℕ → List Self → Self → Option Refused };
+
+    // Its name.
+    ghost name_of: { Self → List ℕ };
+
+    // That an answer isn't to be told after another, and that it is.
+    ghost idle: { Self → Value → Value → Type 0 };
+
+    ghost due: { Self → Value → Value → Type 0 };
+
+    /// Why a set that has these queries, and may have at most so many, refuses it, out of memory apart, if it does.
+    fn refusal_among(&self, queries: &[Self], most: usize) -> Option<Refusal>
+        ensures why { result ≡ refusal most queries.now self.now }
+        ensures few { result ≡ None → length queries.now < most };
+
+    /// Its name.
+    fn name(&self) -> Name
+        ensures { result ≡ name_of self.now };
+
+    /// Whether an answer is to be told where it was told another.
+    fn is_due(&self, before: &Shown, now: &Shown) -> bool
+        ensures due { result ≡ true → due self.now before.now now.now }
+        ensures idle { result ≡ false → idle self.now before.now now.now };
+}
+
+/// Who answers queries: a vector, or a series.
+pub trait Answers<Q> {
+    // That it may be asked.
+    ghost may_ask: { Self → Type 0 };
+
+    // What it answers a query.
+    ghost answer_of: { Self → Q → Value };
+
+    // That nothing has changed that an answer depends on, or that a caller sees.
+    ghost same: { Self → Self → Type 0 };
+
+    // Nothing has changed if nothing was asked, and nothing has after two questions; one may ask on, and is answered alike.
+    ghost same_at_once: { (a : Self) → same a a };
+
+    ghost same_after_both: { (a b c : Self) → same a b → same b c → same a c };
+
+    ghost may_ask_on: { (a b : Self) → same a b → may_ask a → may_ask b };
+
+    ghost answers_alike: { (a b : Self) (q : Q) → same a b → answer_of b q ≡ answer_of a q };
+
+    /// The answer to a query. Takes no memory.
+    fn answer(&mut self, query: &Q) -> Shown
+        requires { may_ask self.old }
+        ensures value { result ≡ answer_of self.old query.now }
+        ensures same { same self.old self.new };
+}
+
+impl Answers<Query> for Live<Six> {
+    ghost may_ask = { λ live. IsLegalInLimits live.history };
+
+    ghost answer_of = { λ live q. watch_answer live.history.journal q };
+
+    ghost same = { SameLive };
+
+    ghost same_at_once = { live_same };
+
+    ghost same_after_both = { live_same_after_both };
+
+    ghost may_ask_on = { live_may_ask_on };
+
+    ghost answers_alike = { live_answers_alike };
+
+    // Of the range what exists is asked, and is cheap until an edit touches it.
+    fn answer(&mut self, query: &Query) -> Shown {
+        let end = query.hi.min(self.size());
+        let start = query.lo.min(end);
+        match self.ask(start, end) {
+            Ok(answer) => face(query.kind, answer.value),
+            Err(_) => unreachable!(),
+        }
+    }
+}
