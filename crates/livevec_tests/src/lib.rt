@@ -39,6 +39,8 @@ mod memory;
 #[cfg(test)]
 mod parallel;
 #[cfg(test)]
+mod query_sets;
+#[cfg(test)]
 mod runs;
 #[cfg(test)]
 mod same;
