@@ -170,7 +170,13 @@ impl<B: LongBody> FoldTree<B> {
         join_laws(&self.body);
         let start = (from - self.first) as usize + self.lo;
         let end = (to - self.first) as usize + self.lo;
-        fold_between(&self.body, self.cells.as_slice(), start, end)
+        fold_between(
+            &self.body,
+            self.cells.as_slice(),
+            start,
+            end,
+            from == self.first,
+        )
     }
 
     /// The first of the leaves from number `from` up to `to` with which a test on what `start` and the leaves from `from` on come to
@@ -361,6 +367,7 @@ impl<B: LongBody> Tree for FoldTree<B> {
             self.cells.as_slice(),
             from + self.lo,
             to + self.lo,
+            from == 0,
         )
     }
 }

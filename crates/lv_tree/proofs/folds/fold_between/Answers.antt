@@ -21,12 +21,12 @@ with_node_before-back-requires-clause-inside g c =
     omega (arith, k, c.requires.inside)
 
 pub with_node_behind-front-requires-clause-may : goal.with_node_behind-front-requires-clause-may
-with_node_behind-front-requires-clause-may g c odd =
+with_node_behind-front-requires-clause-may g c =
     let body = c.args.body.now in
     front_may (g.B.Joins.operations body) (g.B.Joins.is_within body) c.join_laws.ensures c.args.cells.now c.args.from c.args.to c.requires.folds c.requires.tree c.loop-low.low c.loop-low.high c.loop-low.front c.loop-low.back c.loop-low.invariant c.loop-low-test.true
 
 pub with_node_before-back-requires-clause-may : goal.with_node_before-back-requires-clause-may
-with_node_before-back-requires-clause-may g c odd =
+with_node_before-back-requires-clause-may g c =
     let body = c.args.body.now in
     back_may (g.B.Joins.operations body) (g.B.Joins.is_within body) c.join_laws.ensures c.args.cells.now c.args.from c.args.to c.requires.folds c.requires.tree c.loop-low.low c.loop-low.high c.loop-low.front c.loop-low.back c.loop-low.invariant c.loop-low-test.true
 
