@@ -5,7 +5,7 @@ use Rattle.std.proofs.lemmas.List.Elements.{All-drop}
 use Rattle.lv_geometry.specs.Elements.{IsElement}
 use Rattle.lv_bodies.specs.Body.{Operations, fold_of}
 use Rattle.lv_edits.proofs.Slices.{part_of_take}
-use Rattle.lv_series.specs.Blocks.{CoversBlocks, CoversTo, IsWindow, Layered, ReachesTo, TakesLeaf, TakesLeafAt, from_first}
+use Rattle.lv_series.specs.Blocks.{CoversBlocks, CoversTo, IsWindow, Layered, TakesLeaf, TakesLeafAt, from_first}
 use Rattle.lv_tree.specs.BlockLaws.{leaves_dropped, leaves_fewer, leaves_join, leaves_longer, leaves_more, leaves_set}
 use Rattle.lv_tree.specs.Blocks.{AreLeaves, block_of}
 use Rattle.lv_tree.specs.Folds.{AreFolds}
@@ -119,9 +119,6 @@ module _ {B S : Type 0} (o : Operations S) (base first : ℕ) (xs : List ℤ) (w
 
   -- the first so many elements
   module _ (kept : ℕ) (low : first ≤ 8 * base + kept) (high : kept ≤ length xs) where
-    pub reaches_cut : ReachesTo (base + kept / 8) t
-    reaches_cut = record { low = omega (arith, h.start, low); high = omega (arith, h.whole, high) }
-
     pub covers_cut : CoversBlocks o base first (take kept xs) (record t { sums = take (base + kept / 8 - t.first) t.sums })
     covers_cut =
         let leaves = base + kept / 8 - t.first in
@@ -144,9 +141,6 @@ module _ {B S : Type 0} (o : Operations S) (base first : ℕ) (xs : List ℤ) (w
 
   -- without elements in front, of which whole blocks are removed
   module _ (to : ℕ) (low : first ≤ to) (high : to ≤ 8 * base + length xs) where
-    pub reaches_expired : ReachesTo (to / 8) t
-    reaches_expired = record { low = omega (arith, h.start, low); high = omega (arith, h.whole, high) }
-
     pub covers_expired : (whole : ℕ) → 8 * whole ≤ to - 8 * base → CoversBlocks o (base + whole) to (drop (8 * whole) xs) (record t { first = to / 8; sums = drop (to / 8 - t.first) t.sums })
     covers_expired whole past =
         let m = to / 8 - t.first in

@@ -1,5 +1,5 @@
 -- The trees of all kinds after the elements have changed: what holds of one of them holds of each.
-use Rattle.std.proofs.Common.{◌≡◌, ℕ, ℤ, ◌+◌, ◌-◌, ◌*◌, ◌/◌, ◌%◌, ◌<◌, ◌≤◌, Bool, List, [], ◌∷◌, ◌++◌, length, take, drop, slice_set, refl, sym, ap, ◌∙◌, subst, arith}
+use Rattle.std.proofs.Common.{◌≡◌, ℕ, ℤ, ◌+◌, ◌-◌, ◌*◌, ◌/◌, ◌%◌, ◌<◌, ◌≤◌, Bool, if◌then◌else◌, List, [], ◌∷◌, ◌++◌, length, take, drop, slice_set, refl, sym, ap, ◌∙◌, subst, arith}
 use Rattle.lv_bodies.specs.AffineMaps.{affine_operations}
 use Rattle.lv_bodies.specs.Automata.{table_of}
 use Rattle.lv_bodies.specs.Body.{Operations, fold_of}
@@ -16,12 +16,13 @@ use Rattle.lv_bodies.specs.declared.orders.Downward.{Downward}
 use Rattle.lv_bodies.specs.declared.orders.Upward.{Upward}
 use Rattle.lv_bodies.specs.declared.runs.Runs.{Runs}
 use Rattle.lv_bodies.specs.declared.sums.Sum.{Sum}
-use Rattle.lv_series.specs.Blocks.{CanCut, CanGrow, CanRenew, IsOver, IsWindow, Layered, before_block, from_block, with_leaf, with_leaf_at}
+use Rattle.lv_series.specs.Blocks.{CanGrow, CanRenew, CoversBlocks, IsOver, IsWindow, Layered}
 use Rattle.lv_series.specs.Plain.{KeptKinds}
-use Rattle.lv_series.specs.Trees.{AreOver, CanCutAll, CanGrowAll, CanRenewAll, Change, KeepsKinds, Law, OfEach, TreesState, before_blocks, each, from_blocks, grown_in, table_in, taken_back, with_leaves, with_leaves_at}
+use Rattle.lv_series.specs.Trees.{AreOver, CanGrowAll, CanRenewAll, Change, KeepsKinds, Law, OfEach, TreesState, before_blocks, each, from_blocks, grown_in, table_in, taken_back, with_leaves, with_leaves_at}
 use Rattle.lv_series.specs.declared.trees.Grown.{Grown}
 use Rattle.lv_tree.specs.Parts.{run_of}
-use Rattle.lv_series.proofs.LayerLaws.{can_cut, can_expire, can_grow, can_renew, is_back, over_beside, over_cut, over_expired, over_more, over_pushed, over_written, same_if}
+use Rattle.lv_series.proofs.BlockLaws.{covers_beside, covers_cut, covers_expired, covers_more, covers_pushed, covers_written, takes_leaf, takes_leaf_at}
+use Rattle.lv_series.proofs.LayerLaws.{is_back, over_if, same_if}
 
 -- the last block as the program takes it
 pub last_block : (ys zs : List ℤ) (len : ℕ) → zs ≡ ys → len ≡ length ys → length ys % 8 ≡ 0 → 0 < length ys → run_of zs (len - 8) (len - (len - 8)) ≡ run_of ys (length ys - 8) 8
@@ -67,30 +68,18 @@ holds_each P Q f keeps step t h = record {
 of_each : (P Q : Law) → ((B S : Type 0) (o : Operations S) (l : Layered B S) → P B S o l → Q B S o l) → (t : TreesState) → OfEach P t → OfEach Q t
 of_each P Q step t h = holds_each P Q (λ B S o l. l) (λ B S o l. (refl, refl)) step t h
 
--- the changes of trees keep their kinds
-grown_keeps : (block : List ℤ) → Keeps (λ B S o l. with_leaf (fold_of o block) l)
-grown_keeps block B S o l = same_if l.kept l (record l { sums = l.sums ++ fold_of o block ∷ [] }) refl refl
+-- a change where a tree is kept; it keeps which trees are kept, and by which body
+abbrev where_kept : Change → Change
+where_kept f B S o l = if l.kept then f B S o l else l
 
-pub keeps_grown : (block : List ℤ) (t : TreesState) → KeepsKinds t (with_leaves block t)
-keeps_grown block t = keeps_each (λ B S o l. with_leaf (fold_of o block) l) (grown_keeps block) t
+where_kept_keeps : (f : Change) → Keeps f → Keeps (where_kept f)
+where_kept_keeps f keeps B S o l = same_if l.kept l (f B S o l) (keeps B S o l).0 (keeps B S o l).1
 
-renewed_keeps : (at : ℕ) (block : List ℤ) → Keeps (λ B S o l. with_leaf_at at (fold_of o block) l)
-renewed_keeps at block B S o l = same_if l.kept l (record l { sums = slice_set l.sums (at - l.first) (fold_of o block) }) refl refl
-
-pub keeps_renewed : (at : ℕ) (block : List ℤ) (t : TreesState) → KeepsKinds t (with_leaves_at at block t)
-keeps_renewed at block t = keeps_each (λ B S o l. with_leaf_at at (fold_of o block) l) (renewed_keeps at block) t
-
-cut_keeps : (block : ℕ) → Keeps (λ B S o l. before_block block l)
-cut_keeps block B S o l = same_if l.kept l (record l { sums = take (block - l.first) l.sums }) refl refl
-
-pub keeps_cut : (block : ℕ) (t : TreesState) → KeepsKinds t (before_blocks block t)
-keeps_cut block t = keeps_each (λ B S o l. before_block block l) (cut_keeps block) t
-
-expired_keeps : (block : ℕ) → Keeps (λ B S o l. from_block block l)
-expired_keeps block B S o l = same_if l.kept l (record l { first = block; sums = drop (block - l.first) l.sums }) refl refl
-
-pub keeps_expired : (block : ℕ) (t : TreesState) → KeepsKinds t (from_blocks block t)
-keeps_expired block t = keeps_each (λ B S o l. from_block block l) (expired_keeps block) t
+-- what it makes of the blocks that each tree covers
+over_each : (f : Change) → Keeps f → (base first next to : ℕ) (xs ys : List ℤ) → ((B S : Type 0) (o : Operations S) (l : Layered B S) → CoversBlocks o base first xs l → CoversBlocks o next to ys (f B S o l)) → (t : TreesState) → AreOver base first xs t → AreOver next to ys (each (where_kept f) t)
+over_each f keeps base first next to xs ys step t h =
+    holds_each (λ B S o l. IsOver o base first xs l) (λ B S o l. IsOver o next to ys l) (where_kept f) (where_kept_keeps f keeps)
+    (λ B S o l g. over_if o next to ys l.kept l (f B S o l) refl (λ kept. step B S o l (g kept))) t h
 
 -- trees that have grown, and were taken back
 pub are_back : (g : Grown) (block : List ℤ) (t : TreesState) → taken_back g (grown_in g block t) ≡ t
@@ -103,53 +92,45 @@ are_back g block t =
     ∙ ap (λ l. record (taken_back g (grown_in g block t)) { sums = t.sums; least = t.least; greatest = t.greatest; best = t.best; maps = t.maps; states = l }) (is_back g.states (fold_of (automaton_operations (table_in t)) block) t.states)
 
 module _ (base first : ℕ) (xs : List ℤ) (w : IsWindow base first xs) (t : TreesState) (h : AreOver base first xs t) where
-  abbrev over : ℕ → ℕ → List ℤ → Law
-  over k n ys = λ B S o l. IsOver o k n ys l
+  abbrev over : List ℤ → Law
+  over ys = λ B S o l. IsOver o base first ys l
 
   -- an element more
   module _ (ys : List ℤ) (v : IsWindow base first ys) (x : ℤ) (is : ys ≡ xs ++ x ∷ []) where
     pub all_more : ¬ (length ys % 8 ≡ 0) → AreOver base first ys t
-    all_more apart = of_each (over base first xs) (over base first ys) (λ B S o l g. over_more o base first xs w l g ys v x is apart) t h
+    all_more apart = of_each (over xs) (over ys) (λ B S o l g kept. covers_more o base first xs w l (g kept) ys v x is apart) t h
 
     module _ (block : List ℤ) (full : length ys % 8 ≡ 0) (last : block ≡ run_of ys (length ys - 8) 8) where
       pub can_grow_all : CanGrowAll block t
-      can_grow_all = of_each (over base first xs) (λ B S o l. CanGrow o block l) (λ B S o l g. can_grow o base first xs w l g ys v x is block full last) t h
+      can_grow_all = of_each (over xs) (λ B S o l. CanGrow o block l) (λ B S o l g kept. takes_leaf o base first xs w l (g kept) ys v x is (fold_of o block) full (ap (fold_of o) last)) t h
 
       pub all_pushed : AreOver base first ys (with_leaves block t)
       all_pushed =
-          holds_each (over base first xs) (over base first ys) (λ B S o l. with_leaf (fold_of o block) l) (grown_keeps block)
-          (λ B S o l g. over_pushed o base first xs w l g ys v x is block full last) t h
+          over_each (λ B S o l. record l { sums = l.sums ++ fold_of o block ∷ [] }) (λ B S o l. (refl, refl)) base first base first xs ys
+          (λ B S o l g. covers_pushed o base first xs w l g ys v x is (fold_of o block) full (ap (fold_of o) last)) t h
 
   -- another element in the place of one
   module _ (at : ℕ) (x : ℤ) (low : first ≤ 8 * base + at) where
     pub all_beside : length xs / 8 ≤ at / 8 → AreOver base first (slice_set xs at x) t
-    all_beside behind = of_each (over base first xs) (over base first (slice_set xs at x)) (λ B S o l g. over_beside o base first xs w l g at x low behind) t h
+    all_beside behind = of_each (over xs) (over (slice_set xs at x)) (λ B S o l g kept. covers_beside o base first xs w l (g kept) at x low behind) t h
 
     module _ (block : List ℤ) (in_block : at / 8 < length xs / 8) (here : block ≡ run_of (slice_set xs at x) (8 * (at / 8)) 8) where
       pub can_renew_all : IsWindow base first (slice_set xs at x) → CanRenewAll (base + at / 8) block t
-      can_renew_all v = of_each (over base first xs) (λ B S o l. CanRenew o (base + at / 8) block l) (λ B S o l g. can_renew o base first xs w l g at x low block in_block here v) t h
+      can_renew_all v = of_each (over xs) (λ B S o l. CanRenew o (base + at / 8) block l) (λ B S o l g kept. takes_leaf_at o base first xs w l (g kept) at x low (fold_of o block) in_block (ap (fold_of o) here) v) t h
 
       pub all_written : AreOver base first (slice_set xs at x) (with_leaves_at (base + at / 8) block t)
       all_written =
-          holds_each (over base first xs) (over base first (slice_set xs at x)) (λ B S o l. with_leaf_at (base + at / 8) (fold_of o block) l) (renewed_keeps (base + at / 8) block)
-          (λ B S o l g. over_written o base first xs w l g at x low block in_block here) t h
+          over_each (λ B S o l. record l { sums = slice_set l.sums (base + at / 8 - l.first) (fold_of o block) }) (λ B S o l. (refl, refl)) base first base first xs (slice_set xs at x)
+          (λ B S o l g. covers_written o base first xs w l g at x low (fold_of o block) in_block (ap (fold_of o) here)) t h
 
   -- the first so many elements
-  module _ (kept : ℕ) (low : first ≤ 8 * base + kept) (high : kept ≤ length xs) where
-    pub can_cut_all : CanCutAll (base + kept / 8) t
-    can_cut_all = of_each (over base first xs) (λ B S o l. CanCut (base + kept / 8) l) (λ B S o l g. can_cut o base first xs w l g kept low high) t h
-
-    pub all_cut : AreOver base first (take kept xs) (before_blocks (base + kept / 8) t)
-    all_cut =
-        holds_each (over base first xs) (over base first (take kept xs)) (λ B S o l. before_block (base + kept / 8) l) (cut_keeps (base + kept / 8))
-        (λ B S o l g. over_cut o base first xs w l g kept low high) t h
+  pub all_cut : (kept : ℕ) → first ≤ 8 * base + kept → kept ≤ length xs → AreOver base first (take kept xs) (before_blocks (base + kept / 8) t)
+  all_cut kept low high =
+      over_each (λ B S o l. record l { sums = take (base + kept / 8 - l.first) l.sums }) (λ B S o l. (refl, refl)) base first base first xs (take kept xs)
+      (λ B S o l g. covers_cut o base first xs w l g kept low high) t h
 
   -- without elements in front, of which whole blocks are removed
-  module _ (to : ℕ) (low : first ≤ to) (high : to ≤ 8 * base + length xs) where
-    pub can_expire_all : CanCutAll (to / 8) t
-    can_expire_all = of_each (over base first xs) (λ B S o l. CanCut (to / 8) l) (λ B S o l g. can_expire o base first xs w l g to low high) t h
-
-    pub all_expired : (whole : ℕ) → 8 * whole ≤ to - 8 * base → AreOver (base + whole) to (drop (8 * whole) xs) (from_blocks (to / 8) t)
-    all_expired whole past =
-        holds_each (over base first xs) (over (base + whole) to (drop (8 * whole) xs)) (λ B S o l. from_block (to / 8) l) (expired_keeps (to / 8))
-        (λ B S o l g. over_expired o base first xs w l g to low high whole past) t h
+  pub all_expired : (to : ℕ) → first ≤ to → to ≤ 8 * base + length xs → (whole : ℕ) → 8 * whole ≤ to - 8 * base → AreOver (base + whole) to (drop (8 * whole) xs) (from_blocks (to / 8) t)
+  all_expired to low high whole past =
+      over_each (λ B S o l. record l { first = to / 8; sums = drop (to / 8 - l.first) l.sums }) (λ B S o l. (refl, refl)) base first (base + whole) to xs (drop (8 * whole) xs)
+      (λ B S o l g. covers_expired o base first xs w l g to low high whole past) t h
