@@ -216,13 +216,14 @@ impl Trees {
         requires high { to ≤ length elements.now }
         ensures { result ≡ summary_by (table_in self.now) kind (slice_range elements.now from to) }
     {
+        let by = self.states.body();
         match kind {
-            Kind::Sum => value_by(&self.sums, elements, base, first, from, to),
-            Kind::Least => value_by(&self.least, elements, base, first, from, to),
-            Kind::Greatest => value_by(&self.greatest, elements, base, first, from, to),
-            Kind::Best => value_by(&self.best, elements, base, first, from, to),
-            Kind::Affine => value_by(&self.maps, elements, base, first, from, to),
-            Kind::Automaton => value_by(&self.states, elements, base, first, from, to),
+            Kind::Sum => value_by(&self.sums, by, elements, base, first, from, to),
+            Kind::Least => value_by(&self.least, by, elements, base, first, from, to),
+            Kind::Greatest => value_by(&self.greatest, by, elements, base, first, from, to),
+            Kind::Best => value_by(&self.best, by, elements, base, first, from, to),
+            Kind::Affine => value_by(&self.maps, by, elements, base, first, from, to),
+            Kind::Automaton => value_by(&self.states, by, elements, base, first, from, to),
         }
     }
 
@@ -245,21 +246,23 @@ impl Trees {
         ensures same { self.new ≡ self.old }
         ensures value { result ≡ summary_by (table_in self.old) kind (slice_range elements.now from to) }
     {
+        let by = self.states.body();
         match kind {
-            Kind::Sum => ask_by(&mut self.sums, elements, base, first, from, to),
-            Kind::Least => ask_by(&mut self.least, elements, base, first, from, to),
-            Kind::Greatest => ask_by(&mut self.greatest, elements, base, first, from, to),
-            Kind::Best => ask_by(&mut self.best, elements, base, first, from, to),
-            Kind::Affine => ask_by(&mut self.maps, elements, base, first, from, to),
-            Kind::Automaton => ask_by(&mut self.states, elements, base, first, from, to),
+            Kind::Sum => ask_by(&mut self.sums, by, elements, base, first, from, to),
+            Kind::Least => ask_by(&mut self.least, by, elements, base, first, from, to),
+            Kind::Greatest => ask_by(&mut self.greatest, by, elements, base, first, from, to),
+            Kind::Best => ask_by(&mut self.best, by, elements, base, first, from, to),
+            Kind::Affine => ask_by(&mut self.maps, by, elements, base, first, from, to),
+            Kind::Automaton => ask_by(&mut self.states, by, elements, base, first, from, to),
         }
     }
 }
 
-// The summary by the kind of one tree.
+// The summary by the kind of one tree. `_by` costs nothing: it says by which table.
 #[inline(always)]
 fn value_by<K: OfKind>(
     layer: &Layer<K>,
+    _by: Automaton,
     elements: &[i64],
     base: u64,
     first: u64,
@@ -271,7 +274,8 @@ fn value_by<K: OfKind>(
     requires low { first ≤ 8 * base + from }
     requires order { from ≤ to }
     requires high { to ≤ length elements.now }
-    ensures { (table : List (List ℕ)) → K.fits layer.now.body table → result ≡ summary_by table K.told_kind (slice_range elements.now from to) }
+    requires fits { K.fits layer.now.body (table_of _by) }
+    ensures { result ≡ summary_by (table_of _by) K.told_kind (slice_range elements.now from to) }
 {
     K::tell(from < to, layer.fold(elements, base, first, from, to))
 }
@@ -280,6 +284,7 @@ fn value_by<K: OfKind>(
 #[inline(always)]
 fn ask_by<K: OfKind>(
     layer: &mut Layer<K>,
+    _by: Automaton,
     elements: &[i64],
     base: u64,
     first: u64,
@@ -291,8 +296,9 @@ fn ask_by<K: OfKind>(
     requires low { first ≤ 8 * base + from }
     requires order { from ≤ to }
     requires high { to ≤ length elements.now }
+    requires fits { K.fits layer.old.body (table_of _by) }
     ensures same { layer.new ≡ layer.old }
-    ensures value { (table : List (List ℕ)) → K.fits layer.old.body table → result ≡ summary_by table K.told_kind (slice_range elements.now from to) }
+    ensures value { result ≡ summary_by (table_of _by) K.told_kind (slice_range elements.now from to) }
 {
     K::tell(from < to, layer.ask(elements, base, first, from, to))
 }
