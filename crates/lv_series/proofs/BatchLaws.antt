@@ -1,7 +1,7 @@
 -- Many pushes: what they make of a series, and when one of them is refused.
-use Rattle.std.proofs.Common.{◌≡◌, ℕ, ℤ, ◌+◌, ◌-◌, ◌^◌, ◌<◌, ◌≤◌, Option, Some, None, List, [], ◌∷◌, ◌++◌, length, fold, nat_eq, nat_lt, refl, sym, ap, ◌∙◌, arith, inl, inr, append_assoc, append-nil}
+use Rattle.std.proofs.Common.{◌≡◌, ℕ, zero, suc, ℤ, ◌+◌, ◌-◌, ◌^◌, ◌<◌, ◌≤◌, Option, Some, None, List, [], ◌∷◌, ◌++◌, length, fold, nat_lt, refl, sym, ap, ◌∙◌, arith, inl, inr, append_assoc, append-nil, eq-eqb}
 use Rattle.std.specs.Bool.{then_some}
-use Rattle.std.proofs.lemmas.Bool.{cases_Bool, cond-false, cond-true, eqb-false, lt-ltb, ltb-false, ltb-true, ne_eqb}
+use Rattle.std.proofs.lemmas.Bool.{cases_Bool, cond-false, cond-true, le-ltb, lt-ltb, ltb-false, ltb-true, ne_eqb}
 use Rattle.std.proofs.lemmas.List.{length-map, length_push}
 use Rattle.std.proofs.lemmas.Option.{none-some}
 use Rattle.lv_series.specs.declared.edits.LongEdit.{LongEdit}
@@ -54,55 +54,36 @@ all_free s [] edits few = refl
 all_free s (x ∷ xs) edits few =
     after_one s x xs None (omega (arith, edits)) (omega (arith, few)) (all_free (with_edit s (Push x)) xs (omega (arith, edits)) (omega (arith, few, length_push s.held.elements x)))
 
--- the edits run out first
-worn_first : (s : SeriesState) (xs : List ℤ) → s.edits ≤ 18446744073709551615 → size_of s.held ≤ 2 ^ 62 → 18446744073709551615 - s.edits < length xs → 18446744073709551615 - s.edits ≤ 2 ^ 62 - size_of s.held → verdict_of_edits s (pushes_of xs) ≡ Some Worn
-worn_first s [] edits few many first = absurd (omega (arith, many))
-worn_first s (x ∷ xs) edits few many first =
-    elim (cases_Bool (nat_eq s.edits 18446744073709551615)) [
-      | inl worn ↦ ap (λ r. first_refusal r (verdict_of_edits (with_edit s (Push x)) (pushes_of xs))) (cond-true _ _ _ worn)
-      | inr left ↦
-          let more = eqb-false s.edits 18446744073709551615 left in
-          let long = length_push s.held.elements x in
-          after_one s x xs (Some Worn) (omega (arith, more, edits)) (omega (arith, more, edits, first, few))
-          (worn_first (with_edit s (Push x)) xs (omega (arith, more, edits)) (omega (arith, more, edits, first, few, long)) (omega (arith, many, more, edits)) (omega (arith, first, few, long, more, edits)))
-    ]
+-- so many are allowed, and the next one is refused
+stopped : (s : SeriesState) (xs : List ℤ) (n : ℕ) (why : LongRefusal) → n < length xs → s.edits + n ≤ 18446744073709551615 → size_of s.held + n ≤ 2 ^ 62 → ((t : SeriesState) (x : ℤ) → t.edits ≡ s.edits + n → size_of t.held ≡ size_of s.held + n → refused t (Push x) ≡ Some why) → verdict_of_edits s (pushes_of xs) ≡ Some why
+stopped s [] n why many edits few stop = absurd (omega (arith, many))
+stopped s (x ∷ xs) zero why many edits few stop = ap (λ r. first_refusal r (verdict_of_edits (with_edit s (Push x)) (pushes_of xs))) (stop s x (omega arith) (omega arith))
+stopped s (x ∷ xs) (suc n) why many edits few stop =
+    let long = length_push s.held.elements x in
+    after_one s x xs (Some why) (omega (arith, edits)) (omega (arith, few))
+    (stopped (with_edit s (Push x)) xs n why (omega (arith, many)) (omega (arith, edits)) (omega (arith, few, long)) (λ t y e z. stop t y (omega (arith, e)) (omega (arith, z, long))))
 
--- the indices run out first
-full_first : (s : SeriesState) (xs : List ℤ) → size_of s.held ≤ 2 ^ 62 → 2 ^ 62 - size_of s.held < length xs → 2 ^ 62 - size_of s.held < 18446744073709551615 - s.edits → verdict_of_edits s (pushes_of xs) ≡ Some Full
-full_first s [] few many first = absurd (omega (arith, many))
-full_first s (x ∷ xs) few many first =
-    elim (cases_Bool (nat_lt (size_of s.held) (2 ^ 62))) [
-      | inl room ↦
-          let less = ltb-true (size_of s.held) (2 ^ 62) room in
-          let long = length_push s.held.elements x in
-          after_one s x xs (Some Full) (omega (arith, first)) less
-          (full_first (with_edit s (Push x)) xs (omega (arith, less, long)) (omega (arith, many, less, long)) (omega (arith, first, less, long)))
-      | inr none ↦ ap (λ r. first_refusal r (verdict_of_edits (with_edit s (Push x)) (pushes_of xs))) (cond-false _ _ _ (ne_eqb s.edits 18446744073709551615 (λ same. omega (arith, same, first))) ∙ cond-false _ _ _ none)
+-- a refusal that comes where there is room for fewer
+some_or_none : (room count : ℕ) (why : LongRefusal) (result verdict : Option LongRefusal) → (room < count → verdict ≡ Some why) → (count ≤ room → verdict ≡ None) → result ≡ then_some (nat_lt room count) why → result ≡ verdict
+some_or_none room count why result verdict more all is =
+    elim (cases_Bool (nat_lt room count)) [
+      | inl many ↦ is ∙ ap (λ b. then_some b why) many ∙ sym (more (ltb-true room count many))
+      | inr few ↦ is ∙ ap (λ b. then_some b why) few ∙ sym (all (ltb-false room count few))
     ]
 
 -- what pushes are answered where the edits run out first, or together with the indices
 pub worn_or_none : (s : SeriesState) (xs : List ℤ) (size : ℕ) (result : Option LongRefusal) → s.edits ≤ 18446744073709551615 → size ≡ size_of s.held → size ≤ 2 ^ 62 → 18446744073709551615 - s.edits ≤ 2 ^ 62 - size → result ≡ then_some (nat_lt (18446744073709551615 - s.edits) (length xs)) Worn → result ≡ verdict_of_edits s (pushes_of xs)
 worn_or_none s xs size result edits size_is few first is =
-    elim (cases_Bool (nat_lt (18446744073709551615 - s.edits) (length xs))) [
-      | inl many ↦
-          let more = ltb-true (18446744073709551615 - s.edits) (length xs) many in
-          is ∙ ap (λ b. then_some b Worn) many ∙ sym (worn_first s xs edits (omega (arith, few, size_is)) more (omega (arith, first, size_is)))
-      | inr few_enough ↦
-          let most = ltb-false (18446744073709551615 - s.edits) (length xs) few_enough in
-          is ∙ ap (λ b. then_some b Worn) few_enough ∙ sym (all_free s xs (omega (arith, most, edits)) (omega (arith, most, first, few, size_is)))
-    ]
+    let worn : (t : SeriesState) (x : ℤ) → t.edits ≡ s.edits + (18446744073709551615 - s.edits) → size_of t.held ≡ size_of s.held + (18446744073709551615 - s.edits) → refused t (Push x) ≡ Some Worn = λ t x e _. cond-true _ _ _ (eq-eqb t.edits 18446744073709551615 (omega (arith, e, edits))) in
+    some_or_none (18446744073709551615 - s.edits) (length xs) Worn result _ (λ more. stopped s xs (18446744073709551615 - s.edits) Worn more (omega (arith, edits)) (omega (arith, few, first, size_is)) worn)
+    (λ most. all_free s xs (omega (arith, most, edits)) (omega (arith, most, first, few, size_is))) is
 
 -- where the indices do
 pub full_or_none : (s : SeriesState) (xs : List ℤ) (size : ℕ) (result : Option LongRefusal) → size ≡ size_of s.held → size ≤ 2 ^ 62 → 2 ^ 62 - size < 18446744073709551615 - s.edits → result ≡ then_some (nat_lt (2 ^ 62 - size) (length xs)) Full → result ≡ verdict_of_edits s (pushes_of xs)
 full_or_none s xs size result size_is few first is =
-    elim (cases_Bool (nat_lt (2 ^ 62 - size) (length xs))) [
-      | inl many ↦
-          let more = ltb-true (2 ^ 62 - size) (length xs) many in
-          is ∙ ap (λ b. then_some b Full) many ∙ sym (full_first s xs (omega (arith, few, size_is)) (omega (arith, more, size_is)) (omega (arith, first, size_is)))
-      | inr few_enough ↦
-          let most = ltb-false (2 ^ 62 - size) (length xs) few_enough in
-          is ∙ ap (λ b. then_some b Full) few_enough ∙ sym (all_free s xs (omega (arith, most, first)) (omega (arith, most, few, size_is)))
-    ]
+    let full : (t : SeriesState) (x : ℤ) → t.edits ≡ s.edits + (2 ^ 62 - size) → size_of t.held ≡ size_of s.held + (2 ^ 62 - size) → refused t (Push x) ≡ Some Full = λ t x e z. cond-false _ _ _ (ne_eqb t.edits 18446744073709551615 (λ same. omega (arith, same, e, first))) ∙ cond-false _ _ _ (le-ltb (size_of t.held) (2 ^ 62) (omega (arith, z, size_is, few))) in
+    some_or_none (2 ^ 62 - size) (length xs) Full result _ (λ more. stopped s xs (2 ^ 62 - size) Full more (omega (arith, first)) (omega (arith, few, size_is)) full)
+    (λ most. all_free s xs (omega (arith, most, first)) (omega (arith, most, few, size_is))) is
 
 -- many edits were accepted
 pub all_accepted : (old new : TreesState) (held next : Held) (edits edit : ℕ) (es : List LongEdit) → KeepsKinds old new → verdict_of_edits (with_trees old held edits) es ≡ None → next ≡ fold changed held es → edit ≡ edits + length es → AcceptsEdits (with_trees old held edits) es edit (with_trees new next edit)
