@@ -1,15 +1,20 @@
 -- What a search finds among the elements in memory, said of the indices of a series, and what that says of the elements of a range.
-use Rattle.std.proofs.Common.{◌≡◌, ℕ, ℤ, pos, ◌+◌, ◌-◌, ◌*◌, ◌≤◌, ◌<ℤ◌, Bool, true, false, Option, Some, None, List, [], length, drop, slice_range, sym, subst, arith}
-use Rattle.lv_bodies.specs.Plain.{IsPlainBest, IsPlainGreatest, IsPlainLeast}
+use Rattle.std.proofs.Common.{◌≡◌, ℕ, ℤ, pos, ◌+◌, ◌-◌, ◌*◌, ◌≤◌, ◌<ℤ◌, Bool, true, false, Option, Some, None, IfSome, List, [], length, drop, slice_range, refl, sym, ap, ◌∙◌, subst, arith}
+use Rattle.lv_bodies.specs.Plain.{IsPlainBest}
+use Rattle.lv_bodies.specs.declared.kinds.Kind.TheVariants as kind
+use Rattle.lv_tree.specs.KindSummaries.{summary_by}
 use Rattle.lv_tree.specs.PlaceLaws.{best_is_met, best_stands, empty_range, end_found, first_found, greatest_is_met, greatest_stands, last_found, least_is_met, least_stands, start_found}
 use Rattle.lv_tree.specs.Searches.{FindsEnd, FindsStart}
-use Rattle.lv_tree.specs.Sought.{sought_within}
+use Rattle.lv_tree.specs.Sought.{greatest_in, least_in, sought_within}
+use Rattle.lv_tree.specs.SoughtLaws.{greatest_told, least_told}
 use Rattle.lv_tree.specs.Where.{IsFirstGreatest, IsFirstIndex, IsFirstLeast}
+use Rattle.lv_tree.specs.declared.kind_summaries.KindSummary.{KindSummary}
 use Rattle.lv_tree.specs.declared.places.Bound.{Bound}
 use Rattle.lv_tree.specs.declared.sought.Sought.{Sought}
 use Rattle.lv_tree.specs.declared.sought.Sought.TheVariants.{AtMost, AtLeast, Run, Beginning, Ending}
 use Rattle.lv_series.specs.Blocks.{IsWindow}
-use Rattle.lv_series.specs.Places.{Finds, FindsIn, IsEndReachedIn, IsFirstIndexIn, IsLastIndexIn, IsPlaceOfBestIn, IsPlaceOfGreatestIn, IsPlaceOfLeastIn, IsStartReachedIn}
+use Rattle.lv_series.specs.Places.{Finds, FindsIn, IsEndReachedIn, IsFirstIndexIn, IsLastIndexIn, IsPlaceOfBestIn, IsPlaceOfGreatestIn, IsPlaceOfLeastIn, IsStartReachedIn, end_of}
+use Rattle.lv_series.specs.declared.places.LongPlaced.{LongPlaced}
 use Rattle.lv_series.specs.Series.{Held, held_in, range_refused, slice_of}
 use Rattle.lv_series.proofs.FreeLaws.{free_range}
 use Rattle.lv_series.proofs.SearchLaws.{found_from, found_there, none_there, slice_of_rest}
@@ -74,30 +79,36 @@ module _ (h : Held) (lo hi : ℕ) (free : range_refused h lo hi ≡ None) where
   pub none_in : slice_of h lo hi ≡ [] → lo ≡ hi
   none_in none = omega (arith, low, (free_range h lo hi free).0, empty_range h.elements (lo - h.first) (hi - h.first) order inside none)
 
-  -- the least element, the greatest and the best run, whose value is known
+  -- the least element and the greatest, which a summary tells
+  module _ (table : List (List ℕ)) (s : KindSummary) where
+    module _ (is : s ≡ summary_by table kind.Least (slice_of h lo hi)) where
+      pub no_least : None ≡ least_in s → lo ≡ hi
+      no_least told = none_in ((least_told table (slice_of h lo hi) s None told is).none.0 refl)
+
+      pub least_placed : (least value : ℤ) → Some least ≡ least_in s → value ≡ least → (r : Option LongPlaced) → FindsIn false (AtMost value) h lo hi (end_of r) → IfSome r (λ p. p.value ≡ value) → IsPlaceOfLeastIn h lo hi r
+      least_placed least value told same None finds of =
+          absurd (least_is_met h.elements (lo - h.first) (hi - h.first) order inside value (least_told table (slice_of h lo hi) s (Some value) (ap Some same ∙ told) is) finds)
+      least_placed least value told same (Some p) finds of =
+          let plain = least_told table (slice_of h lo hi) s (Some value) (ap Some same ∙ told) is in
+          let stands = least_stands h.elements (lo - h.first) (hi - h.first) order inside value (p.index + 1 - h.first) plain finds.1 in
+          let place : p.index + 1 - h.first - 1 ≡ p.index - h.first = omega arith in
+          (omega (arith, low, finds.1.after), subst (λ v. IsFirstLeast h.elements (lo - h.first) (hi - h.first) (p.index - h.first) v) (sym of) (subst (λ n. IsFirstLeast h.elements (lo - h.first) (hi - h.first) n value) place stands))
+
+    module _ (is : s ≡ summary_by table kind.Greatest (slice_of h lo hi)) where
+      pub no_greatest : None ≡ greatest_in s → lo ≡ hi
+      no_greatest told = none_in ((greatest_told table (slice_of h lo hi) s None told is).none.0 refl)
+
+      pub greatest_placed : (greatest value : ℤ) → Some greatest ≡ greatest_in s → value ≡ greatest → (r : Option LongPlaced) → FindsIn false (AtLeast value) h lo hi (end_of r) → IfSome r (λ p. p.value ≡ value) → IsPlaceOfGreatestIn h lo hi r
+      greatest_placed greatest value told same None finds of =
+          absurd (greatest_is_met h.elements (lo - h.first) (hi - h.first) order inside value (greatest_told table (slice_of h lo hi) s (Some value) (ap Some same ∙ told) is) finds)
+      greatest_placed greatest value told same (Some p) finds of =
+          let plain = greatest_told table (slice_of h lo hi) s (Some value) (ap Some same ∙ told) is in
+          let stands = greatest_stands h.elements (lo - h.first) (hi - h.first) order inside value (p.index + 1 - h.first) plain finds.1 in
+          let place : p.index + 1 - h.first - 1 ≡ p.index - h.first = omega arith in
+          (omega (arith, low, finds.1.after), subst (λ v. IsFirstGreatest h.elements (lo - h.first) (hi - h.first) (p.index - h.first) v) (sym of) (subst (λ n. IsFirstGreatest h.elements (lo - h.first) (hi - h.first) n value) place stands))
+
+  -- the best run, whose value is known
   module _ (value : ℤ) where
-    module _ (is : IsPlainLeast (slice_of h lo hi) (Some value)) where
-      pub least_in_range : (end : ℕ) → FindsIn false (AtMost value) h lo hi (Some end) → IsPlaceOfLeastIn h lo hi (Some (record { index = end - 1; value = value }))
-      least_in_range end finds =
-          let same : end - h.first - 1 ≡ end - 1 - h.first = omega arith in (
-            omega (arith, low, finds.1.after),
-            subst (λ n. IsFirstLeast h.elements (lo - h.first) (hi - h.first) n value) same (least_stands h.elements (lo - h.first) (hi - h.first) order inside value (end - h.first) is finds.1),
-          )
-
-      pub some_least : FindsIn false (AtMost value) h lo hi None → ⊥
-      some_least finds = least_is_met h.elements (lo - h.first) (hi - h.first) order inside value is finds
-
-    module _ (is : IsPlainGreatest (slice_of h lo hi) (Some value)) where
-      pub greatest_in_range : (end : ℕ) → FindsIn false (AtLeast value) h lo hi (Some end) → IsPlaceOfGreatestIn h lo hi (Some (record { index = end - 1; value = value }))
-      greatest_in_range end finds =
-          let same : end - h.first - 1 ≡ end - 1 - h.first = omega arith in (
-            omega (arith, low, finds.1.after),
-            subst (λ n. IsFirstGreatest h.elements (lo - h.first) (hi - h.first) n value) same (greatest_stands h.elements (lo - h.first) (hi - h.first) order inside value (end - h.first) is finds.1),
-          )
-
-      pub some_greatest : FindsIn false (AtLeast value) h lo hi None → ⊥
-      some_greatest finds = greatest_is_met h.elements (lo - h.first) (hi - h.first) order inside value is finds
-
     module _ (is : IsPlainBest (slice_of h lo hi) (Some value)) where
       pub some_best : FindsIn false (Run value) h lo hi None → ⊥
       some_best finds = best_is_met h.elements (lo - h.first) (hi - h.first) order inside value is finds

@@ -1,6 +1,6 @@
 -- Where in a range of a series something stands, and what a search for it answers. Indices are those under which the series keeps its
 -- elements, and the end of a range is excluded.
-use Rattle.std.specs.Prelude.{◌≡◌, ℕ, ℤ, ◌-◌, ◌≤◌, Bool, true, false, Option, Some, None, Result, Ok, Err, List}
+use Rattle.std.specs.Prelude.{◌≡◌, ℕ, ℤ, ◌+◌, ◌-◌, ◌≤◌, Bool, true, false, Option, Some, None, Result, Ok, Err, List}
 use Rattle.lv_bodies.specs.declared.kinds.Kind.{Kind}
 use Rattle.lv_tree.specs.Searches.{FindsEnd, FindsStart}
 use Rattle.lv_tree.specs.Where.{IsBestRun, IsEndReached, IsFirstGreatest, IsFirstIndex, IsFirstLeast, IsLastIndex, IsStartReached}
@@ -52,6 +52,11 @@ Finds true sought xs lo hi place = FindsStart sought xs lo hi place
 
 abbrev pub FindsIn : Bool → Sought → Held → ℕ → ℕ → Option ℕ → Type 0
 FindsIn back sought h lo hi place = IsAtIndex h (Finds back sought h.elements (lo - h.first) (hi - h.first)) place
+
+-- the end behind an element that was found
+abbrev pub end_of : Option LongPlaced → Option ℕ
+end_of None = None
+end_of (Some p) = Some (p.index + 1)
 
 -- a range can be searched by a kind: nothing refuses it, and the kind has a tree
 pub record IsSearchable (s : SeriesState) (k : Kind) (lo hi : ℕ) : Type 0 where

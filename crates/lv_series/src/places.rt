@@ -3,11 +3,12 @@
 //!
 //! Each answer is stated of the plain list of the elements that are kept. A search makes the tree of one kind first, where there is none, and
 //! asks it for the place at which a test on folds becomes true: this takes O(log n) joins. It changes no element.
-ghost use Rattle.std.specs.Prelude.{◌≡◌, ◌-◌, ◌<◌};
+ghost use Rattle.std.specs.Prelude.{◌≡◌, false, IfSome};
 ghost use Rattle.lv_bodies.specs.declared.kinds.Kind.TheVariants as kind;
-ghost use Rattle.lv_series.specs.Places.{IsEndReachedIn, IsFirstIndexIn, IsLastIndexIn, IsPlaceOfBestIn, IsPlaceOfGreatestIn, IsPlaceOfLeastIn, IsSearchable, IsStartReachedIn, Searches};
+ghost use Rattle.lv_series.specs.Places.{FindsIn, IsEndReachedIn, IsFirstIndexIn, IsLastIndexIn, IsPlaceOfBestIn, IsPlaceOfGreatestIn, IsPlaceOfLeastIn, IsSearchable, IsStartReachedIn, Searches, end_of};
 ghost use Rattle.lv_series.specs.Series.{slice_of};
 ghost use Rattle.lv_tree.specs.KindSummaries.{summary_by};
+ghost use Rattle.lv_tree.specs.Sought.{kind_for};
 ghost use Rattle.lv_tree.specs.Where.{kind_within};
 
 use crate::refusals::LongRefusal;
@@ -20,19 +21,6 @@ use lv_tree::{Bound, KindSummary, Sought, best_of, greatest_of, least_of};
 pub struct LongPlaced {
     pub index: u64,
     pub value: i64,
-}
-
-impl LongPlaced {
-    // An element that stands before an end.
-    fn before(end: u64, value: i64) -> LongPlaced
-        requires { 0 < end }
-        ensures { result ≡ record { index = end - 1; value = value } }
-    {
-        LongPlaced {
-            index: end - 1,
-            value,
-        }
-    }
 }
 
 /// Elements side by side, from index `from` up to `to`, `to` excluded, and what they add up to.
@@ -157,12 +145,9 @@ impl Series {
         requires { IsSearchable self.now kind.Least lo hi }
         ensures { IsPlaceOfLeastIn self.now.held lo hi result }
     {
-        let Some(least) = least_of(self.summary(Kind::Least, lo, hi)) else {
-            return None;
-        };
-        match self.find(Sought::AtMost(least), lo, hi, false) {
-            Some(end) => Some(LongPlaced::before(end, least)),
-            None => unreachable!(),
+        match least_of(self.summary(Kind::Least, lo, hi)) {
+            Some(least) => self.first_placed(Sought::AtMost(least), least, lo, hi),
+            None => None,
         }
     }
 
@@ -183,12 +168,9 @@ impl Series {
         requires { IsSearchable self.now kind.Greatest lo hi }
         ensures { IsPlaceOfGreatestIn self.now.held lo hi result }
     {
-        let Some(greatest) = greatest_of(self.summary(Kind::Greatest, lo, hi)) else {
-            return None;
-        };
-        match self.find(Sought::AtLeast(greatest), lo, hi, false) {
-            Some(end) => Some(LongPlaced::before(end, greatest)),
-            None => unreachable!(),
+        match greatest_of(self.summary(Kind::Greatest, lo, hi)) {
+            Some(greatest) => self.first_placed(Sought::AtLeast(greatest), greatest, lo, hi),
+            None => None,
         }
     }
 
@@ -220,6 +202,22 @@ impl Series {
                 None => unreachable!(),
             },
             None => unreachable!(),
+        }
+    }
+
+    // The first element of a range with which it comes to have what is sought, told as `value`; none where it never does.
+    #[inline(always)]
+    fn first_placed(&self, sought: Sought, value: i64, lo: u64, hi: u64) -> Option<LongPlaced>
+        requires { IsSearchable self.now (kind_for sought) lo hi }
+        ensures finds { FindsIn false sought self.now.held lo hi (end_of result) }
+        ensures value { IfSome result (λ p. p.value ≡ value) }
+    {
+        match self.find(sought, lo, hi, false) {
+            Some(end) => Some(LongPlaced {
+                index: end - 1,
+                value,
+            }),
+            None => None,
         }
     }
 

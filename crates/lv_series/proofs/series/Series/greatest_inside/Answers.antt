@@ -1,33 +1,16 @@
 -- Proof of `Series::greatest_inside`.
-use Rattle.std.proofs.Common.{FitsSigned, None, Some, ap, of_z, refl, rules, subst, sym, to_z, w64, ◌∙◌}
+use Rattle.std.proofs.Common.{FitsSigned, of_z, rules, sym, to_z, w64, ◌∙◌}
 use Rattle.std.proofs.lemmas.Int.{to_z-of_z}
-use Rattle.lv_series.specs.Places.{IsPlaceOfGreatestIn}
-use Rattle.lv_series.specs.Series.{slice_of}
-use Rattle.lv_series.proofs.PlaceLaws.{greatest_in_range, none_in, some_greatest}
-use Rattle.lv_tree.specs.SoughtLaws.{greatest_told}
+use Rattle.lv_series.proofs.PlaceLaws.{greatest_placed, no_greatest}
 use Rattle.lv_series.proofs.series.Series.greatest_inside.Goals as goal
 
-pub returns-in_default : goal.returns-in_default
-returns-in_default c =
-    let h = c.args.self.now.held in
-    let is = greatest_told c.args.self.now.table (slice_of h c.args.lo c.args.hi) c.summary.result None (sym c.in_default.is ∙ c.greatest_of.ensures) c.summary.ensures in
-    none_in h c.args.lo c.args.hi c.requires.granted (is.none.0 refl)
+pub returns-in-None : goal.returns-in-None
+returns-in-None c = no_greatest c.args.self.now.held c.args.lo c.args.hi c.requires.granted c.args.self.now.table c.summary.result c.summary.ensures (sym c.in-None.is ∙ c.greatest_of.ensures)
 
-pub unreachable-requires : goal.unreachable-requires
-unreachable-requires c =
-    let h = c.args.self.now.held in
-    let value = to_z w64 (of_z w64 c.in-Some.greatest) in
-    let fits : FitsSigned w64 c.in-Some.greatest = search rules in
-    let told = ap Some (to_z-of_z w64 c.in-Some.greatest fits) ∙ sym c.in-Some.is ∙ c.greatest_of.ensures in
-    let is = greatest_told c.args.self.now.table (slice_of h c.args.lo c.args.hi) c.summary.result (Some value) told c.summary.ensures in
-    some_greatest h c.args.lo c.args.hi c.requires.granted value is c.in-None.ensures
-
-pub returns : goal.returns
-returns c =
-    let h = c.args.self.now.held in
-    let value = to_z w64 (of_z w64 c.in-Some.greatest) in
-    let fits : FitsSigned w64 c.in-Some.greatest = search rules in
-    let told = ap Some (to_z-of_z w64 c.in-Some.greatest fits) ∙ sym c.in-Some.is ∙ c.greatest_of.ensures in
-    let is = greatest_told c.args.self.now.table (slice_of h c.args.lo c.args.hi) c.summary.result (Some value) told c.summary.ensures in
-    subst (λ p. IsPlaceOfGreatestIn h c.args.lo c.args.hi (Some p)) (sym c.before-in-Some-find.ensures)
-    (greatest_in_range h c.args.lo c.args.hi c.requires.granted value is c.in-Some-find.end c.in-Some-find.ensures)
+pub returns-in-Some : goal.returns-in-Some
+returns-in-Some c =
+    let greatest = c.in-Some.greatest in
+    let fits : FitsSigned w64 greatest = search rules in
+    let told = sym c.in-Some.is ∙ c.greatest_of.ensures in
+    let placed = c.first_placed.ensures in
+    greatest_placed c.args.self.now.held c.args.lo c.args.hi c.requires.granted c.args.self.now.table c.summary.result c.summary.ensures greatest (to_z w64 (of_z w64 greatest)) told (to_z-of_z w64 greatest fits) c.first_placed.result placed.finds placed.value
