@@ -76,6 +76,7 @@ impl Series {
     }
 
     // The same of a range that is kept.
+    #[tactic(auto, using(crate::proofs::KeptLaws::range_in, crate::proofs::FreeLaws::free_range))]
     #[inline(always)]
     fn asked(&mut self, kind: Kind, lo: u64, hi: u64) -> LongAnswer<KindSummary>
         requires granted { range_refused self.old.held lo hi ≡ None }
