@@ -1,10 +1,8 @@
 -- What a series keeps of the elements in memory, and what each edit of these does to it.
-use Rattle.std.proofs.Common.{◌≡◌, ℕ, ℤ, pos, ◌+◌, ◌-◌, ◌*◌, ◌<◌, ◌≤◌, true, List, [], ◌∷◌, ◌++◌, length, take, drop, slice_index_or, slice_range, slice_set, nat_le, nat_lt, All, sym, ap, ◌∙◌, arith, length-drop}
+use Rattle.std.proofs.Common.{◌≡◌, ℕ, ℤ, pos, ◌+◌, ◌-◌, ◌*◌, ◌<◌, ◌≤◌, true, List, [], ◌∷◌, ◌++◌, length, take, drop, slice_index_or, slice_range, slice_set, nat_le, nat_lt, sym, ap, ◌∙◌, arith, length-drop}
 use Rattle.std.specs.List.{swap}
 use Rattle.std.proofs.lemmas.Bool.{and_parts, leb-true, ltb-true}
 use Rattle.std.proofs.lemmas.List.{drop-append-le, drop-drop, drop-set-add, drop-take, get_or-drop, length-take-le, take-take}
-use Rattle.std.proofs.lemmas.List.Elements.{All-drop}
-use Rattle.lv_geometry.specs.Elements.{IsElement}
 use Rattle.lv_series.specs.declared.edits.LongEdit.TheVariants.{Push, Pop, Write, Expire, Swap, Truncate}
 use Rattle.lv_series.specs.Blocks.{IsWindow}
 use Rattle.lv_series.specs.Series.{Held, changed, element_of, held_in, is_border, is_kept, size_of, slice_of}
@@ -35,10 +33,6 @@ module _ (base first : ℕ) (els : List ℤ) (window : IsWindow base first els) 
   -- the index behind the last element
   pub size_in : size_of (held_in base first els) ≡ 8 * base + length els
   size_in = omega (arith, length-drop (first - 8 * base) els, window.low, window.high)
-
-  -- each element has 64 bits
-  pub all_in : All IsElement (held_in base first els).elements
-  all_in = All-drop IsElement (first - 8 * base) els window.all
 
   -- an element
   pub element_in : (i : ℕ) → first ≤ i → slice_index_or els (i - 8 * base) (pos 0) ≡ element_of (held_in base first els) i

@@ -1,14 +1,9 @@
 -- What calls on a series leave is what the accepted edits among them make of the series before them.
-use Rattle.std.proofs.Common.{◌≡◌, ℕ, ◌+◌, true, false, None, Result, Ok, Err, is_ok, List, [], ◌∷◌, ◌++◌, drop, fold, sym, ap, subst, ◌∙◌, arith, length-append}
+use Rattle.std.proofs.Common.{◌≡◌, ℕ, ◌+◌, true, false, None, List, [], ◌∷◌, ◌++◌, drop, fold, sym, ap, subst, ◌∙◌, arith, length-append}
 use Rattle.std.proofs.lemmas.List.Sums.{fold-append}
 use Rattle.lv_bodies.specs.Body.{Operations, fold_of}
 use Rattle.lv_tree.specs.KindSummaries.{summary_by}
-use Rattle.lv_series.specs.declared.edits.LongEdit.{LongEdit}
-use Rattle.lv_series.specs.declared.receipts.LongReceipt.{LongReceipt}
-use Rattle.lv_series.specs.declared.refusals.LongRefusal.{LongRefusal}
 use Rattle.lv_series.specs.Plain.{Called, IsPlain, Run, SeriesState, Step, accepted_by, accepted_in, after_edits, changed, edited, plain_series, prepared, range_refused, running_folds, slice_of}
-use Rattle.lv_series.specs.Batches.{AnswersEdits}
-use Rattle.lv_series.specs.Series.{Answers}
 
 -- two series that differ in which kinds have a tree, at most
 record IsAlike (s t : SeriesState) : Type 0 where

@@ -1,17 +1,13 @@
 -- What an accepted edit leaves of a series.
-use Rattle.std.proofs.Common.{◌≡◌, ℕ, ℤ, ◌+◌, None, List, ap, ◌∙◌}
+use Rattle.std.proofs.Common.{◌≡◌, ℕ, ◌+◌, None, ap, ◌∙◌}
 use Rattle.lv_series.specs.declared.edits.LongEdit.{LongEdit}
 use Rattle.lv_series.specs.declared.receipts.LongReceipt.{LongReceipt}
-use Rattle.lv_series.specs.Series.{Accepts, Held, SeriesState, changed, held_in, receipt_of, refused}
+use Rattle.lv_series.specs.Series.{Accepts, Held, SeriesState, changed, receipt_of, refused}
 use Rattle.lv_series.specs.Trees.{KeepsKinds, TreesState, kinds_in, table_in}
 
 -- a series with these trees
 abbrev pub with_trees : TreesState → Held → ℕ → SeriesState
 with_trees t held edits = record { table = table_in t; kinds = kinds_in t; held = held; edits = edits }
-
--- a series of these parts
-abbrev pub state_in : TreesState → ℕ → ℕ → List ℤ → ℕ → SeriesState
-state_in t base first els edits = with_trees t (held_in base first els) edits
 
 -- trees that keep their kinds, and the same held
 pub trees_kept : (old new : TreesState) (held next : Held) (edits : ℕ) → KeepsKinds old new → next ≡ held → with_trees new next edits ≡ with_trees old held edits

@@ -1,7 +1,7 @@
 -- The elements in memory after a change.
-use Rattle.std.proofs.Common.{◌≡◌, ℕ, ℤ, ◌+◌, ◌-◌, ◌*◌, ◌^◌, ◌<◌, ◌≤◌, List, [], ◌∷◌, ◌++◌, length, take, drop, slice_set, sym, ap, ◌∙◌, subst, arith, All}
-use Rattle.std.proofs.lemmas.List.{length-drop, length-set, length-take, length_push}
-use Rattle.std.proofs.lemmas.List.Elements.{All-drop, All-push, All-set, All-take}
+use Rattle.std.proofs.Common.{◌≡◌, ℕ, ℤ, ◌+◌, ◌-◌, ◌*◌, ◌^◌, ◌<◌, ◌≤◌, List, [], ◌∷◌, ◌++◌, length, drop, slice_set, sym, ap, ◌∙◌, subst, arith, All}
+use Rattle.std.proofs.lemmas.List.{length-drop, length-set, length_push}
+use Rattle.std.proofs.lemmas.List.Elements.{All-drop, All-push, All-set}
 use Rattle.lv_geometry.specs.Elements.{IsElement}
 use Rattle.lv_series.specs.Blocks.{IsWindow}
 
@@ -28,18 +28,6 @@ module _ (base first : ℕ) (xs ys : List ℤ) (w : IsWindow base first xs) wher
         all = subst (All IsElement) (sym is) (All-set IsElement xs at x fits w.all);
         few = omega (arith, w.few, size);
         numbered = omega (arith, w.numbered, size);
-      }
-
-  -- the first so many elements
-  pub window_cut : (kept : ℕ) → ys ≡ take kept xs → first ≤ 8 * base + kept → kept ≤ length xs → IsWindow base first ys
-  window_cut kept is low high =
-      let size : length ys ≡ kept = omega (arith, ap length is, length-take kept xs, high) in
-      record {
-        low = w.low;
-        high = omega (arith, size, low);
-        all = subst (All IsElement) (sym is) (All-take IsElement kept xs w.all);
-        few = omega (arith, w.few, size, high);
-        numbered = omega (arith, w.numbered, size, high);
       }
 
   -- without whole blocks in front

@@ -1,5 +1,5 @@
 //! Windows of time, and what samples are asked of one.
-ghost use Rattle.std.specs.Prelude.{◌≡◌, ◌+◌, ◌-◌, ◌≤◌, ◌≤ℤ◌, All, false, drop, int_lt, length, take, true};
+ghost use Rattle.std.specs.Prelude.{◌≡◌, ◌+◌, ◌-◌, ◌≤◌, All, false, drop, int_lt, length, take, true};
 ghost use Rattle.lv_series.specs.Samples.{AnswersCount, AnswersValue, AnswersWindow, IsSampleValue, IsWindowOf, is_among_last, is_between, newest_of};
 ghost use Rattle.lv_series.specs.Series.{size_of, slice_of};
 ghost use Rattle.lv_tree.specs.KindSummaries.{summary_by};

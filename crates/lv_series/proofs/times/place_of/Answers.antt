@@ -2,7 +2,7 @@
 use Rattle.std.proofs.Common.{◌≡◌, ◌+◌, ◌-◌, ◌/◌, arith, to_z, of_z, w64, FitsSigned, rules, ◌∙◌}
 use Rattle.std.proofs.lemmas.Int.{to_z-of_z}
 use Rattle.std.specs.Int.{w128}
-use Rattle.lv_series.proofs.TimeLaws.{all_before, all_behind, sought_above, sought_below, sought_first, time_at}
+use Rattle.lv_series.proofs.TimeLaws.{all_before, sought_above, sought_below, time_at}
 use Rattle.lv_series.proofs.times.place_of.Goals as goal
 
 pub loop-low-preserved-then-from-time : goal.loop-low-preserved-then-from-time
