@@ -3,7 +3,7 @@ use Rattle.std.proofs.Common.{◌≡◌, ◌≢◌, ℕ, ℤ, ◌^◌, ◌&&◌,
 use Rattle.std.proofs.lemmas.Bool.{and_parts, cases_Bool, cond-false, cond-true, eqb-false, ltb-false, ltb-true}
 use Rattle.std.proofs.lemmas.Option.{none-some}
 use Rattle.lv_series.specs.declared.edits.LongEdit.{LongEdit}
-use Rattle.lv_series.specs.declared.edits.LongEdit.TheVariants.{Push, Pop, Write, Expire, Swap, Truncate}
+use Rattle.lv_series.specs.declared.edits.LongEdit.TheVariants.{Push, Pop, Write, Expire, Swap}
 use Rattle.lv_series.specs.declared.refusals.LongRefusal.TheVariants.{Worn, Empty, OutOfRange, Full, BadRange}
 use Rattle.lv_series.specs.Series.{Held, SeriesState, is_border, is_kept, range_refused, refused, refused_on, size_of}
 use Rattle.lv_series.proofs.KeptLaws.{border_inside, kept_inside}
@@ -34,27 +34,18 @@ pub free_pop : (h : Held) → refused_on h Pop ≡ None → 0 < length h.element
 free_pop h free = omega (arith, eqb-false (length h.elements) 0 (none_at_false (nat_eq (length h.elements) 0) Empty free))
 
 -- an index of a write is kept
-pub free_write_kept : (h : Held) (i : ℕ) (x : ℤ) → refused_on h (Write i x) ≡ None → is_kept h i ≡ true
-free_write_kept h i x free = none_at_true (is_kept h i) (OutOfRange h.first (size_of h)) free
-
 pub free_write : (h : Held) (i : ℕ) (x : ℤ) → refused_on h (Write i x) ≡ None → (h.first ≤ i) × (i < size_of h)
-free_write h i x free = kept_inside h i (free_write_kept h i x free)
+free_write h i x free = kept_inside h i (none_at_true (is_kept h i) (OutOfRange h.first (size_of h)) free)
 
 -- so are both of a swap
-pub free_swap_kept : (h : Held) (i j : ℕ) → refused_on h (Swap i j) ≡ None → (is_kept h i ≡ true) × (is_kept h j ≡ true)
-free_swap_kept h i j free = and_parts (is_kept h i) (is_kept h j) (none_at_true (is_kept h i && is_kept h j) (OutOfRange h.first (size_of h)) free)
-
 pub free_swap : (h : Held) (i j : ℕ) → refused_on h (Swap i j) ≡ None → ((h.first ≤ i) × (i < size_of h)) × ((h.first ≤ j) × (j < size_of h))
 free_swap h i j free =
-    let both = free_swap_kept h i j free in
+    let both = and_parts (is_kept h i) (is_kept h j) (none_at_true (is_kept h i && is_kept h j) (OutOfRange h.first (size_of h)) free) in
     (kept_inside h i both.0, kept_inside h j both.1)
 
--- an index at which what is kept is cut is inside, or at its end
-pub free_expire : (h : Held) (i : ℕ) → refused_on h (Expire i) ≡ None → (h.first ≤ i) × (i ≤ size_of h)
-free_expire h i free = border_inside h i (none_at_true (is_border h i) (OutOfRange h.first (size_of h)) free)
-
-pub free_truncate : (h : Held) (n : ℕ) → refused_on h (Truncate n) ≡ None → (h.first ≤ n) × (n ≤ size_of h)
-free_truncate h n free = border_inside h n (none_at_true (is_border h n) (OutOfRange h.first (size_of h)) free)
+-- an index at which what is kept is cut, in front of it or behind it, is inside, or at its end
+pub free_cut : (h : Held) (i : ℕ) → refused_on h (Expire i) ≡ None → (h.first ≤ i) × (i ≤ size_of h)
+free_cut h i free = border_inside h i (none_at_true (is_border h i) (OutOfRange h.first (size_of h)) free)
 
 -- a range that nothing refuses is kept
 pub free_range : (h : Held) (lo hi : ℕ) → range_refused h lo hi ≡ None → (lo ≤ hi) × (h.first ≤ lo) × (hi ≤ size_of h)

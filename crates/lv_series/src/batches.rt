@@ -67,7 +67,7 @@ impl Series {
     }
 
     // Puts elements at the end, where nothing refuses that. Where memory runs out nothing has changed.
-    #[tactic(auto, using(crate::proofs::BatchLaws::free_pushes, crate::proofs::KeptLaws::size_in))]
+    #[tactic(auto, using(crate::proofs::BatchLaws::all_accepted, crate::proofs::BatchLaws::count_pushes, crate::proofs::BatchLaws::free_pushes, crate::proofs::BatchLaws::pushes_made, crate::proofs::KeptLaws::more_in, crate::proofs::KeptLaws::size_in))]
     fn make_pushes(&mut self, values: &[i64]) -> Result<u64, LongRefusal>
         requires { verdict_of_edits self.old (pushes_of values.now) ≡ None }
         ensures { AnswersEdits self.old (pushes_of values.now) result self.new }
@@ -94,14 +94,14 @@ impl Series {
     }
 
     // Writes values under indices, where nothing refuses that.
+    #[tactic(auto, using(crate::proofs::BatchLaws::all_accepted, crate::proofs::WriteLaws::count_writes, crate::proofs::WriteLaws::judged_few, crate::proofs::WriteLaws::judged_kept, crate::proofs::WriteLaws::verdict_judged))]
     fn make_writes(&mut self, indices: &[u64], values: &[i64]) -> u64
         requires free { verdict_of_edits self.old (writes_at indices.now values.now) ≡ None }
         requires paired { length indices.now ≡ length values.now }
         ensures { AnswersEdits self.old (writes_at indices.now values.now) (Ok result) self.new }
     {
-        let elements = self.elements.as_mut_slice();
         write_each(
-            elements,
+            &mut self.elements,
             &mut self.trees,
             self.base,
             self.first,
@@ -142,20 +142,20 @@ fn push_each(
 // Overwrites the elements under indices that are kept, one after another.
 #[tactic(auto, using(crate::proofs::KeptLaws::kept_inside, crate::proofs::KeptLaws::write_in, crate::proofs::SeriesLaws::kept_twice, crate::proofs::WriteLaws::writes_more))]
 fn write_each(
-    elements: &mut [i64],
+    elements: &mut Vec<i64>,
     trees: &mut Trees,
     base: u64,
     first: u64,
     indices: &[u64],
     values: &[i64],
 )
-    requires window { IsWindow base first elements.old }
-    requires over { AreOver base first elements.old trees.old }
+    requires window { IsWindow base first elements.old.items }
+    requires over { AreOver base first elements.old.items trees.old }
     requires paired { length indices.now ≡ length values.now }
-    requires kept { EachIndex indices.now (λ k. is_kept (held_in base first elements.old) (slice_index indices.now k) ≡ true) }
-    ensures written { held_in base first elements.new ≡ fold changed (held_in base first elements.old) (writes_at indices.now values.now) }
-    ensures window { IsWindow base first elements.new }
-    ensures over { AreOver base first elements.new trees.new }
+    requires kept { EachIndex indices.now (λ k. is_kept (held_in base first elements.old.items) (slice_index indices.now k) ≡ true) }
+    ensures written { held_in base first elements.new.items ≡ fold changed (held_in base first elements.old.items) (writes_at indices.now values.now) }
+    ensures window { IsWindow base first elements.new.items }
+    ensures over { AreOver base first elements.new.items trees.new }
     ensures kinds { KeepsKinds trees.old trees.new }
 {
     for k in 0..indices.len() {

@@ -5,7 +5,7 @@ ghost use Rattle.lv_series.specs.Blocks.{IsWindow};
 ghost use Rattle.lv_series.specs.Trees.{AreOver, KeepsKinds};
 
 use crate::trees::Trees;
-use crate::windows::{add_element, is_wide, remove_and_shrink};
+use crate::windows::{add_element, is_wide, remove_and_shrink, set_element};
 
 /// How many elements a block has.
 pub const BLOCK: usize = 8;
@@ -41,37 +41,52 @@ pub fn push_into(elements: &mut Vec<i64>, trees: &mut Trees, base: u64, first: u
 /// Overwrites the element at a place, and renews the leaf of its block.
 #[tactic(auto, using(crate::proofs::WindowLaws::window_written))]
 #[inline(always)]
-pub fn write_into(elements: &mut [i64], trees: &mut Trees, base: u64, first: u64, at: usize, x: i64)
-    requires window { IsWindow base first elements.old }
-    requires over { AreOver base first elements.old trees.old }
+pub fn write_into(
+    elements: &mut Vec<i64>,
+    trees: &mut Trees,
+    base: u64,
+    first: u64,
+    at: usize,
+    x: i64,
+)
+    requires window { IsWindow base first elements.old.items }
+    requires over { AreOver base first elements.old.items trees.old }
     requires low { first ≤ 8 * base + at }
-    requires high { at < length elements.old }
-    ensures written { elements.new ≡ slice_set elements.old at x }
-    ensures window { IsWindow base first elements.new }
-    ensures over { AreOver base first elements.new trees.new }
+    requires high { at < length elements.old.items }
+    ensures written { elements.new.items ≡ slice_set elements.old.items at x }
+    ensures len { length elements.new.items ≡ length elements.old.items }
+    ensures window { IsWindow base first elements.new.items }
+    ensures over { AreOver base first elements.new.items trees.new }
     ensures kinds { KeepsKinds trees.old trees.new }
 {
-    elements[at] = x;
+    set_element(elements, at, x);
     let block = at / BLOCK;
     if block < elements.len() / BLOCK {
         trees.renew(
             base + block as u64,
-            &elements[BLOCK * block..BLOCK * block + BLOCK],
+            &elements.as_slice()[BLOCK * block..BLOCK * block + BLOCK],
         );
     }
 }
 
 /// Exchanges the elements at two places, which may be one, and renews the leaves of their blocks.
-pub fn swap_into(elements: &mut [i64], trees: &mut Trees, base: u64, first: u64, a: usize, b: usize)
-    requires window { IsWindow base first elements.old }
-    requires over { AreOver base first elements.old trees.old }
+pub fn swap_into(
+    elements: &mut Vec<i64>,
+    trees: &mut Trees,
+    base: u64,
+    first: u64,
+    a: usize,
+    b: usize,
+)
+    requires window { IsWindow base first elements.old.items }
+    requires over { AreOver base first elements.old.items trees.old }
     requires low { first ≤ 8 * base + a }
-    requires high { a < length elements.old }
+    requires high { a < length elements.old.items }
     requires low_too { first ≤ 8 * base + b }
-    requires high_too { b < length elements.old }
-    ensures swapped { elements.new ≡ swap elements.old a b }
-    ensures window { IsWindow base first elements.new }
-    ensures over { AreOver base first elements.new trees.new }
+    requires high_too { b < length elements.old.items }
+    ensures swapped { elements.new.items ≡ swap elements.old.items a b }
+    ensures window { IsWindow base first elements.new.items }
+    ensures over { AreOver base first elements.new.items trees.new }
     ensures kinds { KeepsKinds trees.old trees.new }
 {
     let (x, y) = (elements[a], elements[b]);

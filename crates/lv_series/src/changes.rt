@@ -1,5 +1,4 @@
 //! The edits of a series. Each returns its number. A refused one changes nothing.
-ghost use Rattle.std.specs.Prelude.{◌≡◌};
 ghost use Rattle.lv_series.specs.declared.edits.LongEdit.TheVariants as asked;
 ghost use Rattle.lv_series.specs.Series.{Answers};
 
@@ -77,6 +76,7 @@ impl Series {
 
     /// Overwrites the element under an index, and returns the one before. O(log n) joins for each tree. Refused with `Worn`, then
     /// `OutOfRange`. Takes no memory.
+    #[tactic(auto, using(crate::proofs::KeptLaws::write_in, crate::proofs::FreeLaws::free_write, crate::proofs::FreeLaws::free_edit, crate::proofs::SeriesLaws::accepted))]
     #[inline(always)]
     pub fn write(&mut self, index: u64, value: i64) -> Result<LongReceipt, LongRefusal>
         ensures { Answers self.old (asked.Write index value) result self.new }
@@ -87,7 +87,7 @@ impl Series {
         let before = self.read(index);
         let at = (index - 8 * self.base) as usize;
         write_into(
-            self.elements.as_mut_slice(),
+            &mut self.elements,
             &mut self.trees,
             self.base,
             self.first,
@@ -113,7 +113,7 @@ impl Series {
         let a = (first - 8 * self.base) as usize;
         let b = (second - 8 * self.base) as usize;
         swap_into(
-            self.elements.as_mut_slice(),
+            &mut self.elements,
             &mut self.trees,
             self.base,
             self.first,
@@ -129,7 +129,7 @@ impl Series {
     }
 
     /// Drops the elements from an index on, and returns how many they were. O(1). Refused with `Worn`, then `OutOfRange`. Takes no memory.
-    #[tactic(auto, using(crate::proofs::KeptLaws::truncate_in, crate::proofs::FreeLaws::free_truncate, crate::proofs::FreeLaws::free_edit, crate::proofs::SeriesLaws::accepted))]
+    #[tactic(auto, using(crate::proofs::KeptLaws::truncate_in, crate::proofs::FreeLaws::free_cut, crate::proofs::FreeLaws::free_edit, crate::proofs::SeriesLaws::accepted))]
     pub fn truncate(&mut self, size: u64) -> Result<LongReceipt, LongRefusal>
         ensures { Answers self.old (asked.Truncate size) result self.new }
     {
@@ -155,7 +155,7 @@ impl Series {
     /// Drops the elements before an index, and returns how many they were; the others keep their indices. O(1) amortised, and O(1) joins
     /// for each tree. There is memory for at most twice the elements that are left, and 64, then: where the array gives memory back the
     /// trees are made anew, and those for which there is no memory stay. Refused with `Worn`, then `OutOfRange`, and never for memory.
-    #[tactic(auto, using(crate::proofs::KeptLaws::expire_in, crate::proofs::FreeLaws::free_expire, crate::proofs::FreeLaws::free_edit, crate::proofs::SeriesLaws::accepted))]
+    #[tactic(auto, using(crate::proofs::KeptLaws::expire_in, crate::proofs::FreeLaws::free_cut, crate::proofs::FreeLaws::free_edit, crate::proofs::SeriesLaws::accepted))]
     pub fn expire(&mut self, index: u64) -> Result<LongReceipt, LongRefusal>
         ensures { Answers self.old (asked.Expire index) result self.new }
     {

@@ -1,5 +1,5 @@
 //! The array in which a series' elements are.
-ghost use Rattle.std.specs.Prelude.{◌≡◌, ◌+◌, ◌^◌, ◌≤◌, ◌++◌, ◌∷◌, [], true, false, length, drop, take};
+ghost use Rattle.std.specs.Prelude.{◌≡◌, ◌+◌, ◌^◌, ◌<◌, ◌≤◌, ◌++◌, ◌∷◌, [], true, false, length, drop, slice_set};
 
 /// How many elements there may be in memory.
 pub const MOST: usize = 1 << 59;
@@ -16,6 +16,15 @@ pub fn add_element(elements: &mut Vec<i64>, x: i64) -> bool
     ensures same { result ≡ false → elements.new.items ≡ elements.old.items }
 {
     elements.len() < MOST && elements.push(x).is_ok()
+}
+
+/// Overwrites the element at a place.
+#[inline(always)]
+pub fn set_element(elements: &mut Vec<i64>, at: usize, x: i64)
+    requires { at < length elements.old.items }
+    ensures { elements.new.items ≡ slice_set elements.old.items at x }
+{
+    elements[at] = x;
 }
 
 // Removes elements at the front: the others move there.

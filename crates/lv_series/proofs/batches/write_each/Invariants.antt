@@ -10,9 +10,9 @@ use Rattle.lv_series.proofs.batches.write_each.Given as goal
 
 abbrev pub invariant-loop-k : goal.invariant-loop-k
 invariant-loop-k l = record {
-  window : IsWindow l.base l.first l.elements;
-  over : AreOver l.base l.first l.elements l.trees;
+  window : IsWindow l.base l.first l.elements.items;
+  over : AreOver l.base l.first l.elements.items l.trees;
   kinds : KeepsKinds l.initial.trees l.trees;
-  len : length l.elements ≡ length l.initial.elements;
-  made : held_in l.base l.first l.elements ≡ fold changed (held_in l.base l.first l.initial.elements) (take l.k (writes_at l.indices l.values));
+  len : length l.elements.items ≡ length l.initial.elements.items;
+  made : held_in l.base l.first l.elements.items ≡ fold changed (held_in l.base l.first l.initial.elements.items) (take l.k (writes_at l.indices l.values));
 }

@@ -2,7 +2,6 @@
 use Rattle.std.proofs.Common.{◌≡◌, ◌+◌, ◌-◌, ◌*◌, ◌/◌, sym, subst, arith, drop}
 use Rattle.lv_series.specs.Trees.{AreOver, from_blocks}
 use Rattle.lv_series.proofs.TreeLaws.{all_expired}
-use Rattle.lv_series.proofs.WindowLaws.{window_expired}
 use Rattle.lv_series.proofs.blocks.forget.Goals as goal
 
 pub returns-then-gone-len-clause-over : goal.returns-then-gone-len-clause-over

@@ -1,10 +1,7 @@
 -- Proof of `Series::swap`.
-use Rattle.std.proofs.Common.{◌≡◌, ◌+◌, ◌-◌, ◌*◌, None, FitsSigned, rules, sym, ap, ◌∙◌, arith}
+use Rattle.std.proofs.Common.{◌≡◌, ◌+◌, None, FitsSigned, rules, sym, ap, ◌∙◌, arith}
 use Rattle.std.specs.Int.{w64}
-use Rattle.std.specs.List.{swap}
-use Rattle.std.specs.Vec.{with_items}
 use Rattle.std.proofs.lemmas.Int.{to_z-of_z}
-use Rattle.std.proofs.lemmas.List.{with_items_is}
 use Rattle.lv_series.specs.declared.edits.LongEdit.TheVariants.{Swap}
 use Rattle.lv_series.specs.declared.receipts.LongReceipt.TheVariants.{Swapped}
 use Rattle.lv_series.specs.Series.{element_of, held_in, refused}
@@ -28,7 +25,6 @@ returns c =
     let other : c.read-other.result ≡ element_of held i = rw (← c.self.view_is) at c.read-other.ensures in
     let fits : FitsSigned w64 c.read-value.result = search rules in
     let fits_too : FitsSigned w64 c.read-other.result = search rules in
-    let new : c.swap_into.new.elements ≡ swap els (i - 8 * s.base) (j - 8 * s.base) = c.swap_into.ensures.swapped ∙ ap (λ ys. swap ys (i - 8 * s.base) (j - 8 * s.base)) c.as_mut_slice.ensures.value in
-    rw (to_z-of_z w64 c.read-value.result fits, to_z-of_z w64 c.read-other.result fits_too, ← c.self.view_is) (accepted s.trees c.swap_into.new.trees held (held_in s.base s.first (with_items s.elements c.swap_into.new.elements).items) s.edits (Swap i j) (Swapped (s.edits + 1) c.read-value.result c.read-other.result) c.swap_into.ensures.kinds free
-    (ap (held_in s.base s.first) (with_items_is s.elements c.swap_into.new.elements (c.swap_into.auto.elements ∙ c.as_mut_slice.ensures.len) ∙ new) ∙ swap_in s.base s.first els window i j inside.0.0 (omega (arith, inside.0.1, size)) inside.1.0 (omega (arith, inside.1.1, size)))
+    rw (to_z-of_z w64 c.read-value.result fits, to_z-of_z w64 c.read-other.result fits_too, ← c.self.view_is) (accepted s.trees c.swap_into.new.trees held (held_in s.base s.first c.swap_into.new.elements.items) s.edits (Swap i j) (Swapped (s.edits + 1) c.read-value.result c.read-other.result) c.swap_into.ensures.kinds free
+    (ap (held_in s.base s.first) c.swap_into.ensures.swapped ∙ swap_in s.base s.first els window i j inside.0.0 (omega (arith, inside.0.1, size)) inside.1.0 (omega (arith, inside.1.1, size)))
     (ap (λ x. Swapped (s.edits + 1) x c.read-other.result) value ∙ ap (Swapped (s.edits + 1) (element_of held j)) other))
