@@ -3,10 +3,10 @@ use Rattle.std.proofs.Common.{◌≡◌, ℕ, ℤ, pos, ◌+◌, ◌-◌, ◌*�
 use Rattle.std.specs.List.{swap}
 use Rattle.std.proofs.lemmas.Bool.{and_parts, leb-true, ltb-true}
 use Rattle.std.proofs.lemmas.List.{drop-append-le, drop-drop, drop-set-add, drop-take, get_or-drop, length-take-le, take-take}
+use Rattle.std.proofs.lemmas.List.Edits.{swap_is}
 use Rattle.lv_series.specs.declared.edits.LongEdit.TheVariants.{Push, Pop, Write, Expire, Swap, Truncate}
 use Rattle.lv_series.specs.Blocks.{IsWindow}
 use Rattle.lv_series.specs.Series.{Held, changed, element_of, held_in, is_border, is_kept, size_of, slice_of}
-use Rattle.lv_series.proofs.SwapLaws.{swap_dropped}
 
 -- an index that is kept is between the first and the size
 pub kept_inside : (h : Held) (i : ℕ) → is_kept h i ≡ true → (h.first ≤ i) × (i < size_of h)
@@ -28,6 +28,19 @@ pub slice_start : (h : Held) (lo hi count : ℕ) → h.first ≤ lo → lo + cou
 slice_start h lo hi count low few =
     let wide : lo + count - h.first - (lo - h.first) ≡ count = omega arith in
     take-take count (hi - h.first - (lo - h.first)) (drop (lo - h.first) h.elements) (omega arith) ∙ ap (λ n. take n (drop (lo - h.first) h.elements)) (sym wide)
+
+-- two elements exchanged in a list, without its first elements
+swap_dropped : (skip : ℕ) (xs : List ℤ) (i j : ℕ) → skip + i < length xs → skip + j < length xs → drop skip (swap xs (skip + i) (skip + j)) ≡ swap (drop skip xs) i j
+swap_dropped skip xs i j first second =
+    let a = slice_index_or xs (skip + i) (pos 0) in
+    let b = slice_index_or xs (skip + j) (pos 0) in
+    let left = length-drop skip xs in
+    ap (drop skip) (sym (swap_is xs (skip + i) (skip + j) (pos 0) first second))
+    ∙ drop-set-add skip (slice_set xs (skip + i) b) j a
+    ∙ ap (λ zs. slice_set zs j a) (drop-set-add skip xs i b)
+    ∙ ap (λ x. slice_set (slice_set (drop skip xs) i x) j a) (sym (get_or-drop skip xs j (pos 0)))
+    ∙ ap (λ x. slice_set (slice_set (drop skip xs) i (slice_index_or (drop skip xs) j (pos 0))) j x) (sym (get_or-drop skip xs i (pos 0)))
+    ∙ swap_is (drop skip xs) i j (pos 0) (omega (arith, first, left)) (omega (arith, second, left))
 
 module _ (base first : ℕ) (els : List ℤ) (window : IsWindow base first els) where
   -- the index behind the last element

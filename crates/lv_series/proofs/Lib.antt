@@ -12,7 +12,6 @@ pub mod SamplePlainLaws
 pub mod ScanSteps
 pub mod SearchLaws
 pub mod SeriesLaws
-pub mod SwapLaws
 pub mod TimeLaws
 pub mod TimeWindows
 pub mod TreeLaws
