@@ -1,4 +1,6 @@
 //! Tests a set of 1,000 queries: which are told after an edit, and which are refused.
+ghost use Rattle.std.specs.Prelude.{◌+◌, ◌≤◌, length, vec_capacity, vec_len};
+
 use crate::same::assert_same;
 use lv_bodies::{Kind, Name, Shown, Six};
 use lv_edits::Edit;
@@ -42,23 +44,34 @@ fn fill(live: &mut Live<Six>, set: &mut QuerySet<Query>, count: u32) -> Result<(
     Ok(())
 }
 
+// How many notes there are, the first and the last of them.
+type Ends = (usize, Option<Note>, Option<Note>);
+
+fn ends_of(notes: &[Note]) -> Ends {
+    (notes.len(), notes.first().copied(), notes.last().copied())
+}
+
+// Asks all queries, and puts their notes into a list, which has room for them.
+fn tell_into(set: &mut QuerySet<Query>, live: &mut Live<Six>, notes: &mut Vec<Note>)
+    requires { vec_len notes.old + length set.old.queries ≤ vec_capacity notes.old }
+{
+    live.keeps();
+    set.ask(live);
+    set.put_due(notes);
+    set.mark_told();
+}
+
 // What is told now.
 fn told_now(
     alloc: Global,
     set: &mut QuerySet<Query>,
     live: &mut Live<Six>,
-) -> Result<Vec<Note>, AllocError> {
+) -> Result<Ends, AllocError> {
     let mut notes = Vec::with_capacity(alloc, set.queries().len())?;
-    live.keeps();
-    set.ask(live);
-    set.put_due(&mut notes);
-    set.mark_told();
-    Ok(notes)
-}
-
-// The number of notes, the first and the last of them.
-fn ends_of(notes: &[Note]) -> (usize, Option<Note>, Option<Note>) {
-    (notes.len(), notes.first().copied(), notes.last().copied())
+    tell_into(set, live, &mut notes);
+    let ends = ends_of(&notes);
+    drop(notes);
+    Ok(ends)
 }
 
 fn note(number: u32, sum: u64) -> Option<Note> {
@@ -77,36 +90,58 @@ fn forget(set: &mut QuerySet<Query>, number: u32) -> Option<usize> {
     Some(place)
 }
 
-#[test]
-fn a_thousand_names(rt: HostRuntime) -> Result<(), Fail> {
-    let mut live = Live::new(rt.alloc(), Limits::greatest(), Six);
-    let mut set = QuerySet::new(rt.alloc(), 1000);
-    fill(&mut live, &mut set, 1000)?;
-    // The sum of element 0 is 0, as that of no elements is.
-    let first = told_now(rt.alloc(), &mut set, &mut live)?;
-    assert_same(&rt, &ends_of(&first), &(999, note(1, 1), note(999, 999)));
-    let again = told_now(rt.alloc(), &mut set, &mut live)?;
-    assert_same(&rt, &ends_of(&again), &(0, None, None));
+// What is told after 1,000 pushes, then at once again, and after a write.
+fn look_thrice(
+    alloc: Global,
+    set: &mut QuerySet<Query>,
+    live: &mut Live<Six>,
+) -> Result<[Ends; 3], Fail> {
+    fill(live, set, 1000)?;
+    let first = told_now(alloc, set, live)?;
+    let again = told_now(alloc, set, live)?;
     live.apply(Edit::Write {
         index: 500,
         value: 7,
     })?;
-    let written = told_now(rt.alloc(), &mut set, &mut live)?;
-    assert_same(&rt, &ends_of(&written), &(1, note(500, 7), note(500, 7)));
-    Ok(())
+    let written = told_now(alloc, set, live)?;
+    Ok([first, again, written])
+}
+
+fn looks_at_a_thousand(alloc: Global) -> Result<[Ends; 3], Fail> {
+    let mut live = Live::new(alloc, Limits::greatest(), Six);
+    let mut set = QuerySet::new(alloc, 1000);
+    let looks = look_thrice(alloc, &mut set, &mut live);
+    drop(set);
+    drop(live);
+    looks
 }
 
 #[test]
-fn a_thousand_names_and_one(rt: HostRuntime) -> Result<(), Fail> {
-    let mut live = Live::new(rt.alloc(), Limits::greatest(), Six);
-    let mut set = QuerySet::new(rt.alloc(), 999);
-    fill(&mut live, &mut set, 999)?;
-    assert_same(&rt, &watch(&mut set, 999), &Err(Refusal::TooMany));
-    assert_same(&rt, &watch(&mut set, 998), &Err(Refusal::NameTaken));
-    assert_same(&rt, &forget(&mut set, 500), &Some(500));
-    assert_same(&rt, &forget(&mut set, 500), &None);
-    assert_same(&rt, &forget(&mut set, 501), &Some(500));
-    assert_same(&rt, &watch(&mut set, 999), &Ok(()));
-    assert_same(&rt, &set.queries().len(), &998);
+fn a_thousand_names(rt: HostRuntime) -> Result<(), Fail> {
+    let [first, again, written] = looks_at_a_thousand(rt.alloc())?;
+    // The sum of element 0 is 0, as that of no elements is.
+    assert_same(&rt, &first, &(999, note(1, 1), note(999, 999)));
+    assert_same(&rt, &again, &(0, None, None));
+    assert_same(&rt, &written, &(1, note(500, 7), note(500, 7)));
+    Ok(())
+}
+
+// A set that may have three queries has two of them.
+fn two_of_three(alloc: Global) -> Result<QuerySet<Query>, Refusal> {
+    let mut set = QuerySet::new(alloc, 3);
+    watch(&mut set, 0)?;
+    watch(&mut set, 1)?;
+    Ok(set)
+}
+
+#[test]
+fn a_name_too_many(rt: HostRuntime) -> Result<(), Fail> {
+    let mut set = two_of_three(rt.alloc())?;
+    assert_same(&rt, &watch(&mut set, 1), &Err(Refusal::NameTaken));
+    assert_same(&rt, &watch(&mut set, 2), &Ok(()));
+    assert_same(&rt, &watch(&mut set, 3), &Err(Refusal::TooMany));
+    assert_same(&rt, &forget(&mut set, 1), &Some(1));
+    assert_same(&rt, &forget(&mut set, 1), &None);
+    assert_same(&rt, &forget(&mut set, 2), &Some(1));
     Ok(())
 }
