@@ -1,6 +1,6 @@
 -- The answers and the notes of questions, one after another.
 use Rattle.std.proofs.Common.{◌≡◌, ◌<◌, ◌≤◌, ◌+◌, ℕ, List, [], ◌∷◌, ◌++◌, append_assoc, length, length-append, map, take, take_all, drop, get_or, refl, ap, sym, subst, ◌∙◌, inl, inr, arith}
-use Rattle.std.proofs.lemmas.List.{length-take-le, map-append, take_more}
+use Rattle.std.proofs.lemmas.List.{length-take-le, take_more}
 use Rattle.std.proofs.lemmas.Slice.{drop-append-drop}
 use Rattle.std.proofs.Math.Seq.{take-append_seam}
 use Rattle.lv_bodies.specs.declared.kinds.Shown.{Shown}
@@ -9,21 +9,12 @@ use Rattle.livevec_c.specs.declared.queries_notes.Note.{Note}
 use Rattle.livevec_c.specs.declared.queries_notes.Noted.{Noted}
 use Rattle.lv_standing.specs.declared.queries.Query.{Query}
 use Rattle.livevec_c.specs.Behind.{State}
-use Rattle.livevec_c.specs.Queried.{AreNotesOf, IsAnswered, NotesInto, NotesOne, PutsNote, Tells, answer_by, note_of, unnoted}
+use Rattle.livevec_c.specs.Queried.{AreNotesOf, NotesInto, NotesOne, PutsNote, Tells, answer_by, note_of}
 use Rattle.livevec_c.specs.Queries.{QueriesState}
 
 -- a list up to an index, and what stands there
 next_of : {A : Type 0} (xs : List A) (i : ℕ) (x : A) → x ≡ get_or xs i x → i < length xs → take (i + 1) xs ≡ take i xs ++ x ∷ []
 next_of xs i x is inside = take_more xs i x inside ∙ ap (λ y. take i xs ++ y ∷ []) (sym is)
-
--- the questions up to an index were answered, and then what stands there
-pub next_answered : (state now : State) (q : Query) (value : Shown) (questions : List Query) (values more : List Shown) (i : ℕ) → IsAnswered now q value → now ≡ state → q ≡ get_or questions i q → i < length questions
-    → more ≡ values ++ value ∷ [] → values ≡ map (answer_by state) (take i questions) → more ≡ map (answer_by state) (take (i + 1) questions)
-next_answered state now q value questions values more i one same q_is inside pushed so_far =
-    pushed
-    ∙ ap (λ vs. vs ++ value ∷ []) so_far
-    ∙ ap (λ v. map (answer_by state) (take i questions) ++ v ∷ []) (one.is ∙ ap (λ s. answer_by s q) same)
-    ∙ sym (ap (map (answer_by state)) (next_of questions i q q_is inside) ∙ map-append (answer_by state) (take i questions) (q ∷ []))
 
 module _ (edit size : ℕ) where
   -- the notes of some questions and those of one more are the notes of all
@@ -111,32 +102,18 @@ notes_as edit edits size elements questions asked told before values now notes e
     (subst (λ bs. AreNotesOf edit size asked bs values notes) told_are (subst (λ qs. AreNotesOf edit size qs told values notes) questions_are are))))
 
 module _ (old : QueriesState) (state : State) (edit size : ℕ) (edit_is : edit ≡ length state.history.journal) (size_is : size ≡ length (list_of state.history.journal)) where
-  -- what was counted doesn't fit
-  pub tells_short : (questions : List Query) (told values : List Shown) (none after places : List Note) (count number : ℕ) (answer : Noted) → NotesInto edit size questions told values none count after → questions ≡ old.questions → told ≡ old.told → values ≡ map (answer_by state) old.questions
-      → length places < count → number ≡ count → answer ≡ unnoted 103 number → Tells old old state places places answer
-  tells_short questions told values none after places count number answer into questions_are told_are values_are short number_is answer_is = (
-    into.notes,
-    notes_as edit (length state.history.journal) size (length (list_of state.history.journal)) questions old.questions told old.told values (map (answer_by state) old.questions) into.notes edit_is size_is questions_are told_are values_are into.are,
-    inr (record { answer_is = answer_is ∙ ap (unnoted 103) (number_is ∙ into.count_is); room = omega (arith, short, into.count_is); unwritten = refl; same = refl }),
-  )
-
   -- what was counted fits, and was written
-  pub tells_all : (new : QueriesState) (questions asked : List Query) (told before values now : List Shown) (none after places written : List Note) (count counted number : ℕ) (answer : Noted)
-      → NotesInto edit size questions told values none count after → questions ≡ old.questions → told ≡ old.told → values ≡ map (answer_by state) old.questions
-      → NotesInto edit size asked before now places counted written → asked ≡ old.questions → before ≡ old.told → now ≡ map (answer_by state) old.questions
+  pub tells_all : (new : QueriesState) (questions : List Query) (told values : List Shown) (none after places written : List Note) (count counted number : ℕ) (answer : Noted)
+      → NotesInto edit size questions told values none count after → NotesInto edit size questions told values places counted written → questions ≡ old.questions → told ≡ old.told → values ≡ map (answer_by state) old.questions
       → count ≤ length places → number ≡ count → answer ≡ record { refusal = 0; detail = 0; edit = edit; count = number } → new.questions ≡ old.questions → new.told ≡ map (answer_by state) old.questions
       → Tells old new state places written answer
-  tells_all new questions asked told before values now none after places written count counted number answer first questions_are told_are values_are second asked_are before_are now_are room number_is answer_is same told_now =
+  tells_all new questions told values none after places written count counted number answer first second questions_are told_are values_are room number_is answer_is same told_now =
       let edits = length state.history.journal in
-      let elements = length (list_of state.history.journal) in
-      let answers = map (answer_by state) old.questions in
-      let counts = notes_as edit edits size elements questions old.questions told old.told values answers first.notes edit_is size_is questions_are told_are values_are first.are in
-      let writes = notes_as edit edits size elements asked old.questions before old.told now answers second.notes edit_is size_is asked_are before_are now_are second.are in
-      let alike : length first.notes ≡ length second.notes = ap length (notes_alone edits elements old.questions old.told answers first.notes second.notes counts writes) in
+      let alike : length first.notes ≡ length second.notes = ap length (notes_alone edit size questions told values first.notes second.notes first.are second.are) in
       let fits : length second.notes ≤ length places = omega (arith, room, first.count_is, alike) in
       let many : number ≡ length second.notes = number_is ∙ first.count_is ∙ alike in (
         second.notes,
-        writes,
+        notes_as edit edits size (length (list_of state.history.journal)) questions old.questions told old.told values (map (answer_by state) old.questions) second.notes edit_is size_is questions_are told_are values_are second.are,
         inl (record {
           answer_is = answer_is ∙ ap (λ e. record { refusal = 0; detail = 0; edit = e; count = number }) edit_is ∙ ap (λ n. record { refusal = 0; detail = 0; edit = edits; count = n }) many;
           room = fits;

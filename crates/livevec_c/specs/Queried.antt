@@ -214,10 +214,6 @@ TellsAll (Some old) new vector before after answer = (object : Object) × (new �
 
 -- ---- what the code passes on, one question after another
 
--- a value is the answer of a question by a vector
-pub record IsAnswered (state : State) (q : Query) (value : Shown) : Type 0 where
-  pub is : value ≡ answer_by state q
-
 -- a note was put at a place, where there is such a place; the others stay
 pub record PutsNote (note : Note) (place : ℕ) (before after : List Note) : Type 0 where
   pub places : length after ≡ length before

@@ -1,57 +1,41 @@
 //! A set of standing queries.
-ghost use Rattle.std.specs.Prelude.{◌≡◌, ◌<◌, ◌+◌, ◌≤◌, [], None, Some, IfErr, OnErr, OnOk, length, slice_get, vec_capacity, vec_len};
+ghost use Rattle.std.specs.Prelude.{◌≡◌, ◌<◌, [], None, IfErr, IfSome, OnErr, OnOk};
 ghost use Rattle.lv_edits.specs.Verdict.{IsRefusal};
-ghost use Rattle.livevec_c.specs.Queries.{place_of, question_refusal, with_question, without_place};
+ghost use Rattle.livevec_c.specs.Queried.{ForgetsAt, Tells, TellsUnless, first_refused, found_at};
+ghost use Rattle.livevec_c.specs.Queries.{place_of, question_refusal, with_question};
 
-use lv_bodies::{Name, Shown};
+use crate::kind_vectors::KindVector;
+use crate::only::may_ask;
+use crate::queries_notes::{Note, Noted, not_noted, note_all};
+use crate::results::{BAD_KIND, SHORT_BUFFER};
+use lv_bodies::{Kind, Name};
 use lv_geometry::Refusal;
-use lv_standing::Query;
-use std::alloc::{AllocError, Global};
+use lv_standing::{Query, QuerySet};
+use std::alloc::Global;
 use std::marker::Model;
 
-/// How many queries a set has at most.
+// How many queries a set has at most.
 const MOST: usize = 64;
 
+// The number for a name that no question has, as the library has it.
+const NO_SUCH_NAME: u32 = 11;
+
 /// Queries by name, in the order in which they were named, and what each was told last. A question that wasn't told of counts as told
-/// its answer of no elements.
+/// its answer of no elements. Contracts don't see what the questions were answered and not told.
 #[derive(Drop)]
 pub struct Queries {
-    pub(crate) questions: Vec<Query>,
-    pub(crate) told: Vec<Shown>,
-    // Room for answers.
-    pub(crate) values: Vec<Shown>,
+    set: QuerySet<Query>,
 }
 
 impl Model for Queries {
-    ghost use Rattle.std.specs.Prelude.{◌≡◌, ◌≤◌, length, vec_capacity};
+    ghost use Rattle.std.specs.Prelude.{◌≡◌};
     ghost use Rattle.livevec_c.specs.Queries.{QueriesState};
 
     ghost Value = { QueriesState };
 
-    ghost view = { λ s. record { questions = s.questions.items; told = s.told.items } };
+    ghost view = { λ s. record { questions = s.set.queries; told = s.set.told } };
 
-    ghost invariant = { λ s. (length s.told.items ≡ length s.questions.items) × (length s.questions.items ≤ vec_capacity s.told) × (length s.questions.items ≤ vec_capacity s.values) × (length s.questions.items ≤ 64) };
-}
-
-// Makes room for one question more, for what it was told, and for the values of all.
-fn make_room(
-    questions: &mut Vec<Query>,
-    told: &mut Vec<Shown>,
-    values: &mut Vec<Shown>,
-) -> Result<(), AllocError>
-    ensures questions { questions.new.items ≡ questions.old.items }
-    ensures told { told.new.items ≡ told.old.items }
-    ensures question_room { OnOk result (vec_len questions.new + 1 ≤ vec_capacity questions.new) }
-    ensures told_room { OnOk result (vec_len told.new + 1 ≤ vec_capacity told.new) }
-    ensures value_room { OnOk result (vec_len questions.new + 1 ≤ vec_capacity values.new) }
-    ensures told_keeps { vec_capacity told.old ≤ vec_capacity told.new }
-    ensures values_keep { vec_capacity values.old ≤ vec_capacity values.new }
-{
-    let count = questions.len().saturating_add(1);
-    values.clear();
-    values.reserve(count)?;
-    told.reserve(1)?;
-    questions.reserve(1)
+    ghost invariant = { λ s. s.set.most ≡ 64 };
 }
 
 impl Queries {
@@ -60,9 +44,7 @@ impl Queries {
         ensures { result ≡ record { questions = []; told = [] } }
     {
         Queries {
-            questions: Vec::new(alloc),
-            told: Vec::new(alloc),
-            values: Vec::new(alloc),
+            set: QuerySet::new(alloc, MOST),
         }
     }
 
@@ -72,48 +54,77 @@ impl Queries {
         ensures err { IfErr result (λ refusal. IsRefusal (question_refusal self.old.questions question.now) refusal) }
         ensures unchanged { OnErr result (self.new ≡ self.old) }
     {
-        match question.refusal_among(&self.questions, MOST) {
-            Some(refusal) => Err(refusal),
-            None => self.add(question),
+        self.set.watch(question, question.untold())
+    }
+
+    /// Forgets the question of a name; the others keep their order.
+    pub fn unwatch(&mut self, name: &Name) -> u32
+        ensures { ForgetsAt (place_of self.old.questions name.now) result self.old self.new }
+    {
+        match self.set.place(name) {
+            None => NO_SUCH_NAME,
+            Some(place) => {
+                self.set.forget(place);
+                0
+            }
         }
     }
 
-    // Registers a question that may stand behind those that there are. Refused with `NoMemory`.
-    fn add(&mut self, question: &Query) -> Result<(), Refusal>
-        requires { question_refusal self.old.questions question.now ≡ None }
-        ensures ok { OnOk result ((question_refusal self.old.questions question.now ≡ None) × (self.new ≡ with_question self.old question.now)) }
-        ensures err { IfErr result (λ refusal. IsRefusal (question_refusal self.old.questions question.now) refusal) }
-        ensures unchanged { OnErr result (self.new ≡ self.old) }
+    /// The question of a name.
+    pub fn find(&self, name: &Name) -> Result<Query, u32>
+        ensures { result ≡ found_at (place_of self.now.questions name.now) self.now.questions }
     {
-        let room = make_room(&mut self.questions, &mut self.told, &mut self.values);
-        let Ok(()) = room else {
-            return Err(Refusal::NoMemory);
-        };
-        self.questions.push_reserved(*question);
-        self.told.push_reserved(question.untold());
-        Ok(())
+        match self.set.place(name) {
+            None => Err(NO_SUCH_NAME),
+            Some(place) => Ok(self.set.queries()[place]),
+        }
     }
 
-    /// Where the question of a name stands, if there is one.
-    pub fn place(&self, name: &Name) -> Option<usize>
-        ensures { result ≡ place_of self.now.questions name.now }
+    // The first question that a vector, of one kind or of all six, may not be asked, if there is one.
+    fn first_refused(&self, only: Option<Kind>) -> Option<usize>
+        ensures place { result ≡ first_refused only self.now.questions }
+        ensures few { IfSome result (λ place. place < 64) }
     {
-        self.questions.iter().position(|q| q.name == *name)
+        let mut questions = self.set.queries().iter();
+        questions.position(|q| !may_ask(only, Some(q.kind)))
     }
 
-    /// Forgets the question at a place; the others keep their order.
-    pub fn forget(&mut self, place: usize)
-        requires { place < length self.old.questions }
-        ensures { self.new ≡ without_place self.old place }
+    // Tells of each question, in order, whose answer by a vector is another than it was told, where there is room for all notes.
+    fn tell(&mut self, vector: &mut KindVector, notes: &mut [Note]) -> Noted
+        ensures told { Tells self.old self.new vector.old notes.old notes.new result }
+        ensures same { vector.new ≡ vector.old }
     {
-        self.questions.remove(place);
-        self.told.remove(place);
+        self.set.ask(vector);
+        let size = vector.live().size();
+        let edit = vector.live().edit();
+        let (questions, told, answers) = (self.set.queries(), self.set.told(), self.set.answers());
+        let count = note_all(questions, told, answers, size, edit, &mut []);
+        if notes.len() < count {
+            return not_noted(SHORT_BUFFER, count as u32);
+        }
+        note_all(questions, told, answers, size, edit, notes);
+        self.set.mark_told();
+        Noted {
+            refusal: 0,
+            detail: 0,
+            edit,
+            count: count as u32,
+        }
     }
 
-    /// The question at a place, if there is one.
-    pub fn question(&self, place: usize) -> Option<Query>
-        ensures { result ≡ slice_get self.now.questions place }
+    /// The same where the vector, which is of one kind or of all six, may be asked all of them.
+    pub fn tell_asked(
+        &mut self,
+        vector: &mut KindVector,
+        only: Option<Kind>,
+        notes: &mut [Note],
+    ) -> Noted
+        ensures told { TellsUnless (first_refused only self.old.questions) self.old self.new vector.old notes.old notes.new result }
+        ensures same { vector.new ≡ vector.old }
     {
-        self.questions.get(place).copied()
+        match self.first_refused(only) {
+            Some(place) => not_noted(BAD_KIND, place as u32),
+            None => self.tell(vector, notes),
+        }
     }
 }

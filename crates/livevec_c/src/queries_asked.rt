@@ -1,11 +1,10 @@
 //! Standing queries: their answers, and notes of those whose answer is another than they were told.
 ghost use Rattle.std.specs.Prelude.{◌≡◌};
-ghost use Rattle.livevec_c.specs.Queried.{TellsAll, TellsBehind, TellsBy, TellsObject, answered, answered_behind, found_at, found_behind, found_in, object_answered, question_of};
-ghost use Rattle.livevec_c.specs.Queries.{place_of};
+ghost use Rattle.livevec_c.specs.Queried.{TellsAll, TellsBehind, TellsBy, TellsObject, answered, answered_behind, found_behind, found_in, object_answered, question_of};
 
 use crate::objects::Object;
 use crate::queries::Queries;
-use crate::queries_calls::{BAD_NAME, NO_SUCH_NAME};
+use crate::queries_calls::BAD_NAME;
 use crate::queries_notes::{Note, Noted, not_noted};
 use crate::queries_told::answer_asked;
 use crate::results::{NO_HANDLE, Reduced, not_reduced};
@@ -14,25 +13,12 @@ use lv_bodies::Name;
 use lv_standing::Query;
 use std::alloc::Global;
 
-// The question of a name in a set.
-fn find_in_set(set: &Queries, name: &Name) -> Result<Query, u32>
-    ensures { result ≡ found_at (place_of set.now.questions name.now) set.now.questions }
-{
-    match set.place(name) {
-        None => Err(NO_SUCH_NAME),
-        Some(place) => match set.question(place) {
-            None => Err(NO_SUCH_NAME),
-            Some(question) => Ok(question),
-        },
-    }
-}
-
 // The question of a name at an object.
 fn find_in(object: &Object, name: &Name) -> Result<Query, u32>
     ensures { result ≡ found_in name.now object.now }
 {
     match object {
-        Object::Queries(set) => find_in_set(set, name),
+        Object::Queries(set) => set.find(name),
         _ => Err(NO_HANDLE),
     }
 }

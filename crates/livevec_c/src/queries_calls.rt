@@ -1,7 +1,6 @@
 //! Sets of standing queries: how they begin, and how their questions come and go.
 ghost use Rattle.std.specs.Prelude.{◌≡◌, [], IfOk};
-ghost use Rattle.livevec_c.specs.Queried.{ForgetsAt, OpensQueries, Unwatches, UnwatchesBehind, UnwatchesObject, Watches, WatchesBehind, WatchesObject, question_in};
-ghost use Rattle.livevec_c.specs.Queries.{place_of};
+ghost use Rattle.livevec_c.specs.Queried.{OpensQueries, Unwatches, UnwatchesBehind, UnwatchesObject, Watches, WatchesBehind, WatchesObject, question_in};
 ghost use Rattle.livevec_c.specs.declared.objects.Object.TheVariants as objects;
 
 use crate::boards::kind_of;
@@ -15,9 +14,6 @@ use std::alloc::{AllocError, Global};
 
 /// The number for bytes that are no name.
 pub const BAD_NAME: u32 = 114;
-
-/// The number for a name that no question has, as the library has it.
-pub const NO_SUCH_NAME: u32 = 11;
 
 // A set without questions in a place of its own.
 fn new_queries(alloc: Global) -> Result<Box<Object>, AllocError>
@@ -101,25 +97,12 @@ pub extern "C" fn livevec_proved_watch(
     }
 }
 
-// Forgets the question of a name in a set.
-fn unwatch_set(set: &mut Queries, name: &Name) -> u32
-    ensures { ForgetsAt (place_of set.old.questions name.now) result set.old set.new }
-{
-    match set.place(name) {
-        None => NO_SUCH_NAME,
-        Some(place) => {
-            set.forget(place);
-            0
-        }
-    }
-}
-
 // Forgets the question of a name at an object.
 fn unwatch_object(object: &mut Object, name: &Name) -> u32
     ensures { UnwatchesObject name.now result object.old object.new }
 {
     match object {
-        Object::Queries(set) => unwatch_set(set, name),
+        Object::Queries(set) => set.unwatch(name),
         _ => NO_HANDLE,
     }
 }
