@@ -2,7 +2,6 @@
 mod AcceptedLaws
 mod AsScriptsLaws
 mod MinuteLaws
-mod NoteLaws
 mod OrderLaws
 mod PermitLaws
 pub mod PlainSessionLaws

@@ -1,40 +1,58 @@
 -- What a look of a subscriber comes to.
-use Rattle.std.proofs.Common.{◌≡◌, ◌≢◌, ◌≤◌, ◌∙◌, List, length, map, refl, ap, subst, sym, arith}
+use Rattle.std.proofs.Common.{◌≡◌, ◌≢◌, ◌≤◌, ◌∙◌, List, [], ◌++◌, length, map, ap, subst, sym, arith}
+use Rattle.std.proofs.lemmas.List.{length-map}
 use mathlib.Core.List.{IsPrefix}
 use Rattle.lv_geometry.specs.Bounds.{Bounds}
 use Rattle.lv_bodies.specs.declared.kinds.Shown.{Shown}
 use Rattle.lv_edits.specs.Kept.{IsLegalInLimits}
 use Rattle.lv_standing.specs.declared.notes.Note.{Note}
 use Rattle.lv_standing.specs.declared.queries.Query.{Query}
+use Rattle.lv_standing.specs.Queries.{watch_answer}
+use Rattle.lv_standing.specs.QuerySets.{AddsDue, QuerySetState, with_answers, with_told}
 use Rattle.lv_hub.specs.declared.told.Told.{Told}
 use Rattle.lv_hub.specs.Counting.{ShareState, having_seen}
-use Rattle.lv_standing.specs.Queries.{watch_answer}
 use Rattle.lv_hub.specs.Notes.{AreNotesOf, HasTold, SubscriberState}
 use Rattle.lv_hub.specs.Told.{history_of}
 use Rattle.lv_hub.proofs.PrefixLaws.{prefix_length, prefix_whole}
 
--- notes of the same questions and values
-pub notes_as : (notes : List Note) (questions asked : List Query) (told before values now : List Shown) → questions ≡ asked → told ≡ before → values ≡ now → AreNotesOf questions told values notes → AreNotesOf asked before now notes
-notes_as notes questions asked told before values now questions_are told_are values_are are =
-    subst (λ vs. AreNotesOf asked before vs notes) values_are (subst (λ bs. AreNotesOf asked bs values notes) told_are (subst (λ qs. AreNotesOf qs told values notes) questions_are are))
+-- a set that was asked has an answer to each query
+pub each_answered : (set asked : QuerySetState Query) (answer : Query → Shown) → asked ≡ with_answers set (map answer set.queries) → length asked.answers ≡ length asked.queries
+each_answered set asked answer is = ap (λ s. length s.answers) is ∙ length-map set.queries answer ∙ sym (ap (λ s. length s.queries) is)
 
-module _ (old : SubscriberState) (share : ShareState) (is : share ≡ having_seen old.share share.seen) (begins : IsPrefix old.share.seen share.seen) where
+-- a set puts notes of its last answers behind those of a list
+abbrev pub PutsNotes : QuerySetState Query → List Note → List Note → Type 0
+PutsNotes s = AddsDue (λ q. q.name) (λ q before now. now ≡ before) (λ q before now. now ≢ before) s.queries s.told s.answers
+
+-- those that it puts into an empty list
+pub notes_put : (set asked : QuerySetState Query) (answers : List Shown) (none more : List Note) → asked ≡ with_answers set answers → none ≡ []
+    → PutsNotes asked none more → AreNotesOf set.queries set.told answers more
+notes_put set asked answers none more is empty adds =
+    let put = subst (λ (s : QuerySetState Query). AreNotesOf s.queries s.told s.answers adds.added) is adds.are in
+    subst (AreNotesOf set.queries set.told answers) (sym (adds.all ∙ ap (λ ns. ns ++ adds.added) empty)) put
+
+-- what is seen of a subscriber
+abbrev pub subscriber_of : ShareState → QuerySetState Query → SubscriberState
+subscriber_of share set = record { share = share; questions = set.queries; told = set.told }
+
+module _ (before share : ShareState) (is : share ≡ having_seen before share.seen) (begins : IsPrefix before.seen share.seen) (set asked : QuerySetState Query) (asked_is : asked ≡ with_answers set (map (watch_answer share.seen) set.queries)) where
   -- where there are no more edits, all is as it was
-  pub looked_in_vain : length share.seen ≤ length old.share.seen → record old { share = share } ≡ old
+  pub looked_in_vain : length share.seen ≤ length before.seen → subscriber_of share asked ≡ subscriber_of before set
   looked_in_vain few =
-      let same : share ≡ old.share = is ∙ ap (having_seen old.share) (sym (prefix_whole old.share.seen share.seen begins few)) in
-      ap (λ s. record old { share = s }) same
+      let same : share ≡ before = is ∙ ap (having_seen before) (sym (prefix_whole before.seen share.seen begins few)) in
+      ap (λ s. subscriber_of s asked) same ∙ ap (subscriber_of before) asked_is
 
   -- else it is told
-  pub looked : (limits : Bounds) (told : Told) (questions : List Query) (before values now : List Shown) → questions ≡ old.questions → before ≡ old.told → values ≡ now → IsLegalInLimits (history_of limits share.seen) → told.edit ≡ length share.seen
-      → told.edit ≢ length old.share.seen → now ≡ map (watch_answer share.seen) old.questions → AreNotesOf questions before values told.notes.items → HasTold limits old (record { share = share; questions = old.questions; told = now }) told
-  looked limits told questions before values now questions_are before_is values_are within edit other answers notes = record {
-    seen = begins;
-    later = omega (arith, prefix_length old.share.seen share.seen begins);
-    edit = edit;
-    within = within;
-    share = is;
-    questions = refl;
-    answers = answers;
-    notes = notes_as told.notes.items questions old.questions before old.told values now questions_are before_is values_are notes;
-  }
+  pub looked : (limits : Bounds) (told : Told) (none : List Note) (new : QuerySetState Query) → new ≡ with_told asked → none ≡ [] → IsLegalInLimits (history_of limits share.seen) → told.edit ≡ length share.seen → told.edit ≢ length before.seen
+      → PutsNotes asked none told.notes.items → HasTold limits (subscriber_of before set) (subscriber_of share new) told
+  looked limits told none new new_is empty within edit other adds =
+      let answers : new.told ≡ map (watch_answer share.seen) set.queries = ap (λ (s : QuerySetState Query). s.told) new_is ∙ ap (λ (s : QuerySetState Query). s.answers) asked_is in
+      record {
+        seen = begins;
+        later = omega (arith, prefix_length before.seen share.seen begins);
+        edit = edit;
+        within = within;
+        share = is;
+        questions = ap (λ (s : QuerySetState Query). s.queries) new_is ∙ ap (λ (s : QuerySetState Query). s.queries) asked_is;
+        answers = answers;
+        notes = subst (λ values. AreNotesOf set.queries set.told values told.notes.items) (sym answers) (notes_put set asked (map (watch_answer share.seen) set.queries) none told.notes.items asked_is empty adds);
+      }

@@ -4,7 +4,6 @@ pub mod Counting
 pub mod Growing
 pub mod Minuting
 pub mod Notes
-pub mod Noting
 pub mod PlainSession
 pub mod Replying
 pub mod Session

@@ -5,21 +5,17 @@ ghost use Rattle.lv_live.specs.State.{SameLive};
 ghost use Rattle.lv_standing.specs.Queries.{watch_answer};
 ghost use Rattle.lv_hub.specs.Notes.{AreNotesOf};
 
-use crate::answering::answer_each;
-use crate::noting::note_all;
 use crate::told::Told;
-use lv_bodies::{Shown, Six};
+use lv_bodies::Six;
 use lv_live::Live;
-use lv_standing::{Note, Query};
+use lv_standing::{Note, Query, QuerySet};
 use std::marker::Model;
 
 /// A subscriber that has ended: its questions, and what each was told last.
 #[derive(Drop)]
 pub struct Ended {
-    questions: Vec<Query>,
-    told: Vec<Shown>,
-    // Room for answers and notes.
-    values: Vec<Shown>,
+    queries: QuerySet<Query>,
+    // Room for notes.
     notes: Vec<Note>,
 }
 
@@ -29,30 +25,18 @@ impl Model for Ended {
 
     ghost Value = { EndedState };
 
-    ghost view = { λ e. record { questions = e.questions.items; told = e.told.items } };
+    ghost view = { λ e. record { questions = e.queries.queries; told = e.queries.told } };
 
-    ghost invariant = { λ e. (length e.told.items ≡ length e.questions.items) × (length e.questions.items ≤ vec_capacity e.values) × (length e.questions.items ≤ vec_capacity e.notes) };
+    ghost invariant = { λ e. length e.queries.queries ≤ vec_capacity e.notes };
 }
 
 impl Ended {
-    // What a subscriber leaves, with room for as many values and notes as it has questions.
-    pub(crate) fn new(
-        questions: Vec<Query>,
-        told: Vec<Shown>,
-        values: Vec<Shown>,
-        notes: Vec<Note>,
-    ) -> Ended
-        requires told { length told.items ≡ length questions.items }
-        requires values { length questions.items ≤ vec_capacity values }
-        requires notes { length questions.items ≤ vec_capacity notes }
-        ensures { result ≡ record { questions = questions.items; told = told.items } }
+    // What a subscriber leaves, with room for as many notes as it has questions.
+    pub(crate) fn new(queries: QuerySet<Query>, notes: Vec<Note>) -> Ended
+        requires { length queries.queries ≤ vec_capacity notes }
+        ensures { result ≡ record { questions = queries.queries; told = queries.told } }
     {
-        Ended {
-            questions,
-            told,
-            values,
-            notes,
-        }
+        Ended { queries, notes }
     }
 
     /// The last that there is to tell, by the vector of the hub that was closed: at its last edit each question is answered what it was
@@ -64,13 +48,12 @@ impl Ended {
         ensures same { SameLive live.old live.new }
     {
         let Ended {
-            questions,
-            told,
-            mut values,
+            mut queries,
             mut notes,
         } = self;
-        answer_each(live, &questions, &mut values);
-        note_all(&questions, &told, &values, &mut notes);
+        queries.ask(live);
+        notes.clear();
+        queries.put_due(&mut notes);
         Told {
             edit: live.edit(),
             notes,

@@ -23,7 +23,6 @@ mod laws;
 mod locked_state;
 mod minutes;
 mod naming;
-mod noting;
 mod recorded;
 mod replying;
 mod sessions;

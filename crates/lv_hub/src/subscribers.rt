@@ -7,15 +7,13 @@ ghost use Rattle.lv_hub.specs.Notes.{IsToldIf, question_refusal};
 use crate::ended::Ended;
 use crate::hubs::Hub;
 use crate::naming::WithBody;
-use crate::noting::{make_room, note_all};
 use crate::shares::Share;
 use crate::told::Told;
-use lv_bodies::{Shown, Six};
+use lv_bodies::Six;
 use lv_geometry::Refusal;
-use lv_standing::{Note, Query};
+use lv_standing::{Note, Query, QuerySet, Question};
 use std::alloc::Global;
 use std::marker::Model;
-use std::mem;
 use std::sync::Wait;
 use std::thread::Parker;
 use std::time::Duration;
@@ -33,10 +31,8 @@ const PAUSE_MICROSECONDS: u64 = 1000;
 #[derive(Drop)]
 pub struct Subscriber<N: WithBody<Six>> {
     share: Share<N>,
-    questions: Vec<Query>,
-    told: Vec<Shown>,
-    // Room for answers, and for the last notes.
-    values: Vec<Shown>,
+    queries: QuerySet<Query>,
+    // Room for the last notes.
     notes: Vec<Note>,
     pause: Duration,
 }
@@ -47,9 +43,9 @@ impl<N: WithBody<Six>> Model for Subscriber<N> {
 
     ghost Value = { SubscriberState };
 
-    ghost view = { λ s. record { share = s.share; questions = s.questions.items; told = s.told.items } };
+    ghost view = { λ s. record { share = s.share; questions = s.queries.queries; told = s.queries.told } };
 
-    ghost invariant = { λ s. (length s.told.items ≡ length s.questions.items) × (length s.questions.items ≤ vec_capacity s.told) × (length s.questions.items ≤ vec_capacity s.values) × (length s.questions.items ≤ vec_capacity s.notes) };
+    ghost invariant = { λ s. (s.queries.most ≡ 64) × (length s.queries.queries ≤ vec_capacity s.notes) };
 }
 
 impl<N: WithBody<Six>> Subscriber<N> {
@@ -59,9 +55,7 @@ impl<N: WithBody<Six>> Subscriber<N> {
     {
         Subscriber {
             share,
-            questions: Vec::new(alloc),
-            told: Vec::new(alloc),
-            values: Vec::new(alloc),
+            queries: QuerySet::new(alloc, MOST_QUERIES),
             notes: Vec::new(alloc),
             pause: Duration::from_micros(PAUSE_MICROSECONDS),
         }
@@ -84,34 +78,20 @@ impl<N: WithBody<Six>> Subscriber<N> {
         ensures unchanged { OnErr result (self.new ≡ self.old) }
         ensures share { self.new.share ≡ self.old.share }
     {
-        match question.refusal_among(&self.questions, MOST_QUERIES) {
-            Some(refusal) => Err(refusal),
-            None => self.add(question),
+        match self.notes.reserve(self.queries.queries().len() + 1) {
+            Ok(()) => self.queries.watch(question, question.untold()),
+            Err(_) => Err(self.refusal_without_room(question)),
         }
     }
 
-    // Registers a question that may stand behind those that there are. Refused with `NoMemory`.
-    fn add(&mut self, question: &Query) -> Result<(), Refusal>
-        requires { question_refusal self.old.questions question.now ≡ None }
-        ensures ok { OnOk result ((question_refusal self.old.questions question.now ≡ None)
-            × (self.new.questions ≡ self.old.questions ++ question.now ∷ [])
-            × (self.new.told ≡ self.old.told ++ watch_answer [] question.now ∷ [])) }
-        ensures err { IfErr result (λ refusal. IsRefusal (question_refusal self.old.questions question.now) refusal) }
-        ensures unchanged { OnErr result (self.new ≡ self.old) }
-        ensures share { self.new.share ≡ self.old.share }
+    // Why a question is refused where there is no room for its note.
+    fn refusal_without_room(&self, question: &Query) -> Refusal
+        ensures { IsRefusal (question_refusal self.now.questions question.now) result }
     {
-        let room = make_room(
-            &mut self.questions,
-            &mut self.told,
-            &mut self.values,
-            &mut self.notes,
-        );
-        let Ok(()) = room else {
-            return Err(Refusal::NoMemory);
-        };
-        self.questions.push_reserved(*question);
-        self.told.push_reserved(question.untold());
-        Ok(())
+        match question.refusal_among(self.queries.queries(), MOST_QUERIES) {
+            Some(refusal) => refusal,
+            None => Refusal::NoMemory,
+        }
     }
 
     /// What there is to tell since the last look, or none where no edit was made. Refused with `NoMemory`. In both cases nothing has
@@ -126,16 +106,16 @@ impl<N: WithBody<Six>> Subscriber<N> {
         ensures err { IfErr result (λ refusal. refusal ≡ Refusal.NoMemory) }
         ensures unchanged { OnErr result (self.new ≡ self.old) }
     {
-        let Ok(mut notes) = Vec::with_capacity(alloc, self.questions.len()) else {
+        let Ok(mut notes) = Vec::with_capacity(alloc, self.queries.queries().len()) else {
             return Err(Refusal::NoMemory);
         };
         let seen = self.share.seen();
-        let edit = hub.answer_all(rt, &mut self.share, &self.questions, &mut self.values);
+        let edit = hub.answer_all(rt, &mut self.share, &mut self.queries);
         if u64::from(edit) == seen {
             return Ok(None);
         }
-        note_all(&self.questions, &self.told, &self.values, &mut notes);
-        mem::swap(&mut self.told, &mut self.values);
+        self.queries.put_due(&mut notes);
+        self.queries.mark_told();
         Ok(Some(Told { edit, notes }))
     }
 
@@ -165,12 +145,10 @@ impl<N: WithBody<Six>> Subscriber<N> {
     {
         let Subscriber {
             share,
-            questions,
-            told,
-            values,
+            queries,
             notes,
             pause: _,
         } = self;
-        (share, Ended::new(questions, told, values, notes))
+        (share, Ended::new(queries, notes))
     }
 }

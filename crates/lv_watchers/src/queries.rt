@@ -6,6 +6,7 @@ ghost use Rattle.lv_watchers.specs.Asking.{AskStep, Asked, Asks, Finds, ReadsQue
 use lv_geometry::Refusal;
 use lv_hub::{MOST_QUERIES, Query};
 use lv_lines::{Command, Fault, Line, LineHandler, ReplyBuffer, read_line, serve_lines};
+use lv_standing::Question;
 use std::alloc::Global;
 use std::io;
 use std::io::{Read, Write};

@@ -1,6 +1,7 @@
 -- Proof of `DeskWithHistory::answer_all`.
 use Rattle.std.proofs.Common.{◌∙◌, ap, map, sym}
 use Rattle.lv_standing.specs.Queries.{watch_answer}
+use Rattle.lv_standing.specs.QuerySets.{with_answers}
 use Rattle.lv_hub.proofs.ToldLaws.{within_said}
 use Rattle.lv_hub.proofs.answering.DeskWithHistory+Six+N.answer_all.Goals as goal
 
@@ -8,6 +9,7 @@ pub returns-clause-within : goal.returns-clause-within
 returns-clause-within g c =
     within_said g.N.Naming.limits c.self.inside.desk.history c.see.new.self.seen c.answer_all.ensures.vector (ap (λ h. h.seen) c.see.ensures.seen ∙ c.self.invariant.0)
 
-pub returns-clause-values : goal.returns-clause-values
-returns-clause-values g c =
-    c.answer_all.ensures.values ∙ ap (λ edits. map (watch_answer edits) c.args.questions.now) (sym (ap (λ h. h.seen) c.see.ensures.seen ∙ c.self.invariant.0))
+pub returns-clause-answers : goal.returns-clause-answers
+returns-clause-answers g c =
+    let set = c.args.set.now in
+    c.answer_all.ensures.answers ∙ ap (λ edits. with_answers set (map (watch_answer edits) set.queries)) (sym (ap (λ h. h.seen) c.see.ensures.seen ∙ c.self.invariant.0))
