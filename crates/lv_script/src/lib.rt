@@ -47,3 +47,4 @@ pub use scans::Asked;
 pub use schedule_replies::{put_said, said_shown};
 pub use schedules::run_schedule;
 pub use scripts::{run_script, run_script_within};
+pub use watch_replies::{ROOM, put_notes};

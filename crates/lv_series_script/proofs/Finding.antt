@@ -1,45 +1,159 @@
--- Queries by name.
-use Rattle.std.proofs.Common.{◌≡◌, ℕ, ◌+◌, ◌<◌, ◌≤◌, Bool, true, false, Some, None, List, [], ◌∷◌, drop, filter, length, not, get_or, refl, ap, ◌∙◌, inl, inr, arith}
+-- Queries by name: at most one has it.
+use Rattle.std.proofs.Common.{◌≡◌, ◌≢◌, ℕ, zero, suc, ◌<◌, ◌≤◌, Bool, true, false, cond, ◌||◌, Option, Some, None, List, [], ◌∷◌, ◌++◌, filter, length, map, not, position, remove, get_or, take, drop, refl, sym, ap, ◌∙◌, inl, inr, arith, true≢false}
+use Rattle.std.specs.Prelude.{nat_lt}
+use Rattle.std.specs.List.{list_any, position_or_len}
 use Rattle.std.specs.Str.{bytes_eq}
-use Rattle.std.proofs.lemmas.Bool.{cases_Bool, cond-false, cond-true}
-use Rattle.std.proofs.lemmas.List.{drop_all, drop_more}
-use Rattle.lv_series_script.specs.declared.watched.Watched.{Watched}
-use Rattle.lv_series_script.specs.Inside.{queries_of, query_at}
-use Rattle.lv_series_script.specs.LongQueries.{long_query_of, without_long}
+use Rattle.std.proofs.lemmas.Bool.{cases_Bool, cases_lt, cond-false, cond-true, le-ltb, lt-ltb}
+use Rattle.std.proofs.lemmas.List.{drop-map, get_or-map, map-append, take-map}
+use Rattle.std.proofs.lemmas.List.Quantifiers.{all_pairs_push, position-Some}
+use Rattle.std.proofs.lemmas.List.Sums.{fails_before_first}
+use Rattle.std.proofs.lemmas.Option.{none-some}
+use Rattle.std.proofs.lemmas.Slice.Eq.{bytes_eq-Decides}
+use Rattle.lv_geometry.specs.declared.refusals.Refusal.TheVariants.{BadRange, NameTaken, TooMany}
+use Rattle.lv_series_script.specs.declared.long_queries.LongQuery.{LongQuery}
+use Rattle.lv_series_script.specs.declared.long_commands.Span.{Span}
+use Rattle.lv_series_script.specs.declared.long_commands.Span.TheVariants.{Between, Last}
+use Rattle.lv_series_script.specs.Inside.{HaveOwnNames}
+use Rattle.lv_series_script.specs.LongQueries.{long_query_of, long_query_refusal, name_refusal, without_long}
 
-module _ (ws : List Watched) (name : List ℕ) where
-  -- what is found among the entries from one on, where that one has another name
-  pub found_later : (i : ℕ) (d : Watched) → i < length ws → bytes_eq (get_or ws i d).name name ≡ false
-      → long_query_of (queries_of (drop i ws)) name ≡ long_query_of (queries_of (drop (i + 1) ws)) name
-  found_later i d within other =
-      ap (λ rest. long_query_of (queries_of rest) name) (drop_more ws i d within)
-      ∙ cond-false (bytes_eq (get_or ws i d).name name) (Some (query_at (get_or ws i d))) (long_query_of (queries_of (drop (i + 1) ws)) name) other
+-- ---- one element of a list
 
-  -- and where it has the name
-  pub found_here : (i : ℕ) (d : Watched) → i < length ws → bytes_eq (get_or ws i d).name name ≡ true
-      → long_query_of (queries_of (drop i ws)) name ≡ Some (query_at (get_or ws i d))
-  found_here i d within same =
-      ap (λ rest. long_query_of (queries_of rest) name) (drop_more ws i d within)
-      ∙ cond-true (bytes_eq (get_or ws i d).name name) (Some (query_at (get_or ws i d))) (long_query_of (queries_of (drop (i + 1) ws)) name) same
+module _ {X : Type 0} (p : X → Bool) where
+  -- what never passes is all kept
+  all_stay : (xs : List X) → ((k : ℕ) (d : X) → k < length xs → p (get_or xs k d) ≡ false) → filter (λ x. not (p x)) xs ≡ xs
+  all_stay [] none = refl
+  all_stay (x ∷ xs) none =
+      let here : p x ≡ false = none 0 x (omega arith) in
+      rw here (ap (λ ys. x ∷ ys) (all_stay xs (λ k d within. none (suc k) d (omega arith))))
 
-  -- among none there is nothing
-  pub found_none : (i : ℕ) → length ws ≤ i → long_query_of (queries_of (drop i ws)) name ≡ None
-  found_none i past = ap (λ rest. long_query_of (queries_of rest) name) (drop_all i ws past)
+  -- where one place alone passes, that one is removed
+  one_goes : (xs : List X) (i : ℕ) → i < length xs → ((d : X) → p (get_or xs i d) ≡ true) → ((k : ℕ) (d : X) → k < length xs → k ≢ i → p (get_or xs k d) ≡ false)
+      → filter (λ x. not (p x)) xs ≡ remove xs i
+  one_goes [] i within here others = absurd (omega arith)
+  one_goes (x ∷ xs) zero within here others =
+      let goes : p x ≡ true = here x in
+      rw goes (all_stay xs (λ k d below. others (suc k) d (omega arith) (λ same. absurd (omega (arith, same)))))
+  one_goes (x ∷ xs) (suc i) within here others =
+      let stays : p x ≡ false = others 0 x (omega arith) (λ same. absurd (omega (arith, same))) in
+      rw stays (ap (λ ys. x ∷ ys) (one_goes xs i (omega arith) here (λ k d below other. others (suc k) d (omega arith) (λ same. other (omega (arith, same))))))
 
--- the queries of the entries that have another name
-pub queries_without : (name : List ℕ) (ws : List Watched) → queries_of (filter (λ w. not (bytes_eq w.name name)) ws) ≡ without_long (queries_of ws) name
-queries_without name [] = refl
-queries_without name (w ∷ ws) =
-    elim (cases_Bool (not (bytes_eq w.name name))) [
-      | inl stays ↦ rw stays (ap (λ qs. query_at w ∷ qs) (queries_without name ws))
-      | inr goes ↦ rw goes (queries_without name ws)
+  -- where there is no place nothing passes
+  none_passes : (xs : List X) → position p xs ≡ None → (k : ℕ) (d : X) → k < length xs → p (get_or xs k d) ≡ false
+  none_passes xs none k d within =
+      elim (cases_lt (position_or_len p xs) (length xs)) [
+        | inl some ↦ absurd (none-some (position_or_len p xs) (sym none ∙ cond-true _ _ _ (lt-ltb (position_or_len p xs) (length xs) some)))
+        | inr past ↦ fails_before_first p xs k d (omega (arith, within, past))
+      ]
+
+-- what is removed of a list that a function gives
+pub map_remove : {X Y : Type 0} (f : X → Y) (xs : List X) (i : ℕ) → remove (map f xs) i ≡ map f (remove xs i)
+map_remove f xs i = ap (λ ys. ys ++ drop (suc i) (map f xs)) (take-map f i xs) ∙ ap (λ ys. map f (take i xs) ++ ys) (drop-map f (suc i) xs) ∙ sym (map-append f (take i xs) (drop (suc i) xs))
+
+-- ---- names
+
+module _ (name : List ℕ) where
+  -- whether a query has the name
+  abbrev has : LongQuery → Bool
+  has q = bytes_eq q.name name
+
+  -- where none has it, none is found, and the other way round
+  absent : (qs : List LongQuery) → long_query_of qs name ≡ None → (k : ℕ) (d : LongQuery) → k < length qs → has (get_or qs k d) ≡ false
+  absent [] none k d within = absurd (omega arith)
+  absent (q ∷ qs) none zero d within =
+      elim (cases_Bool (has q)) [
+        | inl same ↦ absurd (none-some q (sym none ∙ cond-true _ _ _ same))
+        | inr other ↦ other
+      ]
+  absent (q ∷ qs) none (suc k) d within =
+      elim (cases_Bool (has q)) [
+        | inl same ↦ absurd (none-some q (sym none ∙ cond-true _ _ _ same))
+        | inr other ↦ absent qs (sym (cond-false _ _ _ other) ∙ none) k d (omega arith)
+      ]
+
+  not_found : (qs : List LongQuery) → ((k : ℕ) (d : LongQuery) → k < length qs → has (get_or qs k d) ≡ false) → long_query_of qs name ≡ None
+  not_found [] others = refl
+  not_found (q ∷ qs) others = cond-false _ _ _ (others 0 q (omega arith)) ∙ not_found qs (λ k d within. others (suc k) d (omega arith))
+
+  -- the first that has it is found
+  found : (qs : List LongQuery) (i : ℕ) (d : LongQuery) → i < length qs → has (get_or qs i d) ≡ true → ((k : ℕ) → k < i → has (get_or qs k d) ≡ false)
+      → long_query_of qs name ≡ Some (get_or qs i d)
+  found [] i d within here before = absurd (omega arith)
+  found (q ∷ qs) zero d within here before = cond-true _ _ _ here
+  found (q ∷ qs) (suc i) d within here before = cond-false _ _ _ (before 0 (omega arith)) ∙ found qs i d (omega arith) here (λ k below. before (suc k) (omega arith))
+
+  -- a place is one of a query
+  pub place_within : (qs : List LongQuery) (i : ℕ) → position has qs ≡ Some i → i < length qs
+  place_within [] i at = absurd (none-some i at)
+  place_within (q ∷ qs) i at = (position-Some has (q ∷ qs) i q at).0
+
+  -- the query at the place of the name is the one that is found, and what a function gives is there too
+  pub placed : {Y : Type 0} (f : LongQuery → Y) (qs : List LongQuery) (i : ℕ) (e : Y) → position has qs ≡ Some i → (q : LongQuery) × (long_query_of qs name ≡ Some q) × (get_or (map f qs) i e ≡ f q)
+  placed f [] i e at = absurd (none-some i at)
+  placed f (q ∷ qs) i e at =
+      let first = position-Some has (q ∷ qs) i q at in
+      (get_or (q ∷ qs) i q, found (q ∷ qs) i q first.0 first.1 first.2, get_or-map f (q ∷ qs) i q e first.0)
+
+  pub not_placed : (qs : List LongQuery) → position has qs ≡ None → long_query_of qs name ≡ None
+  not_placed qs none = not_found qs (none_passes has qs none)
+
+  -- the others have other names
+  others : (qs : List LongQuery) (i : ℕ) → HaveOwnNames qs → position has qs ≡ Some i → (k : ℕ) (d : LongQuery) → k < length qs → k ≢ i → has (get_or qs k d) ≡ false
+  others qs i apart at k d below other =
+      let first = position-Some has qs i d at in
+      let its : (get_or qs i d).name ≡ name = (bytes_eq-Decides (get_or qs i d).name name).0 first.1 in
+      elim (cases_Bool (has (get_or qs k d))) [
+        | inl same ↦
+            let too : (get_or qs k d).name ≡ name = (bytes_eq-Decides (get_or qs k d).name name).0 same in
+            elim (cases_lt k i) [
+              | inl before ↦ absurd (apart k i d before first.0 (too ∙ sym its))
+              | inr past ↦ elim (cases_lt i k) [
+                | inl behind ↦ absurd (apart i k d behind below (its ∙ sym too))
+                | inr reached ↦ absurd (other (omega (arith, past, reached)))
+              ]
+            ]
+        | inr differs ↦ differs
+      ]
+
+  -- without the query at that place none of the name is left
+  pub without_placed : (qs : List LongQuery) (i : ℕ) → HaveOwnNames qs → position has qs ≡ Some i → remove qs i ≡ without_long qs name
+  without_placed qs i apart at = sym (one_goes has qs i (place_within qs i at) (λ d. (position-Some has qs i d at).1) (others qs i apart at))
+
+-- a query of a new name stands apart from the others
+pub apart_more : (qs : List LongQuery) (q : LongQuery) → HaveOwnNames qs → long_query_of qs q.name ≡ None → HaveOwnNames (qs ++ q ∷ [])
+apart_more qs q apart none =
+    all_pairs_push (λ a b. a.name ≢ b.name) qs q apart
+    (λ k d within same. true≢false (sym ((bytes_eq-Decides (get_or qs k d).name q.name).1 same) ∙ absent q.name qs none k d within))
+
+-- ---- refusals
+
+-- where a query isn't refused its name is new
+free_name : (most : ℕ) (all : List LongQuery) (o : Option LongQuery) → name_refusal most all o ≡ None → o ≡ None
+free_name most all None free = refl
+free_name most all (Some q) free = absurd (none-some NameTaken (sym free))
+
+pub new_name : (most : ℕ) (qs : List LongQuery) (name : List ℕ) (span : Span) → long_query_refusal most qs name span ≡ None → long_query_of qs name ≡ None
+new_name most qs name (Last n) free = free_name most qs (long_query_of qs name) free
+new_name most qs name (Between lo hi) free =
+    elim (cases_Bool (nat_lt hi lo)) [
+      | inl backwards ↦ absurd (none-some BadRange (sym free ∙ cond-true _ _ _ backwards))
+      | inr order ↦ free_name most qs (long_query_of qs name) (sym (cond-false _ _ _ order) ∙ free)
     ]
 
--- no more entries stay than there are
-pub few_stay : {X : Type 0} (p : X → Bool) (xs : List X) → length (filter p xs) ≤ length xs
-few_stay p [] = omega arith
-few_stay p (x ∷ xs) =
-    elim (cases_Bool (p x)) [
-      | inl stays ↦ rw stays (omega (arith, few_stay p xs))
-      | inr goes ↦ rw goes (omega (arith, few_stay p xs))
+-- a query is refused for its name where one of them has it, else where they are as many as may be
+refused_by_name : (most : ℕ) (all qs : List LongQuery) (name : List ℕ) → name_refusal most all (long_query_of qs name) ≡ cond (list_any (λ q. bytes_eq q.name name) qs) (Some NameTaken) (cond (nat_lt (length all) most) None (Some TooMany))
+refused_by_name most all [] name = refl
+refused_by_name most all (q ∷ qs) name =
+    elim (bytes_eq q.name name) as (λ same. name_refusal most all (cond same (Some q) (long_query_of qs name)) ≡ cond (same || list_any (λ q. bytes_eq q.name name) qs) (Some NameTaken) (cond (nat_lt (length all) most) None (Some TooMany))) [
+      | true ↦ refl
+      | false ↦ refused_by_name most all qs name
     ]
+
+module _ (most : ℕ) (qs : List LongQuery) (name : List ℕ) where
+  pub name_taken : list_any (λ q. bytes_eq q.name name) qs ≡ true → name_refusal most qs (long_query_of qs name) ≡ Some NameTaken
+  name_taken named = refused_by_name most qs qs name ∙ cond-true _ _ _ named
+
+  pub too_many : list_any (λ q. bytes_eq q.name name) qs ≡ false → most ≤ length qs → name_refusal most qs (long_query_of qs name) ≡ Some TooMany
+  too_many named many = refused_by_name most qs qs name ∙ cond-false _ _ _ named ∙ cond-false _ _ _ (le-ltb (length qs) most many)
+
+  pub not_refused : list_any (λ q. bytes_eq q.name name) qs ≡ false → length qs < most → name_refusal most qs (long_query_of qs name) ≡ None
+  not_refused named few = refused_by_name most qs qs name ∙ cond-false _ _ _ named ∙ cond-true _ _ _ (lt-ltb (length qs) most few)

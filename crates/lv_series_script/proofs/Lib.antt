@@ -7,6 +7,5 @@ mod Notes
 mod Scanning
 mod SearchedLaws
 mod Simulation
-mod Telling
 mod ValueLaws
 mod WholeText

@@ -1,25 +1,39 @@
--- The notes of an edit are those of its queries, one by one.
-use Rattle.std.proofs.Common.{◌≡◌, All, List, [], ◌∷◌, ◌++◌, map, flat_map, refl, ap, ap₂}
-use Rattle.std.proofs.lemmas.List.Elements.{All-cons, All-head, All-nil, All-tail}
+-- The notes that are due are those of the queries, one by one.
+use Rattle.std.proofs.Common.{◌≡◌, ◌≤◌, false, true, List, [], ◌∷◌, ◌++◌, length, map, flat_map, sym, ap, ap₂, ◌∙◌, subst, inl, inr, arith}
+use Rattle.std.proofs.lemmas.Bool.{cond-false, cond-true}
+use Rattle.lv_bodies.specs.declared.kinds.Shown.{Shown}
+use Rattle.lv_lines.specs.Texts.{note_text}
+use Rattle.lv_script.specs.Script.{notes_text}
 use Rattle.lv_series.specs.Series.{Held}
-use Rattle.lv_series_script.specs.declared.watched.Watched.{Watched}
-use Rattle.lv_series_script.specs.Inside.{IsCurrent, brought_up, queries_of, query_at, told_of}
+use Rattle.lv_standing.specs.QuerySets.{AddsDue, AreDue, QuerySetState, with_answers}
+use Rattle.lv_standing.specs.declared.notes.Note.{Note}
+use Rattle.lv_series_script.specs.declared.long_queries.LongQuery.{LongQuery}
+use Rattle.lv_series_script.specs.Inside.{AreNotesDue}
+use Rattle.lv_series_script.specs.LongQueries.{is_due, long_answer}
 use Rattle.lv_series_script.specs.PlainSeriesScript.{note_of}
 
--- what is told of entries that were current is the notes of their queries
-pub told_notes : (old new : Held) (ws : List Watched) → All (IsCurrent old) ws → flat_map (told_of new) ws ≡ flat_map (note_of old new) (queries_of ws)
-told_notes old new [] current = refl
-told_notes old new (w ∷ ws) current =
-    let here : told_of new w ≡ note_of old new (query_at w) =
-    ap (λ value. told_of new record w { value = value }) (All-head (IsCurrent old) w ws current) in
-    ap₂ ◌++◌ here (told_notes old new ws (All-tail (IsCurrent old) w ws current))
+-- those that a set puts behind none, where its queries were answered by what is kept now
+pub notes_due : (h : Held) (set asked : QuerySetState LongQuery) (before after : List Note) → asked ≡ with_answers set (map (long_answer h) set.queries) → before ≡ []
+    → AddsDue (λ q. q.name) (λ q before now. is_due q.bound before now ≡ false) (λ q before now. is_due q.bound before now ≡ true) asked.queries asked.told asked.answers before after
+    → AreNotesDue h set.queries set.told after
+notes_due h set asked before after are none due =
+    subst (AreNotesDue h set.queries set.told) (sym (due.all ∙ ap (λ notes. notes ++ due.added) none))
+    (subst (λ t. AreDue (λ q. q.name) (λ q before now. is_due q.bound before now ≡ false) (λ q before now. is_due q.bound before now ≡ true) t.queries t.told t.answers due.added) are due.are)
 
--- entries that were brought up are current
-pub brought_current : (h : Held) (ws : List Watched) → All (IsCurrent h) (map (brought_up h) ws)
-brought_current h [] = All-nil (IsCurrent h)
-brought_current h (w ∷ ws) = All-cons (IsCurrent h) (brought_up h w) (map (brought_up h) ws) refl (brought_current h ws)
+-- where the queries were told what they answered before
+pub due_text : (old new : Held) (qs : List LongQuery) (notes : List Note) → AreNotesDue new qs (map (long_answer old) qs) notes → notes_text notes ≡ flat_map (note_of old new) qs
+due_text old new [] notes none = ap notes_text none
+due_text old new (q ∷ qs) notes (inl idle) =
+    due_text old new qs notes idle.1 ∙ ap (λ text. text ++ flat_map (note_of old new) qs) (sym (cond-false (is_due q.bound (long_answer old q) (long_answer new q)) (note_text q.name (long_answer new q)) [] idle.0))
+due_text old new (q ∷ qs) notes (inr due) =
+    ap notes_text due.2
+    ∙ ap₂ ◌++◌ (sym (cond-true (is_due q.bound (long_answer old q) (long_answer new q)) (note_text q.name (long_answer new q)) [] due.0)) (due_text old new qs due.1 due.3)
 
--- their queries are the same
-pub brought_queries : (h : Held) (ws : List Watched) → queries_of (map (brought_up h) ws) ≡ queries_of ws
-brought_queries h [] = refl
-brought_queries h (w ∷ ws) = ap (λ qs. query_at w ∷ qs) (brought_queries h ws)
+-- there are no more of them than queries
+few_due : (old new : Held) (qs : List LongQuery) (notes : List Note) → AreNotesDue new qs (map (long_answer old) qs) notes → length notes ≤ length qs
+few_due old new [] notes none = omega (arith, ap length none)
+few_due old new (q ∷ qs) notes (inl idle) = omega (arith, few_due old new qs notes idle.1)
+few_due old new (q ∷ qs) notes (inr due) = omega (arith, ap length due.2, few_due old new qs due.1 due.3)
+
+pub few_told : (old new : Held) (qs : List LongQuery) (told : List Shown) (notes : List Note) → told ≡ map (long_answer old) qs → AreNotesDue new qs told notes → length notes ≤ length qs
+few_told old new qs told notes is due = few_due old new qs notes (subst (λ told. AreNotesDue new qs told notes) is due)

@@ -28,7 +28,8 @@ use Rattle.lv_series_script.specs.declared.long_commands.LongCommand.TheVariants
 use Rattle.lv_lines.specs.declared.lines.Line.{Line}
 use Rattle.lv_lines.specs.declared.lines.Line.TheVariants.{Nothing, Bad, Do}
 use Rattle.lv_series_script.specs.LongGrammar.{long_line_of}
-use Rattle.lv_series_script.specs.LongQueries.{LongQuery, is_due, long_answer, long_query_of}
+use Rattle.lv_series_script.specs.declared.long_queries.LongQuery.{LongQuery}
+use Rattle.lv_series_script.specs.LongQueries.{is_due, long_answer, long_query_of}
 use Rattle.lv_series_script.specs.LongTexts.{index_text, long_element_text, long_receipt_text, run_text}
 use Rattle.lv_series_script.specs.PlainSeriesScript.{Known, Plain, known_by, note_of, plain_after, plain_text, refusal_of, reply_of, reply_to, series_of, start}
 use Rattle.lv_series_script.specs.Searched.{best_run, index_of}

@@ -1,51 +1,55 @@
--- What the code of a series' script passes on: the queries with the values that they were told, and what a line makes of all that is known.
-use Rattle.std.specs.Prelude.{◌≡◌, ◌⊎◌, ℕ, ◌+◌, ◌≤◌, IsTrue, None, List, [], ◌∷◌, ◌++◌, length, map, if◌then◌else◌, All}
+-- What the code of a series' script passes on: the set of queries, and what a line makes of all that is known.
+use Rattle.std.specs.Prelude.{◌≡◌, ◌≢◌, ◌⊎◌, ℕ, ◌+◌, ◌≤◌, true, false, IsTrue, None, List, [], ◌∷◌, ◌++◌, length, map, AllPairs}
 use Rattle.std.specs.Option.{option_map_or}
 use Rattle.lv_bodies.specs.Plain.{program_table}
+use Rattle.lv_bodies.specs.declared.kinds.Shown.{Shown}
 use Rattle.lv_series.specs.Series.{Held, SeriesState, changed}
-use Rattle.lv_lines.specs.Texts.{note_text, refused_by}
+use Rattle.lv_lines.specs.Texts.{refused_by}
 use Rattle.lv_series_script.specs.declared.long_commands.LongCommand.{LongCommand}
 use Rattle.lv_series_script.specs.declared.long_commands.LongCommand.TheVariants.{Edit, Watch, Unwatch}
 use Rattle.lv_lines.specs.declared.lines.Line.{Line}
 use Rattle.lv_lines.specs.declared.lines.Line.TheVariants.{Nothing, Bad, Do}
-use Rattle.lv_series_script.specs.declared.watched.Watched.{Watched}
+use Rattle.lv_series_script.specs.declared.long_queries.LongQuery.{LongQuery}
 use Rattle.lv_series_script.specs.LongGrammar.{long_line_of}
-use Rattle.lv_series_script.specs.LongQueries.{LongQuery, is_due, long_answer, without_long}
+use Rattle.lv_series_script.specs.LongQueries.{is_due, long_answer, without_long}
+use Rattle.lv_standing.specs.QuerySets.{AreDue, QuerySetState}
+use Rattle.lv_standing.specs.declared.notes.Note.{Note}
 use Rattle.lv_series_script.specs.PlainSeriesScript.{Known, refusal_of, reply_of, reply_to}
 use Rattle.lv_series_script.specs.SeriesRuns.{may_want}
 
 -- ---- queries
 
--- the query of an entry, and those of all
-abbrev pub query_at : Watched → LongQuery
-query_at w = record { name = w.name; kind = w.kind; span = w.span; bound = w.bound }
+-- no two queries have one name
+abbrev pub HaveOwnNames : List LongQuery → Type 0
+HaveOwnNames queries = AllPairs (λ a b. a.name ≢ b.name) queries
 
-abbrev pub queries_of : List Watched → List LongQuery
-queries_of entries = map query_at entries
+-- the notes that are due where queries that were told these answers answer by what is kept now
+abbrev pub AreNotesDue : Held → List LongQuery → List Shown → List Note → Type 0
+AreNotesDue h queries told notes = AreDue (λ q. q.name) (λ q before now. is_due q.bound before now ≡ false) (λ q before now. is_due q.bound before now ≡ true) queries told (map (long_answer h) queries) notes
 
--- an entry has the value that its query answers
-abbrev pub IsCurrent : Held → Watched → Type 0
-IsCurrent h w = w.value ≡ long_answer h (query_at w)
+-- the set whose queries count as told what they answer now
+abbrev pub brought_up : Held → QuerySetState LongQuery → QuerySetState LongQuery
+brought_up h set = record { queries = set.queries; told = map (long_answer h) set.queries; answers = []; most = set.most }
 
--- the entry with what its query answers now
-abbrev pub brought_up : Held → Watched → Watched
-brought_up h w = record w { value = long_answer h (query_at w) }
-
--- what is told of an entry: what its query answers now, where that is due
-abbrev pub told_of : Held → Watched → List ℕ
-told_of h w = if is_due w.bound w.value (long_answer h (query_at w)) then note_text w.name (long_answer h (query_at w)) else []
-
--- the series has the program's automaton, each entry has the value that its query answers, and there are at most 64
-pub record IsReady (s : SeriesState) (entries : List Watched) : Type 0 where
+-- the series has the program's automaton, each query counts as told what it answers, there are at most 64, each by its own name, and there
+-- is room for so many notes
+pub record IsReady (s : SeriesState) (set : QuerySetState LongQuery) (capacity : ℕ) : Type 0 where
   pub table : s.table ≡ program_table
-  pub current : All (IsCurrent s.held) entries
-  pub few : length entries ≤ 64
+  pub told : set.told ≡ map (long_answer s.held) set.queries
+  pub apart : HaveOwnNames set.queries
+  pub most : set.most ≡ 64
+  pub few : length set.queries ≤ 64
+  pub room : length set.queries ≤ capacity
+
+-- the command that registers a query
+abbrev pub watch_of : LongQuery → LongCommand
+watch_of q = Watch q.name q.kind q.span q.bound
 
 -- ---- what is known
 
--- by a series and its entries
-abbrev pub known_of : SeriesState → List Watched → Known
-known_of s entries = record { held = s.held; edit = s.edits; queries = queries_of entries }
+-- by a series and its queries
+abbrev pub known_of : SeriesState → List LongQuery → Known
+known_of s queries = record { held = s.held; edit = s.edits; queries = queries }
 
 -- what is known after a command that nothing refuses
 abbrev pub then_known : Known → LongCommand → Known

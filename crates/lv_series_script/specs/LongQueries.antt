@@ -6,7 +6,6 @@ use Rattle.std.specs.Option.{option_map_or}
 use Rattle.std.specs.Str.{bytes_eq}
 use Rattle.lv_geometry.specs.declared.refusals.Refusal.{Refusal}
 use Rattle.lv_geometry.specs.declared.refusals.Refusal.TheVariants.{BadRange, NameTaken, NoSuchName, TooMany}
-use Rattle.lv_bodies.specs.declared.kinds.Kind.{Kind}
 use Rattle.lv_bodies.specs.declared.kinds.Shown.{Shown}
 use Rattle.lv_bodies.specs.declared.kinds.Shown.TheVariants.{Sum, Least, Greatest, Best, Affine, Automaton}
 use Rattle.lv_bodies.specs.Plain.{plain_value}
@@ -15,14 +14,8 @@ use Rattle.lv_script.specs.PlainScript.{same_value}
 use Rattle.lv_series.specs.Series.{Held, slice_of}
 use Rattle.lv_series_script.specs.declared.long_commands.Span.{Span}
 use Rattle.lv_series_script.specs.declared.long_commands.Span.TheVariants.{Between, Last}
+use Rattle.lv_series_script.specs.declared.long_queries.LongQuery.{LongQuery}
 use Rattle.lv_series_script.specs.Searched.{is_within}
-
--- a standing query: its name, the kind and span that it asks for, and the bound by which it is told of, if it has one
-pub record LongQuery : Type 0 where
-  pub name : List ℕ
-  pub kind : Kind
-  pub span : Span
-  pub bound : Option Bound
 
 -- the elements of a span, as many of them as are kept: those under the indices of a range, or the last so many
 abbrev pub span_of : Held → Span → List ℤ
@@ -69,12 +62,17 @@ abbrev pub unknown : Option LongQuery → Option Refusal
 unknown None = Some NoSuchName
 unknown (Some q) = None
 
--- a name is taken where a query has it, else there may be 64 queries already
-abbrev pub name_refusal : List LongQuery → Option LongQuery → Option Refusal
-name_refusal queries (Some q) = Some NameTaken
-name_refusal queries None = if nat_lt (length queries) 64 then None else Some TooMany
+-- a name is taken where a query has it, else there may be as many queries as are allowed already
+abbrev pub name_refusal : ℕ → List LongQuery → Option LongQuery → Option Refusal
+name_refusal most queries (Some q) = Some NameTaken
+name_refusal most queries None = if nat_lt (length queries) most then None else Some TooMany
 
--- why a query is refused, want of memory apart: its range is backwards, or its name is taken, or there are 64 queries
+-- why a query is refused among others, of which so many are allowed, want of memory apart: its range is backwards, or its name is taken,
+-- or there are as many as are allowed
+abbrev pub long_query_refusal : ℕ → List LongQuery → List ℕ → Span → Option Refusal
+long_query_refusal most queries name (Between lo hi) = if nat_lt hi lo then Some BadRange else name_refusal most queries (long_query_of queries name)
+long_query_refusal most queries name (Last n) = name_refusal most queries (long_query_of queries name)
+
+-- the same in a script, which has at most 64
 abbrev pub long_watch_refusal : List LongQuery → List ℕ → Span → Option Refusal
-long_watch_refusal queries name (Between lo hi) = if nat_lt hi lo then Some BadRange else name_refusal queries (long_query_of queries name)
-long_watch_refusal queries name (Last n) = name_refusal queries (long_query_of queries name)
+long_watch_refusal queries name span = long_query_refusal 64 queries name span

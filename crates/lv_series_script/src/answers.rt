@@ -1,52 +1,52 @@
 //! What each command of a series' script is answered.
-ghost use Rattle.std.specs.Prelude.{◌≡◌, List, ℕ, ◌++◌, IfErr, OnOk};
+ghost use Rattle.std.specs.Prelude.{◌≡◌, List, ℕ, ◌++◌, IfErr, OnOk, map, vec_capacity};
 ghost use Rattle.lv_bodies.specs.Plain.{program_table};
 ghost use Rattle.lv_lines.specs.Output.{HasRoom, KeepsRoom, Puts, PutsFront, SamePlaces};
 ghost use Rattle.lv_lines.specs.Texts.{size_text};
 ghost use Rattle.lv_series.specs.Series.{SeriesState, element_at, size_of};
-ghost use Rattle.lv_series_script.specs.declared.watched.Watched.{Watched as Entry};
-ghost use Rattle.lv_series_script.specs.Inside.{IsReady, Told, known_of};
+ghost use Rattle.lv_standing.specs.QuerySets.{QuerySetState};
+ghost use Rattle.lv_series_script.specs.declared.long_queries.LongQuery.{LongQuery as Query};
+ghost use Rattle.lv_series_script.specs.Inside.{HaveOwnNames, IsReady, Told, known_of, watch_of};
+ghost use Rattle.lv_series_script.specs.LongQueries.{long_answer};
 ghost use Rattle.lv_series_script.specs.LongTexts.{first_text, long_element_text};
 
-use crate::long_commands::{LongCommand, Search, Span};
-use crate::queries::{find, forget, register, tell};
+use crate::long_commands::{LongCommand, Search};
+use crate::long_queries::LongQuery;
+use crate::queries::{register, tell};
 use crate::scans::put_scan;
 use crate::searches::{index_of, run_of};
 use crate::texts::{put_first, put_index, put_receipt, put_run, put_value};
 use crate::values::show_value;
-use crate::watched::Watched;
 use lv_bodies::{Kind, Name};
 use lv_geometry::Refusal;
 use lv_lines::{
-    Fault, LINE, ReplyBuffer, put_answer, put_named, put_refused, put_size, put_unwatched,
-    put_watching,
+    Fault, ReplyBuffer, put_answer, put_named, put_refused, put_size, put_unwatched, put_watching,
 };
+use lv_script::{ROOM, put_notes};
 use lv_series::{LongEdit, Series};
-use lv_tree::Bound;
+use lv_standing::{Note, QuerySet};
 use std::io::Write;
-
-/// At most how many bytes a reply has, scans apart: a line, and a note for each of 64 queries.
-pub const ROOM: usize = 65 * LINE;
 
 /// Answers a command. Only the reply to a scan may be longer than what is held.
 pub fn answer<W: Write>(
     series: &mut Series,
-    entries: &mut Vec<Watched>,
+    queries: &mut QuerySet<LongQuery>,
+    notes: &mut Vec<Note>,
     command: LongCommand,
     buffer: &mut ReplyBuffer<'_, W>,
 ) -> Result<(), Fault>
-    requires ready { IsReady series.old entries.old.items }
+    requires ready { IsReady series.old queries.old (vec_capacity notes.old) }
     requires room { HasRoom buffer.old.held.now ROOM }
     ensures places { SamePlaces buffer.old buffer.new }
-    ensures ok { OnOk result ((reply : List ℕ) × Told (known_of series.old entries.old.items) command reply (known_of series.new entries.new.items)
+    ensures ok { OnOk result ((reply : List ℕ) × Told (known_of series.old queries.old.queries) command reply (known_of series.new queries.new.queries)
         × Puts W.contents buffer.old buffer.new reply) }
     ensures fault { IfErr result (λ fault. (fault ≡ Fault.WriteFault) × (reply : List ℕ)
-        × Told (known_of series.old entries.old.items) command reply (known_of series.new entries.new.items)
+        × Told (known_of series.old queries.old.queries) command reply (known_of series.new queries.new.queries)
         × PutsFront W.contents buffer.old buffer.new reply) }
-    ensures ready { IsReady series.new entries.new.items }
+    ensures ready { IsReady series.new queries.new (vec_capacity notes.new) }
 {
     match command {
-        LongCommand::Edit(edit) => put_edit(series, entries, edit, buffer.held),
+        LongCommand::Edit(edit) => put_edit(series, queries, notes, edit, buffer.held),
         LongCommand::First => put_front(series, buffer.held),
         LongCommand::Size => put_extent(series, buffer.held),
         LongCommand::Get(i) => put_element_at(series, i, buffer.held),
@@ -66,26 +66,41 @@ pub fn answer<W: Write>(
             kind,
             span,
             bound,
-        } => put_watch(series, entries, name, kind, span, bound, buffer.held),
-        LongCommand::Unwatch(name) => put_unwatch(entries, name, buffer.held),
-        LongCommand::Answer(name) => put_named_answer(series, entries, name, buffer.held),
+        } => {
+            let query = LongQuery {
+                name,
+                kind,
+                span,
+                bound,
+            };
+            put_watch(series, queries, notes, &query, buffer.held);
+        }
+        LongCommand::Unwatch(name) => put_unwatch(queries, name, buffer.held),
+        LongCommand::Answer(name) => put_named_answer(series, queries, name, buffer.held),
     }
     Ok(())
 }
 
 // Makes an edit: its receipt and its notes, or its refusal.
-fn put_edit(series: &mut Series, entries: &mut Vec<Watched>, edit: LongEdit, held: &mut Vec<u8>)
-    requires ready { IsReady series.old entries.old.items }
+fn put_edit(
+    series: &mut Series,
+    queries: &mut QuerySet<LongQuery>,
+    notes: &mut Vec<Note>,
+    edit: LongEdit,
+    held: &mut Vec<u8>,
+)
+    requires ready { IsReady series.old queries.old (vec_capacity notes.old) }
     requires room { HasRoom held.old ROOM }
-    ensures answer { (reply : List ℕ) × Told (known_of series.old entries.old.items) (LongCommand.Edit edit) reply (known_of series.new entries.new.items)
+    ensures answer { (reply : List ℕ) × Told (known_of series.old queries.old.queries) (LongCommand.Edit edit) reply (known_of series.new queries.new.queries)
         × (held.new.items ≡ held.old.items ++ reply) }
-    ensures ready { IsReady series.new entries.new.items }
+    ensures ready { IsReady series.new queries.new (vec_capacity notes.new) }
     ensures room { KeepsRoom held.old held.new }
 {
     match series.apply(&edit) {
         Ok(receipt) => {
             put_receipt(held, receipt, series.first());
-            tell(series, entries, held);
+            tell(series, queries, notes);
+            put_notes(held, notes.as_slice());
         }
         Err(refusal) => put_refused(held, refusal.number()),
     }
@@ -122,9 +137,9 @@ fn put_element_at(series: &Series, i: u64, held: &mut Vec<u8>)
 fn put_reduced(series: &mut Series, kind: Kind, lo: u64, hi: u64, held: &mut Vec<u8>)
     requires table { series.old.table ≡ program_table }
     requires room { HasRoom held.old ROOM }
-    ensures answer { (reply : List ℕ) × ((entries : List Entry) → Told (known_of series.old entries) (LongCommand.Reduce kind lo hi) reply (known_of series.new entries))
+    ensures answer { (reply : List ℕ) × ((queries : List Query) → Told (known_of series.old queries) (LongCommand.Reduce kind lo hi) reply (known_of series.new queries))
         × (held.new.items ≡ held.old.items ++ reply) }
-    ensures ready { (entries : List Entry) → IsReady series.old entries → IsReady series.new entries }
+    ensures ready { (set : QuerySetState Query) (room : ℕ) → IsReady series.old set room → IsReady series.new set room }
     ensures room { KeepsRoom held.old held.new }
 {
     match show_value(series, kind, lo, hi) {
@@ -145,10 +160,10 @@ fn answer_scan<W: Write>(
     requires room { HasRoom buffer.old.held.now ROOM }
     ensures places { SamePlaces buffer.old buffer.new }
     ensures ok { OnOk result ((reply : List ℕ)
-        × ((entries : List Entry) → Told (known_of series.now entries) (LongCommand.Scan inclusive kind lo hi) reply (known_of series.now entries))
+        × ((queries : List Query) → Told (known_of series.now queries) (LongCommand.Scan inclusive kind lo hi) reply (known_of series.now queries))
         × Puts W.contents buffer.old buffer.new reply) }
     ensures fault { IfErr result (λ fault. (fault ≡ Fault.WriteFault) × (reply : List ℕ)
-        × ((entries : List Entry) → Told (known_of series.now entries) (LongCommand.Scan inclusive kind lo hi) reply (known_of series.now entries))
+        × ((queries : List Query) → Told (known_of series.now queries) (LongCommand.Scan inclusive kind lo hi) reply (known_of series.now queries))
         × PutsFront W.contents buffer.old buffer.new reply) }
 {
     series.holds();
@@ -164,9 +179,9 @@ fn answer_scan<W: Write>(
 // The index of what is looked for in a range, or why there is no answer.
 fn put_index_of(series: &mut Series, sought: Search, lo: u64, hi: u64, held: &mut Vec<u8>)
     requires room { HasRoom held.old ROOM }
-    ensures answer { (reply : List ℕ) × ((entries : List Entry) → Told (known_of series.old entries) (LongCommand.Find sought lo hi) reply (known_of series.new entries))
+    ensures answer { (reply : List ℕ) × ((queries : List Query) → Told (known_of series.old queries) (LongCommand.Find sought lo hi) reply (known_of series.new queries))
         × (held.new.items ≡ held.old.items ++ reply) }
-    ensures ready { (entries : List Entry) → IsReady series.old entries → IsReady series.new entries }
+    ensures ready { (set : QuerySetState Query) (room : ℕ) → IsReady series.old set room → IsReady series.new set room }
     ensures room { KeepsRoom held.old held.new }
 {
     match index_of(series, sought, lo, hi) {
@@ -178,9 +193,9 @@ fn put_index_of(series: &mut Series, sought: Search, lo: u64, hi: u64, held: &mu
 // Where the run of a range with the greatest sum is, or why there is no answer.
 fn put_run_of(series: &mut Series, lo: u64, hi: u64, held: &mut Vec<u8>)
     requires room { HasRoom held.old ROOM }
-    ensures answer { (reply : List ℕ) × ((entries : List Entry) → Told (known_of series.old entries) (LongCommand.BestRun lo hi) reply (known_of series.new entries))
+    ensures answer { (reply : List ℕ) × ((queries : List Query) → Told (known_of series.old queries) (LongCommand.BestRun lo hi) reply (known_of series.new queries))
         × (held.new.items ≡ held.old.items ++ reply) }
-    ensures ready { (entries : List Entry) → IsReady series.old entries → IsReady series.new entries }
+    ensures ready { (set : QuerySetState Query) (room : ℕ) → IsReady series.old set room → IsReady series.new set room }
     ensures room { KeepsRoom held.old held.new }
 {
     match run_of(series, lo, hi) {
@@ -192,50 +207,52 @@ fn put_run_of(series: &mut Series, lo: u64, hi: u64, held: &mut Vec<u8>)
 // Registers a query.
 fn put_watch(
     series: &mut Series,
-    entries: &mut Vec<Watched>,
-    name: Name,
-    kind: Kind,
-    span: Span,
-    bound: Option<Bound>,
+    queries: &mut QuerySet<LongQuery>,
+    notes: &mut Vec<Note>,
+    query: &LongQuery,
     held: &mut Vec<u8>,
 )
-    requires ready { IsReady series.old entries.old.items }
+    requires ready { IsReady series.old queries.old (vec_capacity notes.old) }
     requires room { HasRoom held.old ROOM }
-    ensures answer { (reply : List ℕ) × Told (known_of series.old entries.old.items) (LongCommand.Watch name kind span bound) reply (known_of series.new entries.new.items)
+    ensures answer { (reply : List ℕ) × Told (known_of series.old queries.old.queries) (watch_of query.now) reply (known_of series.new queries.new.queries)
         × (held.new.items ≡ held.old.items ++ reply) }
-    ensures ready { IsReady series.new entries.new.items }
+    ensures ready { IsReady series.new queries.new (vec_capacity notes.new) }
     ensures room { KeepsRoom held.old held.new }
 {
-    match register(series, entries, name, kind, span, bound) {
-        Ok(()) => put_watching(held, name),
+    match register(series, queries, notes, query) {
+        Ok(()) => put_watching(held, query.name),
         Err(refusal) => put_refused(held, refusal.number()),
     }
 }
 
 // Forgets a query.
-fn put_unwatch(entries: &mut Vec<Watched>, name: Name, held: &mut Vec<u8>)
+fn put_unwatch(queries: &mut QuerySet<LongQuery>, name: Name, held: &mut Vec<u8>)
+    requires apart { HaveOwnNames queries.old.queries }
     requires room { HasRoom held.old ROOM }
-    ensures answer { (reply : List ℕ) × ((s : SeriesState) → Told (known_of s entries.old.items) (LongCommand.Unwatch name) reply (known_of s entries.new.items))
+    ensures answer { (reply : List ℕ) × ((s : SeriesState) → Told (known_of s queries.old.queries) (LongCommand.Unwatch name) reply (known_of s queries.new.queries))
         × (held.new.items ≡ held.old.items ++ reply) }
-    ensures ready { (s : SeriesState) → IsReady s entries.old.items → IsReady s entries.new.items }
+    ensures ready { (s : SeriesState) (room : ℕ) → IsReady s queries.old room → IsReady s queries.new room }
     ensures room { KeepsRoom held.old held.new }
 {
-    match forget(entries, name) {
-        Ok(()) => put_unwatched(held, name),
-        Err(refusal) => put_refused(held, refusal.number()),
+    match queries.place(&name) {
+        Some(place) => {
+            queries.forget(place);
+            put_unwatched(held, name);
+        }
+        None => put_refused(held, Refusal::NoSuchName.number()),
     }
 }
 
-// What a query answers.
-fn put_named_answer(series: &Series, entries: &[Watched], name: Name, held: &mut Vec<u8>)
-    requires ready { IsReady series.now entries.now }
+// What a query answers: what it was told last.
+fn put_named_answer(series: &Series, queries: &QuerySet<LongQuery>, name: Name, held: &mut Vec<u8>)
+    requires told { queries.now.told ≡ map (long_answer series.now.held) queries.now.queries }
     requires room { HasRoom held.old ROOM }
-    ensures answer { (reply : List ℕ) × Told (known_of series.now entries.now) (LongCommand.Answer name) reply (known_of series.now entries.now)
+    ensures answer { (reply : List ℕ) × Told (known_of series.now queries.now.queries) (LongCommand.Answer name) reply (known_of series.now queries.now.queries)
         × (held.new.items ≡ held.old.items ++ reply) }
     ensures room { KeepsRoom held.old held.new }
 {
-    match find(entries, name) {
-        Some(entry) => put_named(held, series.edits(), name, entry.value),
+    match queries.place(&name) {
+        Some(place) => put_named(held, series.edits(), name, queries.told()[place]),
         None => put_refused(held, Refusal::NoSuchName.number()),
     }
 }

@@ -9,13 +9,13 @@ mod answers;
 mod bounds;
 mod long_commands;
 mod long_grammar;
+mod long_queries;
 mod queries;
 mod scans;
 mod searches;
 mod series_scripts;
 mod texts;
 mod values;
-mod watched;
 
 pub use long_commands::{LongCommand, Search, Span};
 pub use long_grammar::read_long_line;

@@ -1,5 +1,5 @@
 //! The loop of a series' script.
-ghost use Rattle.std.specs.Prelude.{◌≡◌, List, ℕ, IfErr, OnOk};
+ghost use Rattle.std.specs.Prelude.{◌≡◌, List, ℕ, IfErr, OnOk, vec_capacity};
 ghost use Rattle.std.specs.Io.KnownBytes.{Appends, Consumes, IsAtEnd};
 ghost use Rattle.lv_lines.specs.Output.{HasRoom, Puts, PutsFront, SamePlaces};
 ghost use Rattle.lv_lines.specs.Replies.{LinesServed};
@@ -8,13 +8,15 @@ ghost use Rattle.lv_series_script.specs.Inside.{IsReady, KnownStep, Tells, known
 ghost use Rattle.lv_series_script.specs.PlainSeriesScript.{Known, Plain, start};
 ghost use Rattle.lv_series_script.specs.SeriesRuns.{IsPlainText, PlainStep};
 
-use crate::answers::{ROOM, answer};
+use crate::answers::answer;
 use crate::long_commands::LongCommand;
 use crate::long_grammar::read_long_line;
-use crate::watched::Watched;
+use crate::long_queries::LongQuery;
 use lv_bodies::Automaton;
 use lv_lines::{Fault, Line, LineHandler, ReplyBuffer, put_bad, serve_lines};
+use lv_script::ROOM;
 use lv_series::Series;
+use lv_standing::{Note, QuerySet};
 use std::alloc::Global;
 use std::io::{Read, Write};
 use std::marker::Model;
@@ -38,7 +40,8 @@ pub fn run_series_script<R: Read, W: Write>(
 {
     let mut script = SeriesScript {
         series: Series::new(alloc, Automaton::program()),
-        entries: Vec::new(alloc),
+        queries: QuerySet::new(alloc, 64),
+        notes: Vec::new(alloc),
     };
     let ended = serve_lines(alloc, &mut script, reader, writer);
     drop(script);
@@ -49,18 +52,21 @@ pub fn run_series_script<R: Read, W: Write>(
 #[derive(Drop)]
 struct SeriesScript {
     series: Series,
-    entries: Vec<Watched>,
+    queries: QuerySet<LongQuery>,
+    // room for a note of each query, which serves from one edit to the next
+    notes: Vec<Note>,
 }
 
 impl Model for SeriesScript {
+    ghost use Rattle.std.specs.Prelude.{vec_capacity};
     ghost use Rattle.lv_series_script.specs.Inside.{IsReady, known_of};
     ghost use Rattle.lv_series_script.specs.PlainSeriesScript.{Known};
 
     ghost Value = { Known };
 
-    ghost view = { λ a. known_of a.series a.entries.items };
+    ghost view = { λ a. known_of a.series a.queries.queries };
 
-    ghost invariant = { λ a. IsReady a.series a.entries.items };
+    ghost invariant = { λ a. IsReady a.series a.queries (vec_capacity a.notes) };
 }
 
 impl LineHandler for SeriesScript {
@@ -79,7 +85,8 @@ impl LineHandler for SeriesScript {
         buffer.make_room(ROOM)?;
         answer_line(
             &mut self.series,
-            &mut self.entries,
+            &mut self.queries,
+            &mut self.notes,
             number,
             read_long_line(line),
             buffer,
@@ -90,25 +97,26 @@ impl LineHandler for SeriesScript {
 // Answers a line.
 fn answer_line<W: Write>(
     series: &mut Series,
-    entries: &mut Vec<Watched>,
+    queries: &mut QuerySet<LongQuery>,
+    notes: &mut Vec<Note>,
     number: u32,
     line: Line<LongCommand>,
     buffer: &mut ReplyBuffer<'_, W>,
 ) -> Result<(), Fault>
-    requires ready { IsReady series.old entries.old.items }
+    requires ready { IsReady series.old queries.old (vec_capacity notes.old) }
     requires room { HasRoom buffer.old.held.now ROOM }
     ensures places { SamePlaces buffer.old buffer.new }
-    ensures ok { OnOk result ((reply : List ℕ) × Tells (known_of series.old entries.old.items) number line reply (known_of series.new entries.new.items)
+    ensures ok { OnOk result ((reply : List ℕ) × Tells (known_of series.old queries.old.queries) number line reply (known_of series.new queries.new.queries)
         × Puts W.contents buffer.old buffer.new reply) }
     ensures fault { IfErr result (λ fault. (fault ≡ Fault.WriteFault) × (reply : List ℕ)
-        × Tells (known_of series.old entries.old.items) number line reply (known_of series.new entries.new.items)
+        × Tells (known_of series.old queries.old.queries) number line reply (known_of series.new queries.new.queries)
         × PutsFront W.contents buffer.old buffer.new reply) }
-    ensures ready { IsReady series.new entries.new.items }
+    ensures ready { IsReady series.new queries.new (vec_capacity notes.new) }
 {
     match line {
         Line::Nothing => {}
         Line::Bad => put_bad(buffer.held, number),
-        Line::Do(command) => return answer(series, entries, command, buffer),
+        Line::Do(command) => return answer(series, queries, notes, command, buffer),
     }
     Ok(())
 }

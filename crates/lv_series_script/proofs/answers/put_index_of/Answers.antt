@@ -14,7 +14,7 @@ returns-in-Ok-clause-answer c =
     (text, find_granted old new c.args.lo c.args.hi c.args.sought c.in-Ok.index text c.in-Ok.ensures (ap (λ edit. index_text edit c.in-Ok.index) edit), c.put_index.ensures.text)
 
 pub returns-in-Ok-clause-ready : goal.returns-in-Ok-clause-ready
-returns-in-Ok-clause-ready c = λ ws. ready_still c.args.series.now c.index_of.new.series ws c.in-Ok.ensures.2
+returns-in-Ok-clause-ready c = ready_still c.args.series.now c.index_of.new.series c.in-Ok.ensures.2
 
 pub returns-in-Err-clause-answer : goal.returns-in-Err-clause-answer
 returns-in-Err-clause-answer c =
@@ -22,4 +22,4 @@ returns-in-Err-clause-answer c =
     (text, find_refused c.args.series.now c.index_of.new.series c.args.lo c.args.hi c.args.sought c.in-Err.refusal text c.in-Err.ensures (ap refused_by c.number.ensures), c.put_refused.ensures.text)
 
 pub returns-in-Err-clause-ready : goal.returns-in-Err-clause-ready
-returns-in-Err-clause-ready c = λ ws. ready_still c.args.series.now c.index_of.new.series ws c.in-Err.ensures.1
+returns-in-Err-clause-ready c = ready_still c.args.series.now c.index_of.new.series c.in-Err.ensures.1

@@ -17,6 +17,6 @@ returns-in-Ok-clause-answer c =
     let edit = c.edits.ensures ∙ ap (λ s. s.edits) same in
     let granted = reduce_granted s kind lo hi text c.in-Ok.ensures.value.0 (ap₂ (λ edit value. answer_text edit kind value) edit c.in-Ok.ensures.value.1) in (
       text,
-      λ ws. told_still s c.show_value.new.series ws same (known_of s ws) (command.Reduce kind lo hi) text (granted ws),
+      λ queries. told_still s c.show_value.new.series same queries (known_of s queries) (command.Reduce kind lo hi) text (granted queries),
       c.put_answer.ensures.text,
     )
