@@ -39,7 +39,7 @@ module _ {S : Type 0} (o : Operations S) (n : Node) (v : ℕ) (c : Contents S) w
   honest_after_claim r next (Some job) same honest = honest_same o r next n v c same.edits same.kept honest
 
   -- honesty lasts when an outcome is delivered, whatever becomes of it
-  honest_after_accepted : (r next : Record) (m : Node) (w : ℕ) (accepted : Accepted) → replayed r.edits ≡ Some (list_of r.edits) → delivery_of r m w ≡ accepted → SameRecord (after_accepted r m w accepted) next → IsHonest o r n v c → IsHonest o next n v c
+  pub honest_after_accepted : (r next : Record) (m : Node) (w : ℕ) (accepted : Accepted) → replayed r.edits ≡ Some (list_of r.edits) → delivery_of r m w ≡ accepted → SameRecord (after_accepted r m w accepted) next → IsHonest o r n v c → IsHonest o next n v c
   honest_after_accepted r next m w Held legal is same honest = honest_in r next same honest
   honest_after_accepted r next m w (Stale now) legal is same honest = honest_in r next same honest
   honest_after_accepted r next m w Installed legal is same honest =

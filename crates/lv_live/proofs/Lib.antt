@@ -3,6 +3,7 @@ pub mod BatchLaws
 pub mod DeliverLaws
 pub mod EditLaws
 pub mod EveryRunLaws
+pub mod HonestCalls
 pub mod HonestSteps
 pub mod LiveLaws
 pub mod OneOutcomeLaws

@@ -61,6 +61,10 @@ inside_below number size n inside is =
     let wide : (n.number + 1) * 8 ^ n.level ≡ n.number * 8 ^ n.level + 8 ^ n.level = omega arith in
     le-leb ((n.number + 1) * 8 ^ n.level) size (omega (arith, wide, i.span.high, inside))
 
+-- so it is whole, where the subtree is
+pub whole_inside : (es : List Edit) (number : ℕ) (n : Node) → IsInside number (length (list_of es)) → is_in_subtree number n ≡ true → is_whole es n ≡ true
+whole_inside es number n inside is = and_from _ _ (inside_of number n is).node (inside_below number (length (list_of es)) n inside is)
+
 -- the elements of a node, out of those of the subtree that has it
 copied_elements : {B : Type 0} (es : List Edit) (copied : Copied B) (n : Node) → copied.elements ≡ elements_under es (node_at 4 copied.number) → is_in_subtree copied.number n ≡ true → copied_under copied n ≡ elements_under es n
 copied_elements es copied n elements is =
@@ -181,7 +185,7 @@ module _ (r next : Record) (number : ℕ) (edits : next.edits ≡ r.edits) (clai
   fresh_in_it : (n : Node) → is_in_subtree number n ≡ true → is_fresh next n ≡ true
   fresh_in_it n is =
       and_from (is_whole next.edits n) (is_version (touched_by next.edits n) (next.kept n))
-      (ap (λ es. is_whole es n) edits ∙ and_from _ _ (inside_of number n is).node (inside_below number (length (list_of r.edits)) n whole is))
+      (ap (λ es. is_whole es n) edits ∙ whole_inside r.edits number n whole is)
       (ap (is_version (touched_by next.edits n)) (kept n ∙ cond-true (is_in_subtree number n) _ _ is) ∙ eq-eqb (touched_by r.edits n) (touched_by next.edits n) (sym (ap (λ es. touched_by es n) edits)))
 
   -- any other is as fresh as before

@@ -2,6 +2,7 @@
 use Rattle.std.specs.Prelude.{◌≡◌, ◌<◌, ℕ, true, Option, Some, None, List, [], ◌∷◌, ◌++◌, map, nat_eq, slice_get, ◌-◌, if◌then◌else◌}
 use Rattle.lv_geometry.specs.declared.nodes.Node.{Node}
 use Rattle.lv_geometry.specs.Nodes.{is_node}
+use Rattle.lv_bodies.specs.Body.{Operations}
 use Rattle.lv_edits.specs.History.{History}
 use Rattle.lv_edits.specs.Touch.{is_whole, touched_by}
 use Rattle.lv_summary.specs.declared.accepted.Accepted.{Accepted}
@@ -9,6 +10,8 @@ use Rattle.lv_summary.specs.Table.{Table, known_in}
 use Rattle.lv_refresh.specs.Carried.{Carried}
 use Rattle.lv_refresh.specs.Claim.{children_fresh}
 use Rattle.lv_refresh.specs.ClaimTable.{ClaimTable, record_of}
+use Rattle.lv_refresh.specs.declared.contents.Contents.{Contents}
+use Rattle.lv_refresh.specs.Honesty.{IsHonest}
 use Rattle.lv_refresh.specs.Record.{Record}
 use Rattle.lv_live.specs.Step.{after_accepted, with_version}
 
@@ -67,6 +70,10 @@ pub record CanRemake (r : Record) (n : Node) (v : ℕ) : Type 0 where
 abbrev pub Remembers : {B S : Type 0} → LiveState B S → LiveState B S → Type 0
 Remembers old new =
     (n : Node) → known_in old.table n ≡ true → is_whole new.history.journal n ≡ true → touched_by new.history.journal n ≡ touched_by old.history.journal n → known_in new.table n ≡ true
+
+-- contents that were taken honestly from one state are so in another
+abbrev pub HonestyLasts : {B S : Type 0} → Operations S → LiveState B S → LiveState B S → Type 0
+HonestyLasts {B} {S} o old new = (n : Node) (v : ℕ) (contents : Contents S) → IsHonest o (recorded old) n v contents → IsHonest o (recorded new) n v contents
 
 -- node and version of a job
 abbrev pub node_and_version : {B S : Type 0} → Carried B S → Node × ℕ

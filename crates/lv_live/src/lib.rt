@@ -30,7 +30,7 @@ pub use playing::{claim, deliver};
 pub use replies::Reply;
 pub use theorems::{
     answers_are_plain, every_run_is_true_of_its_edits, honest_outcomes_are_vouched_for,
-    honesty_lasts, jobs_stay_vouched_for, refresh_changes_no_answer, refusals_change_nothing,
-    runs_have_one_outcome,
+    honesty_lasts, honesty_lasts_through_batches, jobs_stay_vouched_for, refresh_changes_no_answer,
+    refusals_change_nothing, runs_have_one_outcome,
 };
 pub use worlds::{World, run};

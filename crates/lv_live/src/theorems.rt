@@ -1,15 +1,26 @@
 //! The live-fold theorem and its company, each as a function of no effect that promises it.
-ghost use Rattle.std.specs.Prelude.{◌≡◌, ℕ, List, ◌++◌, length};
+ghost use Rattle.std.specs.Prelude.{◌≡◌, ℕ, ℤ, true, List, ◌++◌, Result, length};
 ghost use Rattle.lv_geometry.specs.Bounds.{Bounds};
 ghost use Rattle.lv_geometry.specs.declared.nodes.Node.{Node};
 ghost use Rattle.lv_geometry.specs.declared.refusals.Refusal.{Refusal};
+ghost use Rattle.lv_edits.specs.declared.edit.Edit.{Edit};
+ghost use Rattle.lv_edits.specs.Batches.{AnswersEdits};
 ghost use Rattle.lv_edits.specs.History.{IsLegal};
+ghost use Rattle.lv_edits.specs.Pushes.{AnswersAll};
+ghost use Rattle.lv_edits.specs.Touch.{is_whole};
+ghost use Rattle.lv_refresh.specs.Inner.{node_at};
 ghost use Rattle.lv_refresh.specs.declared.contents.Contents.{Contents};
 ghost use Rattle.lv_refresh.specs.Honesty.{IsHonest, Vouched};
 ghost use Rattle.lv_refresh.specs.Record.{Record, SameRecord};
 ghost use Rattle.lv_live.specs.EveryRun.{AreTrueOf, accepted_in};
 ghost use Rattle.lv_live.specs.PlainAnswers.{AllHadRoom, answers_in, plain_answers, without_refresh};
+ghost use Rattle.lv_live.specs.Batches.{DeliversFrom};
+ghost use Rattle.lv_live.specs.State.{HonestyLasts, LiveState, SameRefresh};
 ghost use Rattle.lv_live.specs.Step.{Run, Step};
+ghost use Rattle.lv_live.specs.Subtrees.{HasSubtree};
+ghost use Rattle.lv_live.specs.Turns.{TakesTurns};
+ghost use Rattle.lv_live.specs.declared.batches.Batched.{Batched};
+ghost use Rattle.lv_live.specs.declared.batches.BlockJob.{BlockJob};
 ghost use Rattle.lv_live.specs.declared.events.Event.{Event};
 ghost use Rattle.lv_live.specs.declared.replies.Reply.{Reply};
 ghost use Rattle.lv_live.specs.declared.replies.Reply.TheVariants.{Refused};
@@ -83,4 +94,20 @@ pub fn jobs_stay_vouched_for<B: Body>()
     ensures { (body other : B) (limits : Bounds) (r next : Record) (events : List Event) (replies : List (Reply B.S)) (n : Node) (v : ℕ) (contents : Contents B.S) →
         B.meaning body ≡ B.meaning other → IsLegal r.edits → Run (B.operations body) limits r events replies next →
         IsHonest (B.operations body) r n v contents → Vouched (B.operations body) next (B.meaning body ≡ B.meaning other) n v contents }
+{}
+
+/// Honesty lasts through the calls that make many steps at once, as it does through every event: through many pushes and many writes,
+/// made or refused; through the outcomes of a batch of blocks, whatever becomes of each; through the outcome of a subtree that stands
+/// here; and through the turns of a vector that refreshes itself. So a job that was handed out before them is vouched for after them.
+pub fn honesty_lasts_through_batches<B: Body>()
+    ensures pushes { (body : B) (old new : LiveState B B.S) (xs : List ℤ) (answer : Result ℕ Refusal) →
+        AnswersAll old.history xs answer new.history → SameRefresh old new → HonestyLasts (B.operations body) old new }
+    ensures writes { (body : B) (old new : LiveState B B.S) (edits : List Edit) (answer : Result ℕ Refusal) →
+        AnswersEdits old.history edits answer new.history → SameRefresh old new → HonestyLasts (B.operations body) old new }
+    ensures batch { (body : B) (old new : LiveState B B.S) (jobs : List (BlockJob B)) (before after : Batched) →
+        IsLegal old.history.journal → DeliversFrom (B.operations body) (λ other. B.meaning body ≡ B.meaning other) jobs old new before after → HonestyLasts (B.operations body) old new }
+    ensures subtree { (body : B) (old new : LiveState B B.S) (number : ℕ) →
+        IsLegal old.history.journal → is_whole old.history.journal (node_at 4 number) ≡ true → HasSubtree old new number → HonestyLasts (B.operations body) old new }
+    ensures turns { (body : B) (old new : LiveState B B.S) (count : ℕ) →
+        IsLegal old.history.journal → TakesTurns (B.operations body) old new count → HonestyLasts (B.operations body) old new }
 {}

@@ -17,7 +17,7 @@ use halves::{LEAST_FOLD, LEAST_SCAN, fold_halved, parts_for};
 use lv_bodies::Body;
 use lv_edits::{Edits, refusal_of};
 use lv_geometry::Refusal;
-pub use slices::scan_alone;
+pub use slices::{scan_alone, tell_elements};
 use slices::{scan_part, scan_slice};
 use std::alloc::{AllocError, Global};
 use std::thread::Threads;

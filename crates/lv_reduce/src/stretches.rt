@@ -1,9 +1,10 @@
 //! Elements of a range that were copied out, to be scanned while the vector is edited.
-ghost use Rattle.std.specs.Prelude.{◌≡◌, IfOk, IfErr};
+ghost use Rattle.std.specs.Prelude.{◌≡◌, ◌≤◌, ◌^◌, All, IfOk, IfErr, length};
+ghost use Rattle.lv_geometry.specs.Elements.{IsElement};
 ghost use Rattle.lv_reduce.specs.Answer.{IsScanRefusal, scan_of};
 ghost use Rattle.lv_reduce.specs.Stretch.{IsStretch};
 
-use crate::parallel::{copy_range, par_scan_slice, scan_alone};
+use crate::parallel::{copy_range, par_scan_slice, scan_alone, tell_elements};
 use crate::scans::Scan;
 use crate::values::Values;
 use lv_bodies::Body;
@@ -57,6 +58,24 @@ impl<B: Body> Stretch<B> {
             edit: history.edit(),
             elements,
         })
+    }
+
+    /// The number of the edit after which they were copied.
+    pub fn edit(&self) -> u32
+        ensures { result ≡ self.now.edit }
+    {
+        self.edit
+    }
+
+    /// The elements.
+    pub fn elements(&self) -> &[i64]
+        ensures same { result.now ≡ self.now.elements }
+        ensures few { length result.now ≤ 2 ^ 20 }
+        ensures elements { All IsElement result.now }
+    {
+        let elements = self.elements.as_slice();
+        tell_elements(elements);
+        elements
     }
 
     /// One of the two scans of the elements, told with the number of the edit after which they were copied, by as many threads as

@@ -145,7 +145,7 @@ fn fold_piece<B: Body>(part: Part<'_>, body: &B, size: usize, n: usize) -> B::S
 }
 
 // Tells that the elements of a slice are of 64 bits. No step of it is left where it runs.
-fn tell_elements(xs: &[i64])
+pub fn tell_elements(xs: &[i64])
     ensures { All IsElement xs.now }
 {
     for x in xs {
