@@ -1,59 +1,190 @@
--- Which queries are refused among others.
-use Rattle.std.proofs.Common.{◌≡◌, ◌<◌, ◌≤◌, ℕ, Bool, true, false, cond, ◌||◌, Some, None, List, [], ◌∷◌, length, refl, ap, sym, ◌∙◌, inl, inr}
+-- Queries by name: at most one has it. And when no note of an answer is due.
+use Rattle.std.proofs.Common.{◌≡◌, ◌≢◌, ℕ, zero, suc, ◌<◌, ◌≤◌, Bool, true, false, cond, ◌||◌, Option, Some, None, List, [], ◌∷◌, ◌++◌, filter, length, map, not, ◌&&◌, ap₂, ℤ, position, remove, get_or, take, drop, refl, sym, ap, ◌∙◌, inl, inr, arith, true≢false}
 use Rattle.std.specs.Prelude.{nat_lt}
-use Rattle.std.specs.List.{list_any}
+use Rattle.std.specs.Bool.{beq}
+use Rattle.std.specs.Option.{option_eq}
+use Rattle.std.specs.Ordering.{int_eq}
+use Rattle.std.specs.List.{list_any, position_or_len}
 use Rattle.std.specs.Str.{bytes_eq}
+use Rattle.std.proofs.lemmas.Bool.Decides.{Decides-eqb, Decides-int_eq}
 use Rattle.std.proofs.lemmas.Bool.{cases_Bool, cases_lt, cond-false, cond-true, le-ltb, lt-ltb}
+use Rattle.std.proofs.lemmas.List.{drop-map, get_or-map, map-append, take-map}
+use Rattle.std.proofs.lemmas.List.Quantifiers.{all_pairs_push, position-Some}
+use Rattle.std.proofs.lemmas.List.Sums.{fails_before_first}
 use Rattle.std.proofs.lemmas.Option.{none-some}
+use Rattle.std.proofs.lemmas.Slice.Eq.{bytes_eq-Decides}
 use Rattle.lv_geometry.specs.declared.refusals.Refusal.TheVariants.{BadRange, NameTaken, TooMany}
+use Rattle.lv_bodies.specs.declared.kinds.Shown.{Shown}
+use Rattle.lv_bodies.specs.declared.kinds.Shown.TheVariants.{Sum, Least, Greatest, Best, Affine, Automaton}
+use Rattle.lv_tree.specs.declared.places.Bound.{Bound}
 use Rattle.lv_standing.specs.declared.queries.Query.{Query}
-use Rattle.lv_standing.specs.Queries.{name_refusal, query_of, query_refusal}
+use Rattle.lv_standing.specs.declared.spans.Span.{Span}
+use Rattle.lv_standing.specs.declared.spans.Span.TheVariants.{Between, Last}
+use Rattle.lv_standing.specs.Queries.{holds, is_due, name_refusal, query_of, same_value, span_refusal, without_query}
+use Rattle.lv_standing.specs.Standings.{HaveOwnNames}
 
-module _ (most : ℕ) where
-  -- a query is refused for its name where one of them has it, else where they are as many as may be
-  refused_by_name : (all queries : List Query) (name : List ℕ) → name_refusal most all (query_of queries name) ≡ cond (list_any (λ q. bytes_eq q.name name) queries) (Some NameTaken) (cond (nat_lt (length all) most) None (Some TooMany))
-  refused_by_name all [] name = refl
-  refused_by_name all (q ∷ queries) name =
-      elim (bytes_eq q.name name) as (λ same. name_refusal most all (cond same (Some q) (query_of queries name)) ≡ cond (same || list_any (λ q. bytes_eq q.name name) queries) (Some NameTaken) (cond (nat_lt (length all) most) None (Some TooMany))) [
-        | true ↦ refl
-        | false ↦ refused_by_name all queries name
+-- ---- one element of a list
+
+module _ {X : Type 0} (p : X → Bool) where
+  -- what never passes is all kept
+  all_stay : (xs : List X) → ((k : ℕ) (d : X) → k < length xs → p (get_or xs k d) ≡ false) → filter (λ x. not (p x)) xs ≡ xs
+  all_stay [] none = refl
+  all_stay (x ∷ xs) none =
+      let here : p x ≡ false = none 0 x (omega arith) in
+      rw here (ap (λ ys. x ∷ ys) (all_stay xs (λ k d within. none (suc k) d (omega arith))))
+
+  -- where one place alone passes, that one is removed
+  one_goes : (xs : List X) (i : ℕ) → i < length xs → ((d : X) → p (get_or xs i d) ≡ true) → ((k : ℕ) (d : X) → k < length xs → k ≢ i → p (get_or xs k d) ≡ false)
+      → filter (λ x. not (p x)) xs ≡ remove xs i
+  one_goes [] i within here others = absurd (omega arith)
+  one_goes (x ∷ xs) zero within here others =
+      let goes : p x ≡ true = here x in
+      rw goes (all_stay xs (λ k d below. others (suc k) d (omega arith) (λ same. absurd (omega (arith, same)))))
+  one_goes (x ∷ xs) (suc i) within here others =
+      let stays : p x ≡ false = others 0 x (omega arith) (λ same. absurd (omega (arith, same))) in
+      rw stays (ap (λ ys. x ∷ ys) (one_goes xs i (omega arith) here (λ k d below other. others (suc k) d (omega arith) (λ same. other (omega (arith, same))))))
+
+  -- where there is no place nothing passes
+  none_passes : (xs : List X) → position p xs ≡ None → (k : ℕ) (d : X) → k < length xs → p (get_or xs k d) ≡ false
+  none_passes xs none k d within =
+      elim (cases_lt (position_or_len p xs) (length xs)) [
+        | inl some ↦ absurd (none-some (position_or_len p xs) (sym none ∙ cond-true _ _ _ (lt-ltb (position_or_len p xs) (length xs) some)))
+        | inr past ↦ fails_before_first p xs k d (omega (arith, within, past))
       ]
 
-  -- whether a query's name is that of one of some
-  abbrev pub is_named : List Query → Query → Bool
-  is_named queries q = list_any (λ other. bytes_eq other.name q.name) queries
+-- what is removed of a list that a function gives
+pub map_remove : {X Y : Type 0} (f : X → Y) (xs : List X) (i : ℕ) → remove (map f xs) i ≡ map f (remove xs i)
+map_remove f xs i = ap (λ ys. ys ++ drop (suc i) (map f xs)) (take-map f i xs) ∙ ap (λ ys. map f (take i xs) ++ ys) (drop-map f (suc i) xs) ∙ sym (map-append f (take i xs) (drop (suc i) xs))
 
-  -- why it is refused, where its range isn't backwards
-  refused_so : (queries : List Query) (q : Query) → q.lo ≤ q.hi → query_refusal most queries q ≡ cond (is_named queries q) (Some NameTaken) (cond (nat_lt (length queries) most) None (Some TooMany))
-  refused_so queries q order = cond-false _ _ _ (le-ltb q.hi q.lo order) ∙ refused_by_name queries queries q.name
+-- ---- names
 
-  pub name_taken : (queries : List Query) (q : Query) → q.lo ≤ q.hi → is_named queries q ≡ true → query_refusal most queries q ≡ Some NameTaken
-  name_taken queries q order named = refused_so queries q order ∙ ap (λ b. cond b (Some NameTaken) (cond (nat_lt (length queries) most) None (Some TooMany))) named
+module _ (name : List ℕ) where
+  -- whether a query has the name
+  abbrev has : Query → Bool
+  has q = bytes_eq q.name name
 
-  pub not_refused : (queries : List Query) (q : Query) → q.lo ≤ q.hi → is_named queries q ≡ false → length queries < most → query_refusal most queries q ≡ None
-  not_refused queries q order named few =
-      refused_so queries q order
-      ∙ ap (λ b. cond b (Some NameTaken) (cond (nat_lt (length queries) most) None (Some TooMany))) named
-      ∙ ap (λ b. cond b None (Some TooMany)) (lt-ltb (length queries) most few)
-
-  pub name_refused : (queries : List Query) (q : Query) → q.lo ≤ q.hi → is_named queries q ≡ false → most ≤ length queries → query_refusal most queries q ≡ Some TooMany
-  name_refused queries q order named many =
-      refused_so queries q order
-      ∙ ap (λ b. cond b (Some NameTaken) (cond (nat_lt (length queries) most) None (Some TooMany))) named
-      ∙ ap (λ b. cond b None (Some TooMany)) (le-ltb (length queries) most many)
-
-  -- a query that isn't refused stands behind fewer than may be
-  pub few_queries : (queries : List Query) (q : Query) → query_refusal most queries q ≡ None → length queries < most
-  few_queries queries q free =
-      elim (cases_lt (length queries) most) [
-        | inl few ↦ few
-        | inr many ↦ elim (cases_lt q.hi q.lo) [
-          | inl backwards ↦
-              let bad : query_refusal most queries q ≡ Some BadRange = cond-true _ _ _ (lt-ltb q.hi q.lo backwards) in
-              absurd (none-some BadRange (sym free ∙ bad))
-          | inr order ↦ elim (cases_Bool (is_named queries q)) [
-            | inl named ↦ absurd (none-some NameTaken (sym free ∙ name_taken queries q order named))
-            | inr other ↦ absurd (none-some TooMany (sym free ∙ name_refused queries q order other many))
-          ]
-        ]
+  -- where none has it, none is found, and the other way round
+  absent : (qs : List Query) → query_of qs name ≡ None → (k : ℕ) (d : Query) → k < length qs → has (get_or qs k d) ≡ false
+  absent [] none k d within = absurd (omega arith)
+  absent (q ∷ qs) none zero d within =
+      elim (cases_Bool (has q)) [
+        | inl same ↦ absurd (none-some q (sym none ∙ cond-true _ _ _ same))
+        | inr other ↦ other
       ]
+  absent (q ∷ qs) none (suc k) d within =
+      elim (cases_Bool (has q)) [
+        | inl same ↦ absurd (none-some q (sym none ∙ cond-true _ _ _ same))
+        | inr other ↦ absent qs (sym (cond-false _ _ _ other) ∙ none) k d (omega arith)
+      ]
+
+  not_found : (qs : List Query) → ((k : ℕ) (d : Query) → k < length qs → has (get_or qs k d) ≡ false) → query_of qs name ≡ None
+  not_found [] others = refl
+  not_found (q ∷ qs) others = cond-false _ _ _ (others 0 q (omega arith)) ∙ not_found qs (λ k d within. others (suc k) d (omega arith))
+
+  -- the first that has it is found
+  found : (qs : List Query) (i : ℕ) (d : Query) → i < length qs → has (get_or qs i d) ≡ true → ((k : ℕ) → k < i → has (get_or qs k d) ≡ false)
+      → query_of qs name ≡ Some (get_or qs i d)
+  found [] i d within here before = absurd (omega arith)
+  found (q ∷ qs) zero d within here before = cond-true _ _ _ here
+  found (q ∷ qs) (suc i) d within here before = cond-false _ _ _ (before 0 (omega arith)) ∙ found qs i d (omega arith) here (λ k below. before (suc k) (omega arith))
+
+  -- a place is one of a query
+  pub place_within : (qs : List Query) (i : ℕ) → position has qs ≡ Some i → i < length qs
+  place_within [] i at = absurd (none-some i at)
+  place_within (q ∷ qs) i at = (position-Some has (q ∷ qs) i q at).0
+
+  -- the query at the place of the name is the one that is found, and what a function gives is there too
+  pub placed : {Y : Type 0} (f : Query → Y) (qs : List Query) (i : ℕ) (e : Y) → position has qs ≡ Some i → (q : Query) × (query_of qs name ≡ Some q) × (get_or (map f qs) i e ≡ f q)
+  placed f [] i e at = absurd (none-some i at)
+  placed f (q ∷ qs) i e at =
+      let first = position-Some has (q ∷ qs) i q at in
+      (get_or (q ∷ qs) i q, found (q ∷ qs) i q first.0 first.1 first.2, get_or-map f (q ∷ qs) i q e first.0)
+
+  pub not_placed : (qs : List Query) → position has qs ≡ None → query_of qs name ≡ None
+  not_placed qs none = not_found qs (none_passes has qs none)
+
+  -- the others have other names
+  others : (qs : List Query) (i : ℕ) → HaveOwnNames qs → position has qs ≡ Some i → (k : ℕ) (d : Query) → k < length qs → k ≢ i → has (get_or qs k d) ≡ false
+  others qs i apart at k d below other =
+      let first = position-Some has qs i d at in
+      let its : (get_or qs i d).name ≡ name = (bytes_eq-Decides (get_or qs i d).name name).0 first.1 in
+      elim (cases_Bool (has (get_or qs k d))) [
+        | inl same ↦
+            let too : (get_or qs k d).name ≡ name = (bytes_eq-Decides (get_or qs k d).name name).0 same in
+            elim (cases_lt k i) [
+              | inl before ↦ absurd (apart k i d before first.0 (too ∙ sym its))
+              | inr past ↦ elim (cases_lt i k) [
+                | inl behind ↦ absurd (apart i k d behind below (its ∙ sym too))
+                | inr reached ↦ absurd (other (omega (arith, past, reached)))
+              ]
+            ]
+        | inr differs ↦ differs
+      ]
+
+  -- without the query at that place none of the name is left
+  pub without_placed : (qs : List Query) (i : ℕ) → HaveOwnNames qs → position has qs ≡ Some i → remove qs i ≡ without_query qs name
+  without_placed qs i apart at = sym (one_goes has qs i (place_within qs i at) (λ d. (position-Some has qs i d at).1) (others qs i apart at))
+
+-- a query of a new name stands apart from the others
+pub apart_more : (qs : List Query) (q : Query) → HaveOwnNames qs → query_of qs q.name ≡ None → HaveOwnNames (qs ++ q ∷ [])
+apart_more qs q apart none =
+    all_pairs_push (λ a b. a.name ≢ b.name) qs q apart
+    (λ k d within same. true≢false (sym ((bytes_eq-Decides (get_or qs k d).name q.name).1 same) ∙ absent q.name qs none k d within))
+
+-- ---- refusals
+
+-- where a query isn't refused its name is new
+free_name : (most : ℕ) (all : List Query) (o : Option Query) → name_refusal most all o ≡ None → o ≡ None
+free_name most all None free = refl
+free_name most all (Some q) free = absurd (none-some NameTaken (sym free))
+
+pub new_name : (most : ℕ) (qs : List Query) (name : List ℕ) (span : Span) → span_refusal most qs name span ≡ None → query_of qs name ≡ None
+new_name most qs name (Last n) free = free_name most qs (query_of qs name) free
+new_name most qs name (Between lo hi) free =
+    elim (cases_Bool (nat_lt hi lo)) [
+      | inl backwards ↦ absurd (none-some BadRange (sym free ∙ cond-true _ _ _ backwards))
+      | inr order ↦ free_name most qs (query_of qs name) (sym (cond-false _ _ _ order) ∙ free)
+    ]
+
+-- a query is refused for its name where one of them has it, else where they are as many as may be
+refused_by_name : (most : ℕ) (all qs : List Query) (name : List ℕ) → name_refusal most all (query_of qs name) ≡ cond (list_any (λ q. bytes_eq q.name name) qs) (Some NameTaken) (cond (nat_lt (length all) most) None (Some TooMany))
+refused_by_name most all [] name = refl
+refused_by_name most all (q ∷ qs) name =
+    elim (bytes_eq q.name name) as (λ same. name_refusal most all (cond same (Some q) (query_of qs name)) ≡ cond (same || list_any (λ q. bytes_eq q.name name) qs) (Some NameTaken) (cond (nat_lt (length all) most) None (Some TooMany))) [
+      | true ↦ refl
+      | false ↦ refused_by_name most all qs name
+    ]
+
+module _ (most : ℕ) (qs : List Query) (name : List ℕ) where
+  pub name_taken : list_any (λ q. bytes_eq q.name name) qs ≡ true → name_refusal most qs (query_of qs name) ≡ Some NameTaken
+  name_taken named = refused_by_name most qs qs name ∙ cond-true _ _ _ named
+
+  pub too_many : list_any (λ q. bytes_eq q.name name) qs ≡ false → most ≤ length qs → name_refusal most qs (query_of qs name) ≡ Some TooMany
+  too_many named many = refused_by_name most qs qs name ∙ cond-false _ _ _ named ∙ cond-false _ _ _ (le-ltb (length qs) most many)
+
+  pub not_refused : list_any (λ q. bytes_eq q.name name) qs ≡ false → length qs < most → name_refusal most qs (query_of qs name) ≡ None
+  not_refused named few = refused_by_name most qs qs name ∙ cond-false _ _ _ named ∙ cond-true _ _ _ (lt-ltb (length qs) most few)
+
+-- ---- notes
+
+-- an answer is the same as itself
+same_number : (x : Option ℤ) → option_eq int_eq x x ≡ true
+same_number None = refl
+same_number (Some n) = (Decides-int_eq n n).1 refl
+
+same_answer : (v : Shown) → same_value v v ≡ true
+same_answer (Sum n) = (Decides-eqb n n).1 refl
+same_answer (Least x) = same_number x
+same_answer (Greatest x) = same_number x
+same_answer (Best x) = same_number x
+same_answer (Affine a b) = ap₂ (λ p q. p && q) ((Decides-eqb a a).1 refl) ((Decides-eqb b b).1 refl)
+same_answer (Automaton states) = (bytes_eq-Decides states states).1 refl
+
+same_bool : (b : Bool) → beq b b ≡ true
+same_bool true = refl
+same_bool false = refl
+
+-- so that no note of it is due where it stays
+pub never_due : (bound : Option Bound) (v : Shown) → is_due bound v v ≡ false
+never_due None v = ap not (same_answer v)
+never_due (Some bound) v = ap not (same_bool (holds bound v))

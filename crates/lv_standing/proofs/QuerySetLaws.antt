@@ -1,5 +1,5 @@
 -- The notes and the answers of some queries, one query after another.
-use Rattle.std.proofs.Common.{◌≡◌, ◌<◌, ◌+◌, ℕ, List, [], ◌∷◌, ◌++◌, length, map, take, get_or, append_assoc, ap, sym, subst, ◌∙◌, inl, inr, arith}
+use Rattle.std.proofs.Common.{◌≡◌, ◌<◌, ◌≤◌, ◌+◌, ℕ, List, [], ◌∷◌, ◌++◌, length, map, take, get_or, append_assoc, ap, sym, subst, ◌∙◌, inl, inr, arith}
 use Rattle.std.proofs.lemmas.List.{length-take-le, map-append, take_more}
 use Rattle.lv_bodies.specs.declared.kinds.Shown.{Shown}
 use Rattle.lv_standing.specs.declared.notes.Note.{Note}
@@ -47,3 +47,11 @@ module _ {Q : Type 0} where
           are = rw (next_of queries i q q_is inside, next_of told i before before_is (omega arith), next_of answers i answer answer_is (omega arith)) all;
           all = one.all ∙ ap (λ ns. ns ++ one.added) so_far.all ∙ append_assoc first so_far.added one.added;
         }
+
+    -- there are no more of them than queries
+    pub few_due : (queries : List Q) (told answers : List Shown) (notes : List Note) → AreDue name_of is_idle is_due queries told answers notes → length notes ≤ length queries
+    few_due [] told answers notes none = omega (arith, ap length none)
+    few_due (q ∷ queries) [] answers notes none = omega (arith, ap length none)
+    few_due (q ∷ queries) (b ∷ told) [] notes none = omega (arith, ap length none)
+    few_due (q ∷ queries) (b ∷ told) (v ∷ answers) notes (inl idle) = omega (arith, few_due queries told answers notes idle.1)
+    few_due (q ∷ queries) (b ∷ told) (v ∷ answers) notes (inr due) = omega (arith, ap length due.2, few_due queries told answers due.1 due.3)

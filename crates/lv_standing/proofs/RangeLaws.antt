@@ -1,15 +1,16 @@
--- Ranges of a list that reach past its end, and what an edit elsewhere leaves of a range.
-use Rattle.std.proofs.Common.{◌≡◌, Option, ℕ, ℤ, pos, ◌-◌, ◌⊎◌, max, min, eqb, ◌<◌, ◌≤◌, false, true, refl, IfSome, List, [], ◌∷◌, ◌++◌, length, take, drop, slice_range, slice_set, Some, None, ltb, not, ◌&&◌, ◌||◌, sym, ap, ◌∙◌, inl, inr, arith, length-drop, length-append, subst, get_or}
-use Rattle.std.proofs.lemmas.Bool.{cases_Bool, cases_lt, eqb-true, false≢true, leb-true, lt-leb, lt-ltb, ltb-false, le-ltb, le-leb, or_parts}
+-- Ranges of a list that reach past its end, and what an edit elsewhere leaves of a span.
+use Rattle.std.proofs.Common.{◌≡◌, ℕ, ℤ, pos, ◌-◌, ◌⊎◌, max, min, eqb, ◌<◌, ◌≤◌, false, true, refl, IfSome, Bool, List, [], ◌∷◌, ◌++◌, length, take, drop, slice_range, slice_set, Some, None, ltb, not, ◌&&◌, ◌||◌, sym, ap, ap₂, ◌∙◌, inl, inr, arith, length-drop, length-append, subst, get_or}
+use Rattle.std.proofs.lemmas.Bool.{cases_Bool, cases_lt, cond-false, eqb-true, false≢true, leb-true, lt-leb, lt-ltb, ltb-false, le-ltb, le-leb, or_parts}
 use Rattle.std.proofs.Math.Bool.{or-false}
-use Rattle.std.proofs.lemmas.Option.{cond_some}
+use Rattle.std.proofs.lemmas.Option.{cond_some, none-some}
 use Rattle.std.proofs.Math.Seq.{take-nil}
 use Rattle.std.proofs.lemmas.List.{drop-append-le, drop_all, length-take-le, set-get_or, take_all}
 use Rattle.lv_bodies.specs.Body.{CanFold}
 use Rattle.lv_edits.specs.declared.edit.Edit.{Edit}
 use Rattle.lv_edits.specs.declared.edit.Edit.TheVariants.{Push, Pop, Write, Reserve, Swap, Truncate}
-use Rattle.lv_edits.specs.History.{History, applied, list_of, replayed, with_edit}
+use Rattle.lv_edits.specs.History.{History, applied, list_of, replayed}
 use Rattle.lv_edits.specs.Kept.{IsLegalInLimits}
+use Rattle.lv_edits.specs.Ranges.{range_refusal}
 use Rattle.lv_edits.specs.Verdict.{verdict_of}
 use Rattle.lv_edits.proofs.HistoryLaws.{accepted_is_possible, list_of-snoc, swapped}
 use Rattle.lv_edits.proofs.Slices.{part_of_push, part_of_set, part_of_take}
@@ -18,8 +19,11 @@ use Rattle.lv_live.specs.declared.following.Touched.{Touched}
 use Rattle.lv_live.specs.declared.following.Touched.TheVariants.{Nothing, One, Two}
 use Rattle.lv_live.specs.Follows.{indices_in}
 use Rattle.lv_standing.specs.declared.changes.Changed.{Changed}
-use Rattle.lv_standing.specs.declared.watches.Watch.{Watch}
-use Rattle.lv_standing.specs.Inner.{IsChangedBy, IsPushed, SameElsewhere, has_changed, has_index, has_written, pushed_by, written_at}
+use Rattle.lv_standing.specs.declared.spans.Span.{Span}
+use Rattle.lv_standing.specs.declared.spans.Span.TheVariants.{Between, Last}
+use Rattle.lv_standing.specs.Inner.{IsChangedBy, IsPushed, has_changed, has_index, has_written, joined_to, pushed_by, size_after}
+use Rattle.lv_standing.specs.Queries.{span_of}
+use Rattle.lv_standing.proofs.RoomLaws.{size_by_edit}
 
 -- a range that starts past the end is empty
 empty_past : {A : Type 0} (xs : List A) (lo hi : ℕ) → length xs ≤ lo → slice_range xs lo hi ≡ []
@@ -29,32 +33,26 @@ empty_past xs lo hi h = ap (take (hi - lo)) (drop_all lo xs h) ∙ take-nil (hi 
 empty_backwards : {A : Type 0} (xs : List A) (lo hi : ℕ) → hi ≤ lo → slice_range xs lo hi ≡ []
 empty_backwards xs lo hi h = let none : hi - lo ≡ 0 = omega arith in ap (λ n. take n (drop lo xs)) none
 
--- a range cut at the end has the same elements
-pub range_cut : {A : Type 0} (xs : List A) (lo hi lo' hi' : ℕ) → hi' ≡ min hi (length xs) → lo' ≡ min lo hi' → slice_range xs lo' hi' ≡ slice_range xs lo hi
-range_cut xs lo hi lo' hi' end start =
-    elim (cases_lt lo hi') [
-      | inl before ↦
-          let same : lo' ≡ lo = omega arith in
-          ap (λ n. slice_range xs n hi') same
-          ∙ (elim (cases_lt (length xs) hi) [
-            | inl past ↦
-                let last : hi' ≡ length xs = omega arith in
-                ap (λ n. slice_range xs lo n) last
-                ∙ take_all (length xs - lo) (drop lo xs) (omega (arith, length-drop lo xs))
-                ∙ sym (take_all (hi - lo) (drop lo xs) (omega (arith, length-drop lo xs)))
-            | inr inside ↦ let whole : hi' ≡ hi = omega arith in ap (λ n. slice_range xs lo n) whole
-          ])
-      | inr past ↦
-          empty_backwards xs lo' hi' (omega arith)
-          ∙ sym (elim (cases_lt (length xs) hi) [
-            | inl far ↦ empty_past xs lo hi (omega arith)
-            | inr inside ↦ empty_backwards xs lo hi (omega arith)
-          ])
-    ]
+-- a range within a list is granted
+pub range_granted : (edits : List Edit) (lo hi : ℕ) → lo ≤ hi → hi ≤ length (list_of edits) → range_refusal edits lo hi ≡ None
+range_granted edits lo hi order inside = cond-false _ _ _ (le-ltb hi lo order) ∙ cond-false _ _ _ (le-ltb (length (list_of edits)) hi inside)
 
--- a range of what a fold may go over is such
+-- the last so many elements of a list are a range of it
+pub last_is_range : {A : Type 0} (n : ℕ) (xs : List A) → slice_range xs (length xs - n) (length xs) ≡ drop (length xs - n) xs
+last_is_range n xs = take_all (length xs - (length xs - n)) (drop (length xs - n) xs) (omega (arith, length-drop (length xs - n) xs))
+
+-- a range, and a span, of what a fold may go over is such
 pub range_can_fold : (h : History) (lo hi : ℕ) → IsLegalInLimits h → CanFold (slice_range (list_of h.journal) lo hi)
 range_can_fold h lo hi limits = part_can_fold (hi - lo) lo (list_of h.journal) (can_fold h limits)
+
+pub span_can_fold : (xs : List ℤ) (span : Span) → CanFold xs → CanFold (span_of span xs)
+span_can_fold xs (Between lo hi) can = part_can_fold (hi - lo) lo xs can
+span_can_fold xs (Last n) can = subst CanFold (last_is_range n xs) (part_can_fold (length xs - (length xs - n)) (length xs - n) xs can)
+
+-- what is false of the opposite is true
+not_false : (b : Bool) → not b ≡ false → b ≡ true
+not_false true is = refl
+not_false false is = absurd (false≢true (sym is))
 
 -- a range without an index ends at or before it, or starts after it
 pub without_index : (lo hi i : ℕ) → has_index lo hi i ≡ false → (hi ≤ i) ⊎ (i < lo)
@@ -139,21 +137,21 @@ same_touched (Two i j) (One k) same = absurd (omega (arith, ap length same))
 same_touched (Two i j) (Two k l) same = (cc)
 
 -- an edit writes at no index of a range in which nothing changed
-unwritten : (changed : Changed) (t : Touched) (lo hi : ℕ) → indices_in changed.written ≡ indices_in t → has_changed lo hi changed ≡ false → has_written lo hi t ≡ false
+unwritten : (changed : Changed) (t : Touched) (lo hi : ℕ) → indices_in changed.written ≡ indices_in t → has_changed (Between lo hi) changed ≡ false → has_written lo hi t ≡ false
 unwritten changed t lo hi same apart = ap (has_written lo hi) (sym (same_touched changed.written t same)) ∙ (or_parts _ _ apart).0
 
 -- and it drops none of its indices
-undropped : (changed : Changed) (lo hi from to : ℕ) → changed.from ≡ from → changed.to ≡ to → has_changed lo hi changed ≡ false → min hi to ≤ max lo from
+undropped : (changed : Changed) (lo hi from to : ℕ) → changed.from ≡ from → changed.to ≡ to → has_changed (Between lo hi) changed ≡ false → min hi to ≤ max lo from
 undropped changed lo hi from to begins ends apart =
     omega (arith, begins, ends, ltb-false (max lo changed.from) (min hi changed.to) (or_parts _ _ apart).1)
 
 -- a write leaves a range without its index
-written_elsewhere : (xs ys : List ℤ) (i : ℕ) (x : ℤ) (changed : Changed) (lo hi : ℕ) → applied xs (Write i x) ≡ Some ys → indices_in changed.written ≡ i ∷ [] → has_changed lo hi changed ≡ false → slice_range ys lo hi ≡ slice_range xs lo hi
+written_elsewhere : (xs ys : List ℤ) (i : ℕ) (x : ℤ) (changed : Changed) (lo hi : ℕ) → applied xs (Write i x) ≡ Some ys → indices_in changed.written ≡ i ∷ [] → has_changed (Between lo hi) changed ≡ false → slice_range ys lo hi ≡ slice_range xs lo hi
 written_elsewhere xs ys i x changed lo hi made written apart =
     ap (λ zs. slice_range zs lo hi) (sym (cond_some _ _ _ made).1) ∙ set_elsewhere xs i x lo hi (without_index lo hi i (unwritten changed (One i) lo hi written apart))
 
 -- an edit leaves a range without an index that it changes
-applied_elsewhere : (xs ys : List ℤ) (e : Edit) (changed : Changed) (lo hi : ℕ) → applied xs e ≡ Some ys → IsChangedBy xs e changed → has_changed lo hi changed ≡ false → slice_range ys lo hi ≡ slice_range xs lo hi
+applied_elsewhere : (xs ys : List ℤ) (e : Edit) (changed : Changed) (lo hi : ℕ) → applied xs e ≡ Some ys → IsChangedBy xs e changed → has_changed (Between lo hi) changed ≡ false → slice_range ys lo hi ≡ slice_range xs lo hi
 applied_elsewhere xs ys (Push x) changed lo hi made is apart =
     let same : xs ++ x ∷ [] ≡ ys = (cc) in
     ap (λ zs. slice_range zs lo hi) (sym same) ∙ more_elsewhere xs x lo hi (without_index lo hi (length xs) (unwritten changed (One (length xs)) lo hi is.written apart))
@@ -177,22 +175,30 @@ applied_elsewhere xs ys (Truncate n) changed lo hi made is apart =
     ap (λ zs. slice_range zs lo hi) (sym parts.1)
     ∙ cut_elsewhere xs n lo hi (leb-true n (length xs) parts.0) (undropped changed lo hi n (length xs) is.from is.to apart)
 
--- an accepted edit leaves a range without an index that it changes
-pub edit_elsewhere : (h : History) (e : Edit) (changed : Changed) (lo hi : ℕ) → replayed h.journal ≡ Some (list_of h.journal) → verdict_of h.limits h.journal e ≡ None → IsChangedBy (list_of h.journal) e changed
-    → has_changed lo hi changed ≡ false → slice_range (list_of (h.journal ++ e ∷ [])) lo hi ≡ slice_range (list_of h.journal) lo hi
-edit_elsewhere h e changed lo hi legal accepted is apart =
-    let possible = accepted_is_possible h.limits h.journal e accepted in
-    let next = list_of-snoc h.journal e possible.0 legal possible.1 in
-    ap (λ zs. slice_range zs lo hi) next.1 ∙ applied_elsewhere (list_of h.journal) possible.0 e changed lo hi possible.1 is apart
+-- it leaves a span without an element that it changes
+span_elsewhere : (xs ys : List ℤ) (e : Edit) (changed : Changed) (span : Span) → applied xs e ≡ Some ys → length ys ≡ size_after (length xs) e → IsChangedBy xs e changed → has_changed span changed ≡ false → span_of span ys ≡ span_of span xs
+span_elsewhere xs ys e changed (Between lo hi) made long is apart = applied_elsewhere xs ys e changed lo hi made is apart
+span_elsewhere xs ys e changed (Last n) made long is apart =
+    let parts = or_parts _ _ apart in
+    let still : changed.to ≡ changed.from = eqb-true changed.to changed.from (not_false _ parts.0) in
+    let same : length ys ≡ length xs = long ∙ sym is.from ∙ sym still ∙ is.to in
+    let lo = length xs - n in
+    let unwritten : has_written lo (length xs) changed.written ≡ false = ap (λ m. has_written (m - n) m changed.written) (sym is.to) ∙ parts.1 in
+    let undropped : ltb (max lo changed.from) (min (length xs) changed.to) ≡ false = le-ltb _ _ (omega (arith, is.to, still)) in
+    let untouched : has_changed (Between lo (length xs)) changed ≡ false = ap₂ (λ a b. a || b) unwritten undropped in
+    sym (last_is_range n ys)
+    ∙ ap (λ m. slice_range ys (m - n) m) same
+    ∙ applied_elsewhere xs ys e changed lo (length xs) made is untouched
+    ∙ last_is_range n xs
 
--- an accepted write leaves a range without its index
-pub write_elsewhere : (h new : History) (i : ℕ) (x : ℤ) → replayed h.journal ≡ Some (list_of h.journal) → verdict_of h.limits h.journal (Write i x) ≡ None → new ≡ with_edit h (Write i x) → SameElsewhere (written_at i) h.journal new.journal
-write_elsewhere h new i x legal accepted made = λ lo hi apart.
-    let possible = accepted_is_possible h.limits h.journal (Write i x) accepted in
-    let next = list_of-snoc h.journal (Write i x) possible.0 legal possible.1 in
-    ap (λ (g : History). slice_range (list_of g.journal) lo hi) made
-    ∙ ap (λ zs. slice_range zs lo hi) next.1
-    ∙ written_elsewhere (list_of h.journal) possible.0 i x (written_at i) lo hi possible.1 refl apart
+-- an accepted edit does
+pub edit_elsewhere : (h : History) (e : Edit) (changed : Changed) (span : Span) → IsLegalInLimits h → verdict_of h.limits h.journal e ≡ None → IsChangedBy (list_of h.journal) e changed
+    → has_changed span changed ≡ false → span_of span (list_of (h.journal ++ e ∷ [])) ≡ span_of span (list_of h.journal)
+edit_elsewhere h e changed span within accepted is apart =
+    let possible = accepted_is_possible h.limits h.journal e accepted in
+    let next = list_of-snoc h.journal e possible.0 within.legal possible.1 in
+    let long : length possible.0 ≡ size_after (length (list_of h.journal)) e = ap length (sym next.1) ∙ (size_by_edit h e within accepted).0 in
+    ap (span_of span) next.1 ∙ span_elsewhere (list_of h.journal) possible.0 e changed span possible.1 long is apart
 
 -- one more element at the end is the last of a range that has its index
 pub more_inside : {A : Type 0} (xs : List A) (x : A) (lo hi : ℕ) → has_index lo hi (length xs) ≡ true → slice_range (xs ++ x ∷ []) lo hi ≡ slice_range xs lo hi ++ x ∷ []
@@ -202,15 +208,16 @@ more_inside xs x lo hi inside =
     ∙ take_all (hi - lo) (drop lo xs ++ x ∷ []) (omega (arith, parts.0, parts.1, length-append (drop lo xs) (x ∷ []), length-drop lo xs))
     ∙ sym (ap (λ ys. ys ++ x ∷ []) (take_all (hi - lo) (drop lo xs) (omega (arith, parts.0, parts.1, length-drop lo xs))))
 
--- so a range that has the index of an element that was pushed ends with it
-pub pushed_inside : (old new : List Edit) (changed : Changed) (pushed : Option ℤ) (lo hi : ℕ) → has_changed lo hi changed ≡ true → IfSome pushed (IsPushed changed old new)
-    → IfSome pushed (λ x. slice_range (list_of new) lo hi ≡ slice_range (list_of old) lo hi ++ x ∷ [])
-pushed_inside old new changed None lo hi inside is = tt
-pushed_inside old new changed (Some x) lo hi inside is =
-    ap (λ ys. slice_range ys lo hi) is.1 ∙ more_inside (list_of old) x lo hi (is.0 lo hi inside)
+-- so a span that has the index of an element that was pushed ends with it, if it is joined to that span
+pub pushed_inside : (old new : List Edit) (changed : Changed) (span : Span) (x : ℤ) → has_changed span changed ≡ true → IfSome changed.pushed (IsPushed changed old new) → joined_to span changed.pushed ≡ Some x
+    → span_of span (list_of new) ≡ span_of span (list_of old) ++ x ∷ []
+pushed_inside old new changed (Last n) x inside is joined = absurd (none-some x joined)
+pushed_inside old new changed (Between lo hi) x inside is joined =
+    let pushed = subst (λ p. IfSome p (IsPushed changed old new)) joined is in
+    ap (λ ys. slice_range ys lo hi) pushed.1 ∙ more_inside (list_of old) x lo hi (pushed.0 lo hi inside)
 
 -- where an edit writes at one index alone, and drops none, a range with an index that changed has that index
-has_only : (changed : Changed) (n lo hi : ℕ) → indices_in changed.written ≡ n ∷ [] → changed.to ≤ changed.from → has_changed lo hi changed ≡ true → has_index lo hi n ≡ true
+has_only : (changed : Changed) (n lo hi : ℕ) → indices_in changed.written ≡ n ∷ [] → changed.to ≤ changed.from → has_changed (Between lo hi) changed ≡ true → has_index lo hi n ≡ true
 has_only changed n lo hi one none inside =
     sym (ap (has_written lo hi) (same_touched changed.written (One n) one))
     ∙ sym (or-false (has_written lo hi changed.written))
@@ -230,8 +237,3 @@ push_is_last h (Write i x) changed legal accepted is = tt
 push_is_last h (Reserve n) changed legal accepted is = tt
 push_is_last h (Swap i j) changed legal accepted is = tt
 push_is_last h (Truncate n) changed legal accepted is = tt
-
--- the elements that the range of an entry has after some edits, and none where there is no entry
-abbrev pub range_at : List Edit → Option (List ℕ × Watch) → List ℤ
-range_at edits None = []
-range_at edits (Some e) = slice_range (list_of edits) e.1.lo e.1.hi

@@ -1,9 +1,6 @@
--- What the code of standing queries passes on from one to the next: which indices an edit changed, and what that makes of the entries.
-use Rattle.std.specs.Prelude.{◌≡◌, ◌≢◌, ◌⊎◌, ◌<◌, ◌≤◌, ℕ, ℤ, Bool, ◌&&◌, ◌||◌, max, min, Option, Some, None, true, false, Result, IfOk, OnErr, List, [], ◌∷◌, ◌+◌, ◌-◌, length, filter, nat_eq, nat_le, nat_lt, not, ◌++◌, slice_get}
-use Rattle.std.specs.List.{slice_range}
-use Rattle.indexmap.specs.IndexMap.{set_value_at}
+-- What the code of standing queries passes on from one to the next: what an edit changed, and how far the queries were brought up to it.
+use Rattle.std.specs.Prelude.{◌≡◌, ℕ, ℤ, Bool, ◌&&◌, ◌||◌, max, min, Option, Some, None, true, false, Result, IfOk, OnErr, List, [], ◌∷◌, ◌+◌, ◌-◌, length, filter, map, take, drop, nat_eq, nat_le, nat_lt, not, ◌++◌}
 use Rattle.lv_geometry.specs.declared.refusals.Refusal.{Refusal}
-use Rattle.lv_bodies.specs.declared.kinds.Shown.{Shown}
 use Rattle.lv_bodies.specs.declared.sixes.Six.{Six}
 use Rattle.lv_bodies.specs.Six.{SixSummary}
 use Rattle.lv_edits.specs.declared.edit.Edit.{Edit}
@@ -18,17 +15,16 @@ use Rattle.lv_live.specs.Follows.{indices_in}
 use Rattle.lv_live.specs.State.{LiveState, SameRefresh}
 use Rattle.lv_tree.specs.declared.kind_summaries.KindSummary.{KindSummary}
 use Rattle.lv_tree.specs.Kinds.{KindsState}
-use Rattle.lv_tree.specs.KindSummaries.{kind_of, shown_of}
 use Rattle.lv_standing.specs.declared.changes.Changed.{Changed}
-use Rattle.lv_standing.specs.declared.watches.Watch.{Watch}
 use Rattle.lv_standing.specs.declared.notes.Note.{Note}
 use Rattle.lv_standing.specs.declared.queries.Query.{Query}
-use Rattle.lv_standing.specs.Queries.{AreNotes, TellsNotes}
-use Rattle.lv_standing.specs.Standings.{IsCurrent, IsStanding, LeavesUnasked, queries_of, query_at, summary_at}
+use Rattle.lv_standing.specs.declared.spans.Span.{Span}
+use Rattle.lv_standing.specs.declared.spans.Span.TheVariants.{Between, Last}
+use Rattle.lv_standing.specs.Queries.{AddsNotesOf, TellsNotes, span_of, watch_answer}
+use Rattle.lv_standing.specs.QuerySets.{QuerySetState}
+use Rattle.lv_standing.specs.Standings.{IsStanding, LeavesUnasked, summary_at}
 
--- the entry with the summary after these edits
-abbrev pub refreshed : List Edit → List ℕ × Watch → List ℕ × Watch
-refreshed edits entry = (entry.0, record entry.1 { summary = summary_at edits entry.1 })
+-- ---- what an edit changes
 
 -- how many elements a vector of this size has after an edit that it accepts
 abbrev pub size_after : ℕ → Edit → ℕ
@@ -48,15 +44,12 @@ pushed_by (Reserve n) = None
 pushed_by (Swap i j) = None
 pushed_by (Truncate n) = None
 
--- what an edit of a list changes: the indices at which it writes, and those that it drops, from the size after it up to the size before it
+-- what an edit of a list changes: the indices at which it writes, how many elements there are after it and before, and what it pushes
 pub record IsChangedBy (xs : List ℤ) (edit : Edit) (changed : Changed) : Type 0 where
   pub written : indices_in changed.written ≡ indices_written xs edit
   pub from : changed.from ≡ size_after (length xs) edit
   pub to : changed.to ≡ length xs
-
--- what a write at an index changes: that index, and it drops none
-abbrev pub written_at : ℕ → Changed
-written_at i = record { written = One i; from = 0; to = 0 }
+  pub pushed : changed.pushed ≡ pushed_by edit
 
 -- whether a range has an index
 abbrev pub has_index : ℕ → ℕ → ℕ → Bool
@@ -68,68 +61,52 @@ has_written lo hi Nothing = false
 has_written lo hi (One i) = has_index lo hi i
 has_written lo hi (Two i j) = not (nat_eq i j) && (has_index lo hi i || has_index lo hi j)
 
--- whether a range has one of the indices that changed
-abbrev pub has_changed : ℕ → ℕ → Changed → Bool
-has_changed lo hi changed = has_written lo hi changed.written || nat_lt (max lo changed.from) (min hi changed.to)
+-- whether a span has an element that changed; the last so many also change with each edit that changes how many there are
+abbrev pub has_changed : Span → Changed → Bool
+has_changed (Between lo hi) changed = has_written lo hi changed.written || nat_lt (max lo changed.from) (min hi changed.to)
+has_changed (Last n) changed = not (nat_eq changed.to changed.from) || has_written (changed.to - n) changed.to changed.written
 
--- an element was pushed: it stands behind all others, and each range that has an index that changed has its index
+-- each span without any has the same elements after both
+abbrev pub SameElsewhere : Changed → List Edit → List Edit → Type 0
+SameElsewhere changed old new = (span : Span) → has_changed span changed ≡ false → span_of span (list_of new) ≡ span_of span (list_of old)
+
+-- an element was pushed: it stands behind all others, and each range that has an element that changed has its index
 abbrev pub IsPushed : Changed → List Edit → List Edit → ℤ → Type 0
 IsPushed changed old new x =
-    ((lo hi : ℕ) → has_changed lo hi changed ≡ true → has_index lo hi (length (list_of old)) ≡ true) × (list_of new ≡ list_of old ++ x ∷ [])
+    ((lo hi : ℕ) → has_changed (Between lo hi) changed ≡ true → has_index lo hi (length (list_of old)) ≡ true) × (list_of new ≡ list_of old ++ x ∷ [])
 
--- the entries whose range has one of them
-abbrev pub asked : Changed → List (List ℕ × Watch) → List (List ℕ × Watch)
-asked changed entries = filter (λ entry. has_changed entry.1.lo entry.1.hi changed) entries
+-- the element that a push brings at the end of a span: to none of the last so many, since the first of those may go
+abbrev pub joined_to : Span → Option ℤ → Option ℤ
+joined_to (Between lo hi) pushed = pushed
+joined_to (Last n) pushed = None
 
--- each range without any of them has the same elements after both
-abbrev pub SameElsewhere : Changed → List Edit → List Edit → Type 0
-SameElsewhere changed old new = (lo hi : ℕ) → has_changed lo hi changed ≡ false → slice_range (list_of new) lo hi ≡ slice_range (list_of old) lo hi
+-- ---- how far the queries were brought up to an edit
 
--- the entry at an index, whatever there is, meets a claim
-abbrev pub AtIndex : List (List ℕ × Watch) → ℕ → (List ℕ × Watch → Type 0) → Type 0
-AtIndex entries i P = (e : List ℕ × Watch) → slice_get entries i ≡ Some e → P e
+-- the queries of which an element changed
+abbrev pub asked : Changed → List Query → List Query
+asked changed queries = filter (λ q. has_changed q.span changed) queries
 
--- each entry before an index keeps the summary of its range after these edits
-abbrev pub AreTold : List Edit → List (List ℕ × Watch) → ℕ → Type 0
-AreTold edits entries i = (j : ℕ) → j < i → AtIndex entries j (IsCurrent edits)
+-- what one function gives for the queries before a place, and another for the rest
+abbrev pub up_to : {A : Type 0} → (Query → A) → (Query → A) → ℕ → List Query → List A
+up_to now before i queries = map now (take i queries) ++ map before (drop i queries)
 
--- two watches have one range and one kind
-abbrev pub IsAlike : Watch → Watch → Type 0
-IsAlike a b = (a.lo ≡ b.lo) × (a.hi ≡ b.hi) × (kind_of a.summary ≡ kind_of b.summary)
+-- the queries before a place count as told their answers after an edit, and have their summaries after it; the rest those before it
+pub record AreToldUpTo (old new : List Edit) (i : ℕ) (set : QuerySetState Query) (summaries : List KindSummary) : Type 0 where
+  pub told : set.told ≡ up_to (watch_answer new) (watch_answer old) i set.queries
+  pub summaries_are : summaries ≡ up_to (summary_at new) (summary_at old) i set.queries
 
--- there is a note of a value where it is another than before, and else none
-abbrev pub IsNoted : List ℕ → Shown → Shown → List Note → List Note → Type 0
-IsNoted name before value notes more =
-    ((value ≡ before) × (more ≡ notes))
-    ⊎ ((value ≢ before) × (more ≡ notes ++ record { name = name; value = value } ∷ []))
-
--- the entry at an index was brought up to an edit where its range has an index that the edit changed: it keeps the summary after,
--- and where its answer is another than before there is a note of it
-pub record IsToldAt (changed : Changed) (old new : List Edit) (before after : List (List ℕ × Watch)) (i : ℕ) (notes more : List Note) (e : List ℕ × Watch) : Type 0 where
-  pub told : List Note
-  pub notes_are : more ≡ notes ++ told
-  pub are : AreNotes old new (query_at e ∷ []) told
-  pub few : length told ≤ length (asked changed (e ∷ []))
-  pub entries : after ≡ set_value_at before i (refreshed new e).1
-
--- the entry at an index keeps another summary, and there is a note of its answer where that is another than before
-pub record IsKeptAs (s : KindSummary) (before after : List (List ℕ × Watch)) (i : ℕ) (notes more : List Note) (e : List ℕ × Watch) : Type 0 where
-  pub entries : after ≡ set_value_at before i (record e.1 { summary = s })
-  pub noted : IsNoted e.0 (shown_of e.1.summary) (shown_of s) notes more
-
--- the notes of an edit stand behind those of a list
-pub record AddsNotes (old new : List Edit) (queries : List Query) (notes more : List Note) : Type 0 where
-  pub told : List Note
-  pub more_is : more ≡ notes ++ told
-  pub are : AreNotes old new queries told
+-- the notes of the queries before a place stand behind those of a list
+abbrev pub AddsNotesUpTo : List Edit → List Edit → ℕ → List Query → List Note → List Note → Type 0
+AddsNotesUpTo old new i queries notes more =
+    AddsNotesOf (take i queries) (take i (map (watch_answer old) queries)) (take i (map (watch_answer new) queries)) notes more
 
 -- an edit of a vector with queries was answered: it tells what it is to tell, behind the notes that there are, and nothing where it is
 -- refused
-pub record AnswersNoted (before after : LiveState Six SixSummary) (entries now : List (List ℕ × Watch)) (kinds left : KindsState) (ahead more : List Note) (edit : Edit) (result : Result Receipt Refusal) : Type 0 where
+pub record AnswersNoted (before after : LiveState Six SixSummary) (set now : QuerySetState Query) (summaries : List KindSummary) (kinds left : KindsState) (ahead more : List Note) (edit : Edit) (result : Result Receipt Refusal) : Type 0 where
   pub answer : Answers before.history edit result after.history
   pub refresh : SameRefresh before after
-  pub standing : IsStanding after now left
-  pub queries : queries_of now ≡ queries_of entries
-  pub others : LeavesUnasked (queries_of entries) kinds left
-  pub notes : IfOk result (λ _. TellsNotes before.history.journal after.history.journal (queries_of entries) ahead more)
+  pub standing : IsStanding after now summaries left
+  pub queries : now.queries ≡ set.queries
+  pub others : LeavesUnasked set.queries kinds left
+  pub notes : IfOk result (λ _. TellsNotes before.history.journal after.history.journal set.queries ahead more)
   pub untold : OnErr result (more ≡ ahead)

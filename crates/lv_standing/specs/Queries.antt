@@ -1,18 +1,28 @@
 -- Standing queries: what each answers, and which notes an edit sends.
-use Rattle.std.specs.Prelude.{◌≡◌, ◌≢◌, ◌⊎◌, ◌≤◌, ℕ, ℤ, Option, Some, None, List, [], ◌∷◌, ◌++◌, length, filter, not, nat_lt, if◌then◌else◌}
+use Rattle.std.specs.Prelude.{◌≡◌, ◌≤◌, ◌-◌, ◌&&◌, ℕ, ℤ, Bool, true, false, Option, Some, None, List, [], ◌∷◌, ◌++◌, drop, length, filter, map, not, int_le, nat_eq, nat_lt, if◌then◌else◌}
+use Rattle.std.specs.Bool.{beq}
+use Rattle.std.specs.Int.{w64, cast_signed}
 use Rattle.std.specs.List.{slice_range}
+use Rattle.std.specs.Option.{option_eq, option_map_or}
+use Rattle.std.specs.Ordering.{int_eq}
 use Rattle.std.specs.Str.{bytes_eq}
 use Rattle.lv_geometry.specs.declared.refusals.Refusal.{Refusal}
 use Rattle.lv_geometry.specs.declared.refusals.Refusal.TheVariants.{BadRange, NameTaken, TooMany}
 use Rattle.lv_bodies.specs.declared.kinds.Kind.{Kind}
 use Rattle.lv_bodies.specs.declared.kinds.Shown.{Shown}
+use Rattle.lv_bodies.specs.declared.kinds.Shown.TheVariants.{Sum, Least, Greatest, Best, Affine, Automaton}
 use Rattle.lv_bodies.specs.Plain.{plain_value}
 use Rattle.lv_edits.specs.declared.edit.Edit.{Edit}
 use Rattle.lv_edits.specs.History.{list_of}
 use Rattle.lv_edits.specs.Ranges.{range_refusal, slice_of}
+use Rattle.lv_tree.specs.declared.places.Bound.{Bound}
+use Rattle.lv_tree.specs.declared.places.Bound.TheVariants.{AtLeast, AtMost}
 use Rattle.lv_standing.specs.declared.notes.Answered.{Answered}
 use Rattle.lv_standing.specs.declared.notes.Note.{Note}
 use Rattle.lv_standing.specs.declared.queries.Query.{Query}
+use Rattle.lv_standing.specs.declared.spans.Span.{Span}
+use Rattle.lv_standing.specs.declared.spans.Span.TheVariants.{Between, Last}
+use Rattle.lv_standing.specs.QuerySets.{AddsDue, AreDue}
 
 -- what is shown of a range at the last edit, by what is shown of a list: nothing refuses the range
 pub record IsShown (plain : List ℤ → Shown) (edits : List Edit) (lo hi : ℕ) (answered : Answered) : Type 0 where
@@ -24,17 +34,71 @@ pub record IsShown (plain : List ℤ → Shown) (edits : List Edit) (lo hi : ℕ
 abbrev pub IsValue : List Edit → Kind → ℕ → ℕ → Answered → Type 0
 IsValue edits kind = IsShown (plain_value kind) edits
 
--- what a query answers after some edits: the plain value of the elements that its range has
-abbrev pub watch_answer : List Edit → Query → Shown
-watch_answer edits q = plain_value q.kind (slice_range (list_of edits) q.lo q.hi)
+-- ---- what a query answers
 
--- the notes of an edit, by the edits before and after it: one for each query, in order, whose answer it changed, with the
--- answer after
+-- the elements of a list in a span: those under the indices of a range, or the last so many, as many of them as there are
+abbrev pub span_of : Span → List ℤ → List ℤ
+span_of (Between lo hi) xs = slice_range xs lo hi
+span_of (Last n) xs = drop (length xs - n) xs
+
+-- what a query answers after some edits: the plain value of the elements in its span
+abbrev pub watch_answer : List Edit → Query → Shown
+watch_answer edits q = plain_value q.kind (span_of q.span (list_of edits))
+
+-- what a query counts as told before its first note: its answer of no elements
+abbrev pub untold : Query → Shown
+untold q = plain_value q.kind []
+
+-- ---- when a note is due
+
+-- whether two answers are the same
+abbrev pub same_value : Shown → Shown → Bool
+same_value (Sum a) (Sum b) = nat_eq a b
+same_value (Least a) (Least b) = option_eq int_eq a b
+same_value (Greatest a) (Greatest b) = option_eq int_eq a b
+same_value (Best a) (Best b) = option_eq int_eq a b
+same_value (Affine a b) (Affine c d) = nat_eq a c && nat_eq b d
+same_value (Automaton a) (Automaton b) = bytes_eq a b
+same_value _ _ = false
+
+-- the one number that an answer is, if it is one; a sum is signed here, by its 64 bits
+abbrev pub number_in : Shown → Option ℤ
+number_in (Sum n) = Some (cast_signed w64 n)
+number_in (Least x) = x
+number_in (Greatest x) = x
+number_in (Best x) = x
+number_in (Affine a b) = None
+number_in (Automaton states) = None
+
+-- whether a number is within a bound: at least so great, or at most
+abbrev pub is_within : Bound → ℤ → Bool
+is_within (AtLeast least) x = int_le least x
+is_within (AtMost most) x = int_le x most
+
+-- whether an answer is within a bound: none is not
+abbrev pub holds : Bound → Shown → Bool
+holds bound answer = option_map_or (is_within bound) (number_in answer) false
+
+-- whether it begins or ceases to be, from one answer to the next
+abbrev pub crosses : Bound → Shown → Shown → Bool
+crosses bound before now = not (beq (holds bound before) (holds bound now))
+
+-- whether a note is due: the answer is another than before; or if there is a bound, it begins or ceases to be within that
+abbrev pub is_due : Option Bound → Shown → Shown → Bool
+is_due None before now = not (same_value now before)
+is_due (Some bound) before now = crosses bound before now
+
+-- the notes of queries that answered so before, and answer so now: one for each, in order, of which a note is due, with its answer now
+abbrev pub AreNotesOf : List Query → List Shown → List Shown → List Note → Type 0
+AreNotesOf = AreDue (λ q. q.name) (λ q before now. is_due q.bound before now ≡ false) (λ q before now. is_due q.bound before now ≡ true)
+
+-- they stand behind the notes that a list had
+abbrev pub AddsNotesOf : List Query → List Shown → List Shown → List Note → List Note → Type 0
+AddsNotesOf = AddsDue (λ q. q.name) (λ q before now. is_due q.bound before now ≡ false) (λ q before now. is_due q.bound before now ≡ true)
+
+-- the notes of an edit, by the edits before and after it
 abbrev pub AreNotes : List Edit → List Edit → List Query → List Note → Type 0
-AreNotes old new [] notes = notes ≡ []
-AreNotes old new (q ∷ queries) notes =
-    ((watch_answer new q ≡ watch_answer old q) × AreNotes old new queries notes)
-    ⊎ ((watch_answer new q ≢ watch_answer old q) × (rest : List Note) × (notes ≡ record { name = q.name; value = watch_answer new q } ∷ rest) × AreNotes old new queries rest)
+AreNotes old new queries notes = AreNotesOf queries (map (watch_answer old) queries) (map (watch_answer new) queries) notes
 
 -- the notes of an edit stand behind those of a list, and there are at most 64 of them
 pub record TellsNotes (old new : List Edit) (queries : List Query) (notes more : List Note) : Type 0 where
@@ -42,6 +106,12 @@ pub record TellsNotes (old new : List Edit) (queries : List Query) (notes more :
   pub more_is : more ≡ notes ++ told
   pub are : AreNotes old new queries told
   pub few : length told ≤ 64
+
+-- ---- which queries there are
+
+-- the query of a range, that is told of at each change of its answer
+abbrev pub between : List ℕ → Kind → ℕ → ℕ → Query
+between name kind lo hi = record { name = name; kind = kind; span = Between lo hi; bound = None }
 
 -- the query of a name, if there is one
 abbrev pub query_of : List Query → List ℕ → Option Query
@@ -52,20 +122,20 @@ query_of (q ∷ queries) name = if bytes_eq q.name name then Some q else query_o
 abbrev pub without_query : List Query → List ℕ → List Query
 without_query queries name = filter (λ q. not (bytes_eq q.name name)) queries
 
--- what a query counts as told before its first note: its answer of no elements
-abbrev pub untold : Query → Shown
-untold q = plain_value q.kind []
-
 -- a name is taken where a query has it, else there may be as many queries as are allowed already
 abbrev pub name_refusal : ℕ → List Query → Option Query → Option Refusal
 name_refusal most queries (Some q) = Some NameTaken
 name_refusal most queries None = if nat_lt (length queries) most then None else Some TooMany
 
--- why a query is refused among others, of which so many are allowed, want of memory apart: its range is backwards, or its name is
--- taken, or there are as many as are allowed
+-- why a query of a name and a span is refused among others, of which so many are allowed, out of memory apart: its range is backwards, or
+-- its name is taken, or there are as many as are allowed
+abbrev pub span_refusal : ℕ → List Query → List ℕ → Span → Option Refusal
+span_refusal most queries name (Between lo hi) = if nat_lt hi lo then Some BadRange else name_refusal most queries (query_of queries name)
+span_refusal most queries name (Last n) = name_refusal most queries (query_of queries name)
+
 abbrev pub query_refusal : ℕ → List Query → Query → Option Refusal
-query_refusal most queries q = if nat_lt q.hi q.lo then Some BadRange else name_refusal most queries (query_of queries q.name)
+query_refusal most queries q = span_refusal most queries q.name q.span
 
 -- the same at a vector with standing queries, of which it has at most 64
 abbrev pub watch_refusal : List Query → List ℕ → ℕ → ℕ → Option Refusal
-watch_refusal queries name lo hi = if nat_lt hi lo then Some BadRange else name_refusal 64 queries (query_of queries name)
+watch_refusal queries name lo hi = span_refusal 64 queries name (Between lo hi)

@@ -1,5 +1,5 @@
 -- Sets of queries by name, whatever they ask: what a set has, and which notes are due.
-use Rattle.std.specs.Prelude.{◌≡◌, ◌⊎◌, ℕ, Option, List, [], ◌∷◌, ◌++◌, position}
+use Rattle.std.specs.Prelude.{◌≡◌, ◌⊎◌, ℕ, Option, List, [], ◌∷◌, ◌++◌, position, slice_set}
 use Rattle.std.specs.List.{remove}
 use Rattle.std.specs.Str.{bytes_eq}
 use Rattle.lv_bodies.specs.declared.kinds.Shown.{Shown}
@@ -24,6 +24,10 @@ module _ {Q : Type 0} where
   -- a set whose queries were answered so
   abbrev pub with_answers : QuerySetState Q → List Shown → QuerySetState Q
   with_answers s answers = record { queries = s.queries; told = s.told; answers = answers; most = s.most }
+
+  -- a set whose query at a place counts as told this answer
+  abbrev pub told_at : QuerySetState Q → ℕ → Shown → QuerySetState Q
+  told_at s at answer = record s { told = slice_set s.told at answer }
 
   -- a set whose queries count as told what they were answered
   abbrev pub with_told : QuerySetState Q → QuerySetState Q

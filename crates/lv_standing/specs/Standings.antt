@@ -1,6 +1,5 @@
 -- What a vector with standing queries holds.
-use Rattle.std.specs.Prelude.{◌≡◌, ◌≢◌, ◌≤◌, ℕ, All, List, length, map}
-use Rattle.std.specs.List.{AllByRecursion, slice_range}
+use Rattle.std.specs.Prelude.{◌≡◌, ◌≢◌, ◌≤◌, ℕ, All, AllPairs, List, length, map}
 use Rattle.lv_bodies.specs.declared.kinds.Kind.{Kind}
 use Rattle.lv_bodies.specs.declared.sixes.Six.{Six}
 use Rattle.lv_bodies.specs.Plain.{program_table}
@@ -11,9 +10,10 @@ use Rattle.lv_edits.specs.Kept.{IsLegalInLimits}
 use Rattle.lv_live.specs.State.{LiveState}
 use Rattle.lv_tree.specs.declared.kind_summaries.KindSummary.{KindSummary}
 use Rattle.lv_tree.specs.Kinds.{AreReady, HaveRoomFor, IsLeftOrFollows, KindsState, blocks_of, followed_by}
-use Rattle.lv_tree.specs.KindSummaries.{kind_of, summary_of}
-use Rattle.lv_standing.specs.declared.watches.Watch.{Watch}
+use Rattle.lv_tree.specs.KindSummaries.{summary_of}
 use Rattle.lv_standing.specs.declared.queries.Query.{Query}
+use Rattle.lv_standing.specs.Queries.{span_of, watch_answer}
+use Rattle.lv_standing.specs.QuerySets.{QuerySetState}
 
 -- a live vector of all six bodies, its standing queries in order of registration, and what it keeps by kind of what it was asked
 pub record StandingState : Type 0 where
@@ -21,21 +21,13 @@ pub record StandingState : Type 0 where
   pub queries : List Query
   pub kinds : KindsState
 
--- the query that a name and its watch stand for
-abbrev pub query_at : List ℕ × Watch → Query
-query_at entry = record { name = entry.0; kind = kind_of entry.1.summary; lo = entry.1.lo; hi = entry.1.hi }
+-- the summary of a query's elements after some edits, by its kind
+abbrev pub summary_at : List Edit → Query → KindSummary
+summary_at edits q = summary_of q.kind (span_of q.span (list_of edits))
 
--- the queries of all entries, in order
-abbrev pub queries_of : List (List ℕ × Watch) → List Query
-queries_of entries = map query_at entries
-
--- the summary of a watch's range after some edits, by the kind that it keeps
-abbrev pub summary_at : List Edit → Watch → KindSummary
-summary_at edits watch = summary_of (kind_of watch.summary) (slice_range (list_of edits) watch.lo watch.hi)
-
--- a watch keeps the summary of its range after these edits
-abbrev pub IsCurrent : List Edit → List ℕ × Watch → Type 0
-IsCurrent edits entry = entry.1.summary ≡ summary_at edits entry.1
+-- no two queries have one name
+abbrev pub HaveOwnNames : List Query → Type 0
+HaveOwnNames queries = AllPairs (λ a b. a.name ≢ b.name) queries
 
 -- no query is of a kind
 abbrev pub IsUnasked : List Query → Kind → Type 0
@@ -54,10 +46,13 @@ pub record LeavesOrFollowsUnasked (edits : List Edit) (queries : List Query) (ol
   pub followed : (k : Kind) → IsUnasked queries k → IsLeftOrFollows edits k old new
   pub room : (size : ℕ) → HaveRoomFor old size → HaveRoomFor new size
 
--- the vector is within its limits, there are at most 64 queries, each watch keeps the summary of its range at the last edit, what is
--- kept by kind is right for the vector, and there is room for all that it may be asked
-pub record IsStanding (live : LiveState Six SixSummary) (entries : List (List ℕ × Watch)) (kinds : KindsState) : Type 0 where
+-- the vector is within its limits, there are at most 64 queries, each by its own name, each counts as told what it answers at the last edit
+-- and has the summary of its elements, what is kept by kind is right for the vector, and there is room for all that it may be asked
+pub record IsStanding (live : LiveState Six SixSummary) (set : QuerySetState Query) (summaries : List KindSummary) (kinds : KindsState) : Type 0 where
   pub limits : IsLegalInLimits live.history
-  pub few : length entries ≤ 64
-  pub current : AllByRecursion (IsCurrent live.history.journal) entries
+  pub most : set.most ≡ 64
+  pub few : length set.queries ≤ 64
+  pub apart : HaveOwnNames set.queries
+  pub told : set.told ≡ map (watch_answer live.history.journal) set.queries
+  pub summaries_are : summaries ≡ map (summary_at live.history.journal) set.queries
   pub kept : AreReady program_table live.history.journal kinds

@@ -1,13 +1,14 @@
 //! Questions by one kind about a live vector.
 ghost use Rattle.std.specs.Prelude.{◌≡◌, ◌⊎◌, Some, IfOk, IfErr};
-ghost use Rattle.std.specs.List.{slice_range};
 ghost use Rattle.lv_bodies.specs.Plain.{program_table};
 ghost use Rattle.lv_edits.specs.History.{list_of};
 ghost use Rattle.lv_edits.specs.Ranges.{range_refusal};
 ghost use Rattle.lv_tree.specs.Asked.{IsKindAnswer};
 ghost use Rattle.lv_tree.specs.Kinds.{AreReady, IsCaughtUp, IsNear, LeavesOthers};
 ghost use Rattle.lv_tree.specs.KindSummaries.{summary_of};
+ghost use Rattle.lv_standing.specs.Queries.{span_of};
 
+use crate::spans::{Indices, Span};
 use lv_bodies::{Kind, Six};
 use lv_geometry::Refusal;
 use lv_live::Live;
@@ -33,16 +34,15 @@ pub fn ask_by_kind(
     kinds.ask(live.view().cells, kind, lo, hi)
 }
 
-/// The same of a range that may reach past the end: of what of it exists. Takes no memory.
-pub fn ask_inside(live: &Live<Six>, kinds: &mut Kinds, kind: Kind, lo: u32, hi: u32) -> KindSummary
+/// The same of the elements in a span. Takes no memory.
+pub fn ask_span(live: &Live<Six>, kinds: &mut Kinds, kind: Kind, span: Span) -> KindSummary
     requires { AreReady program_table live.now.history.journal kinds.old }
-    ensures value { result ≡ summary_of kind (slice_range (list_of live.now.history.journal) lo hi) }
+    ensures value { result ≡ summary_of kind (span_of span (list_of live.now.history.journal)) }
     ensures kept { AreReady program_table live.now.history.journal kinds.new }
     ensures others { LeavesOthers kind kinds.old kinds.new }
 {
-    let end = hi.min(live.size());
-    let start = lo.min(end);
-    match ask_by_kind(live, kinds, kind, start, end) {
+    let Indices { lo, hi } = span.indices_in(live.size());
+    match ask_by_kind(live, kinds, kind, lo, hi) {
         Ok(answer) => answer.summary,
         Err(_) => unreachable!(),
     }

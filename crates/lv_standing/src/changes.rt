@@ -2,44 +2,32 @@
 ghost use Rattle.std.specs.Prelude.{◌≡◌, ◌≤◌, ℤ, List, length};
 ghost use Rattle.lv_edits.specs.Touch.{indices_written};
 ghost use Rattle.lv_live.specs.Follows.{indices_in};
-ghost use Rattle.lv_standing.specs.Inner.{pushed_by, size_after, written_at};
+ghost use Rattle.lv_standing.specs.Inner.{IsChangedBy, pushed_by, size_after};
 
 use lv_edits::Edit;
 use lv_live::{Touched, touched_indices};
 
-/// The indices whose elements an edit changes, brings or drops: those at which it writes, and those that it drops, from the first up to
-/// the second, which is excluded. Most edits drop none.
+/// What an edit changes: the indices at which it writes; how many elements there are after it, and before; the element that it brings at
+/// the end, if it brings one. What it drops are the indices from the size after it up to the size before it.
 #[derive(Clone, Copy)]
 pub struct Changed {
     pub written: Touched,
     pub from: u32,
     pub to: u32,
+    pub pushed: Option<i64>,
 }
 
-/// What an edit of a vector of this size changes: what it drops lies from the size after it up to the size before it.
+/// What an edit of a vector of this size changes.
 #[inline(always)]
 pub fn changed_by(edit: &Edit, size: u32) -> Changed
     requires { size ≤ 1048568 }
-    ensures written { (xs : List ℤ) → length xs ≡ size → indices_in result.written ≡ indices_written xs edit.now }
-    ensures from { result.from ≡ size_after size edit.now }
-    ensures to { result.to ≡ size }
+    ensures { (xs : List ℤ) → length xs ≡ size → IsChangedBy xs edit.now result }
 {
     Changed {
         written: touched_indices(edit, size),
         from: size_after(edit, size),
         to: size,
-    }
-}
-
-/// What a write at an index changes. It drops no element, whatever the size.
-#[inline(always)]
-pub fn written_at(index: u32) -> Changed
-    ensures { result ≡ written_at index }
-{
-    Changed {
-        written: Touched::One(index),
-        from: 0,
-        to: 0,
+        pushed: pushed_by(edit),
     }
 }
 
@@ -57,9 +45,9 @@ pub fn size_after(edit: &Edit, size: u32) -> u32
     }
 }
 
-/// The element that an edit brings at the end, if it brings one.
+// The element that an edit brings at the end, if it brings one.
 #[inline(always)]
-pub fn pushed_by(edit: &Edit) -> Option<i64>
+fn pushed_by(edit: &Edit) -> Option<i64>
     ensures { result ≡ pushed_by edit.now }
 {
     match edit {

@@ -1,91 +1,69 @@
 //! Edits of a live vector with standing queries, and what each tells.
-ghost use Rattle.std.specs.Prelude.{◌≡◌, length};
+ghost use Rattle.std.specs.Prelude.{◌≡◌, None};
 ghost use Rattle.lv_edits.specs.declared.edit.Edit.{Edit as AnEdit};
 ghost use Rattle.lv_edits.specs.History.{History};
-ghost use Rattle.lv_standing.specs.Inner.{AnswersNoted, asked, written_at};
+ghost use Rattle.lv_edits.specs.Kept.{IsLegalInLimits};
+ghost use Rattle.lv_edits.specs.Verdict.{Answers, verdict_of};
+ghost use Rattle.lv_live.specs.State.{SameRefresh};
+ghost use Rattle.lv_tree.specs.Kinds.{AreReady, LeavesAll};
+ghost use Rattle.lv_standing.specs.Inner.{AnswersNoted};
 ghost use Rattle.lv_standing.specs.Standings.{IsStanding};
 
 use crate::beside::{make_beside, write_beside};
-use crate::changes::{changed_by, pushed_by, written_at};
+use crate::changes::changed_by;
 use crate::notes::Note;
-use crate::watches::{Watch, count_asked, tell};
-use indexmap::IndexMap;
-use lv_bodies::{Name, Six};
+use crate::queries::Query;
+use crate::query_set::QuerySet;
+use crate::watches::{count_asked, tell};
+use lv_bodies::Six;
 use lv_edits::{Edit, Receipt};
 use lv_geometry::Refusal;
 use lv_live::Live;
-use lv_tree::Kinds;
+use lv_tree::{KindSummary, Kinds};
 
-/// Makes an edit, and puts notes of the queries whose answer it changed behind the notes that there are. A write goes a way of its own;
-/// so does a push, on which the code for other kinds falls away.
+/// Makes an edit, and puts the notes that are due behind those that there are. A write goes a way of its own; so does a push, on which the
+/// code for other kinds falls away.
 #[inline(always)]
 pub fn edit_noted(
     live: &mut Live<Six>,
     kinds: &mut Kinds,
-    watches: &mut IndexMap<Name, Watch>,
+    set: &mut QuerySet<Query>,
+    summaries: &mut Vec<KindSummary>,
     edit: Edit,
     notes: &mut Vec<Note>,
 ) -> Result<Receipt, Refusal>
-    requires { IsStanding live.old watches.old.entries kinds.old }
-    ensures { AnswersNoted live.old live.new watches.old.entries watches.new.entries kinds.old kinds.new notes.old.items notes.new.items edit result }
+    requires { IsStanding live.old set.old summaries.old.items kinds.old }
+    ensures { AnswersNoted live.old live.new set.old set.new summaries.new.items kinds.old kinds.new notes.old.items notes.new.items edit result }
 {
     match edit {
-        Edit::Write { index, value } => write_noted(live, kinds, watches, index, value, notes),
-        Edit::Push(value) => push_noted(live, kinds, watches, value, notes),
-        _ => other_noted(live, kinds, watches, edit, notes),
+        Edit::Write { index, value } => {
+            write_noted(live, kinds, set, summaries, index, value, notes)
+        }
+        Edit::Push(value) => push_noted(live, kinds, set, summaries, value, notes),
+        _ => other_noted(live, kinds, set, summaries, edit, notes),
     }
 }
 
-// Overwrites an element. Where no query's range has its index nothing is told, and no room for notes is wanted.
+// Overwrites an element. If no query has it nothing is told, and no room for notes is made.
 #[inline(always)]
 fn write_noted(
     live: &mut Live<Six>,
     kinds: &mut Kinds,
-    watches: &mut IndexMap<Name, Watch>,
+    set: &mut QuerySet<Query>,
+    summaries: &mut Vec<KindSummary>,
     index: u32,
     value: i64,
     notes: &mut Vec<Note>,
 ) -> Result<Receipt, Refusal>
-    requires { IsStanding live.old watches.old.entries kinds.old }
-    ensures { AnswersNoted live.old live.new watches.old.entries watches.new.entries kinds.old kinds.new notes.old.items notes.new.items (AnEdit.Write index value) result }
+    requires { IsStanding live.old set.old summaries.old.items kinds.old }
+    ensures { AnswersNoted live.old live.new set.old set.new summaries.new.items kinds.old kinds.new notes.old.items notes.new.items (AnEdit.Write index value) result }
 {
-    let count = count_asked(watches, written_at(index));
-    if count == 0 {
+    let edit = Edit::Write { index, value };
+    let changed = changed_by(&edit, live.size());
+    if count_asked(set.queries(), changed) == 0 {
         return write_beside(live, kinds, index, value);
     }
-    write_told(live, kinds, watches, index, value, count, notes)
-}
-
-// The same where so many queries' ranges have its index.
-#[inline(never)]
-fn write_told(
-    live: &mut Live<Six>,
-    kinds: &mut Kinds,
-    watches: &mut IndexMap<Name, Watch>,
-    index: u32,
-    value: i64,
-    count: usize,
-    notes: &mut Vec<Note>,
-) -> Result<Receipt, Refusal>
-    ghost before: { History }
-    requires history { live.old.history ≡ before }
-    requires standing { IsStanding live.old watches.old.entries kinds.old }
-    requires count { count ≡ length (asked (written_at index) watches.old.entries) }
-    ensures { AnswersNoted live.old live.new watches.old.entries watches.new.entries kinds.old kinds.new notes.old.items notes.new.items (AnEdit.Write index value) result }
-{
-    if let Some(refusal) = live.verdict(&Edit::Write { index, value }) {
-        return Err(refusal);
-    }
-    let Ok(()) = notes.reserve(count) else {
-        return Err(Refusal::NoMemory);
-    };
-    match write_beside(live, kinds, index, value) {
-        Err(refusal) => Err(refusal),
-        Ok(receipt) => {
-            tell(live, kinds, watches, written_at(index), None, notes);
-            Ok(receipt)
-        }
-    }
+    other_noted(live, kinds, set, summaries, edit, notes)
 }
 
 // Puts an element at the end.
@@ -93,29 +71,31 @@ fn write_told(
 fn push_noted(
     live: &mut Live<Six>,
     kinds: &mut Kinds,
-    watches: &mut IndexMap<Name, Watch>,
+    set: &mut QuerySet<Query>,
+    summaries: &mut Vec<KindSummary>,
     value: i64,
     notes: &mut Vec<Note>,
 ) -> Result<Receipt, Refusal>
-    requires { IsStanding live.old watches.old.entries kinds.old }
-    ensures { AnswersNoted live.old live.new watches.old.entries watches.new.entries kinds.old kinds.new notes.old.items notes.new.items (AnEdit.Push value) result }
+    requires { IsStanding live.old set.old summaries.old.items kinds.old }
+    ensures { AnswersNoted live.old live.new set.old set.new summaries.new.items kinds.old kinds.new notes.old.items notes.new.items (AnEdit.Push value) result }
 {
-    make_noted(live, kinds, watches, Edit::Push(value), notes)
+    make_noted(live, kinds, set, summaries, Edit::Push(value), notes)
 }
 
-// Makes an edit of another kind.
+// Makes an edit of another kind, or a write that has to be told.
 #[inline(never)]
 fn other_noted(
     live: &mut Live<Six>,
     kinds: &mut Kinds,
-    watches: &mut IndexMap<Name, Watch>,
+    set: &mut QuerySet<Query>,
+    summaries: &mut Vec<KindSummary>,
     edit: Edit,
     notes: &mut Vec<Note>,
 ) -> Result<Receipt, Refusal>
-    requires { IsStanding live.old watches.old.entries kinds.old }
-    ensures { AnswersNoted live.old live.new watches.old.entries watches.new.entries kinds.old kinds.new notes.old.items notes.new.items edit result }
+    requires { IsStanding live.old set.old summaries.old.items kinds.old }
+    ensures { AnswersNoted live.old live.new set.old set.new summaries.new.items kinds.old kinds.new notes.old.items notes.new.items edit result }
 {
-    make_noted(live, kinds, watches, edit, notes)
+    make_noted(live, kinds, set, summaries, edit, notes)
 }
 
 // The same, with the room for the notes made before the edit.
@@ -124,27 +104,45 @@ fn other_noted(
 fn make_noted(
     live: &mut Live<Six>,
     kinds: &mut Kinds,
-    watches: &mut IndexMap<Name, Watch>,
+    set: &mut QuerySet<Query>,
+    summaries: &mut Vec<KindSummary>,
     edit: Edit,
     notes: &mut Vec<Note>,
 ) -> Result<Receipt, Refusal>
     ghost before: { History }
     requires history { live.old.history ≡ before }
-    requires standing { IsStanding live.old watches.old.entries kinds.old }
-    ensures { AnswersNoted live.old live.new watches.old.entries watches.new.entries kinds.old kinds.new notes.old.items notes.new.items edit result }
+    requires standing { IsStanding live.old set.old summaries.old.items kinds.old }
+    ensures { AnswersNoted live.old live.new set.old set.new summaries.new.items kinds.old kinds.new notes.old.items notes.new.items edit result }
 {
     if let Some(refusal) = live.verdict(&edit) {
         return Err(refusal);
     }
     let changed = changed_by(&edit, live.size());
-    let Ok(()) = notes.reserve(count_asked(watches, changed)) else {
+    let Ok(()) = notes.reserve(count_asked(set.queries(), changed)) else {
         return Err(Refusal::NoMemory);
     };
-    match make_beside(live, kinds, edit) {
+    match edit_beside(live, kinds, edit) {
         Err(refusal) => Err(refusal),
         Ok(receipt) => {
-            tell(live, kinds, watches, changed, pushed_by(&edit), notes);
+            tell(live, kinds, set, summaries, changed, notes);
             Ok(receipt)
         }
+    }
+}
+
+// Makes an edit that the vector's verdict allows, a write at once, and tells what is kept by kind of it.
+#[inline(always)]
+fn edit_beside(live: &mut Live<Six>, kinds: &mut Kinds, edit: Edit) -> Result<Receipt, Refusal>
+    requires verdict { verdict_of live.old.history.limits live.old.history.journal edit ≡ None }
+    requires kept { AreReady kinds.old.table live.old.history.journal kinds.old }
+    ensures answer { Answers live.old.history edit result live.new.history }
+    ensures limits { IsLegalInLimits live.new.history }
+    ensures refresh { SameRefresh live.old live.new }
+    ensures kept { AreReady kinds.old.table live.new.history.journal kinds.new }
+    ensures leaves { LeavesAll kinds.old kinds.new }
+{
+    match edit {
+        Edit::Write { index, value } => write_beside(live, kinds, index, value),
+        _ => make_beside(live, kinds, edit),
     }
 }

@@ -1,8 +1,9 @@
 //! Standing queries: names for questions about a live vector, and notes of the edits that change an answer.
 //!
 //! The model is the live vector's state and the list of the queries, in the order of their registration. Each answer is the
-//! plain value of the elements that the query's range has at the last edit, and an edit's notes are those of the queries, in
-//! order, whose answer it changed. Each query keeps the summary of its range by its own kind, so that a push costs it one join.
+//! plain value of the elements that the query's span has at the last edit. An edit's notes are those of the queries, in order, whose
+//! answer it changed, or if a query has a bound, whose answer begins or ceases to be within it. The summary of each query's elements is
+//! kept by the query's own kind, so that a push costs a range that ends with it one join.
 //! What is kept by kind follows the edits at questions: an edit costs a kind something only where a query of that kind is asked after it.
 //! Who keeps kinds beside a live vector of another body makes its edits by `make_beside`, `write_beside` and their like.
 //! It parses no text and starts no thread.
@@ -16,7 +17,9 @@ mod notes;
 mod queries;
 mod query_set;
 mod questions;
+mod spans;
 mod standing;
+mod thresholds;
 mod values;
 mod watches;
 
@@ -26,4 +29,5 @@ pub use notes::{Answered, Note};
 pub use queries::Query;
 pub use query_set::QuerySet;
 pub use questions::{Answers, Question};
+pub use spans::{Indices, Span};
 pub use standing::Standing;

@@ -1,7 +1,8 @@
 //! A set of queries by name, whatever they ask.
-ghost use Rattle.std.specs.Prelude.{◌≡◌, ◌+◌, ◌<◌, ◌≤◌, ◌∷◌, [], None, IfErr, OnErr, OnOk, length, map, vec_capacity, vec_len};
+ghost use Rattle.std.specs.Prelude.{◌≡◌, ◌+◌, ◌<◌, ◌≤◌, ◌∷◌, [], None, IfErr, OnErr, OnOk, get_or, length, map, vec_capacity, vec_len};
+ghost use Rattle.lv_bodies.specs.declared.kinds.Shown.{Shown as Told};
 ghost use Rattle.lv_edits.specs.Verdict.{IsRefusal};
-ghost use Rattle.lv_standing.specs.QuerySets.{AddsDue, place_of, with_answers, with_query, without_place, with_told};
+ghost use Rattle.lv_standing.specs.QuerySets.{AddsDue, place_of, told_at, with_answers, with_query, without_place, with_told};
 
 use crate::notes::Note;
 use crate::questions::{Answers, Question};
@@ -61,7 +62,7 @@ impl<Q: Question> QuerySet<Q> {
         }
     }
 
-    // Registers a query that nothing but a want of memory refuses.
+    // Registers a query that only a lack of memory refuses.
     fn add(&mut self, query: &Q, told: Shown) -> Result<(), Refusal>
         requires free { Q.refusal self.old.most self.old.queries query.now ≡ None }
         requires few { length self.old.queries < self.old.most }
@@ -136,6 +137,20 @@ impl<Q: Question> QuerySet<Q> {
         ensures capacity { vec_capacity notes.new ≡ vec_capacity notes.old }
     {
         note_each(&self.queries, &self.told, &self.answers, notes);
+    }
+
+    /// The query at a place answers so now: a note of that, if it is due, is put behind those that a list has, and the query counts as told it.
+    pub fn tell_at(&mut self, place: usize, answer: Shown, notes: &mut Vec<Note>)
+        requires within { place < length self.old.queries }
+        requires room { vec_len notes.old + 1 ≤ vec_capacity notes.old }
+        ensures told { self.new ≡ told_at self.old place answer }
+        ensures noted { (q : Q) (before : Told) → q ≡ get_or self.old.queries place q → before ≡ get_or self.old.told place before
+            → AddsDue Q.name_of Q.idle Q.due (q ∷ []) (before ∷ []) (answer ∷ []) notes.old.items notes.new.items }
+        ensures few { vec_len notes.new ≤ vec_len notes.old + 1 }
+        ensures capacity { vec_capacity notes.new ≡ vec_capacity notes.old }
+    {
+        note_one(&self.queries[place], &self.told[place], &answer, notes);
+        self.told[place] = answer;
     }
 
     /// Each counts as told what it was answered last.

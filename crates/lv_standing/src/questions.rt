@@ -8,6 +8,7 @@ ghost use Rattle.lv_standing.specs.Queries.{watch_answer};
 ghost use Rattle.lv_standing.specs.SetLaws.{live_answers_alike, live_may_ask_on, live_same, live_same_after_both};
 
 use crate::queries::Query;
+use crate::spans::Indices;
 use lv_bodies::{Name, Shown, Six, face};
 use lv_geometry::Refusal;
 use lv_live::Live;
@@ -82,11 +83,10 @@ impl Answers<Query> for Live<Six> {
 
     ghost answers_alike = { live_answers_alike };
 
-    // Of the range what exists is asked, and is cheap until an edit touches it.
+    // Of the span what exists is asked, and is cheap until an edit touches it.
     fn answer(&mut self, query: &Query) -> Shown {
-        let end = query.hi.min(self.size());
-        let start = query.lo.min(end);
-        match self.ask(start, end) {
+        let Indices { lo, hi } = query.span.indices_in(self.size());
+        match self.ask(lo, hi) {
             Ok(answer) => face(query.kind, answer.value),
             Err(_) => unreachable!(),
         }

@@ -18,17 +18,18 @@ ghost use Rattle.lv_live.specs.Step.{Step, accepted_reply, numbered_reply};
 ghost use Rattle.lv_live.specs.declared.events.Event.TheVariants as event;
 ghost use Rattle.lv_tree.specs.Kinds.{IsCaughtUp, IsNear, LeavesOthers};
 ghost use Rattle.lv_standing.specs.Standings.{LeavesOrFollowsUnasked};
-ghost use Rattle.lv_standing.specs.declared.queries.Query.{Query};
-ghost use Rattle.lv_standing.specs.Queries.{AreNotes, TellsNotes, query_of, watch_answer, watch_refusal, without_query, IsValue};
+ghost use Rattle.lv_standing.specs.declared.queries.Query.{Query as Asked};
+ghost use Rattle.lv_standing.specs.Queries.{AreNotes, TellsNotes, between, query_of, query_refusal, watch_answer, watch_refusal, without_query, IsValue};
 
 mod searches;
 
-use crate::asking::ask_inside;
+use crate::asking::ask_span;
 use crate::edits::edit_noted;
 use crate::notes::{Answered, Note};
+use crate::queries::Query;
+use crate::query_set::QuerySet;
+use crate::questions::Question;
 use crate::values::{SHORT, asked, folded};
-use crate::watches::Watch;
-use indexmap::IndexMap;
 use lv_bodies::{Automaton, Body, Kind, Name, Six, SixSummary};
 use lv_edits::{Edit, Receipt};
 use lv_geometry::{Limits, Node, Refusal};
@@ -36,26 +37,32 @@ use lv_live::{Issued, Live};
 use lv_reduce::Answer;
 use lv_refresh::{Job, Outcome};
 use lv_summary::Accepted;
-use lv_tree::Kinds;
+use lv_tree::{KindSummary, Kinds};
 use std::alloc::Global;
 use std::marker::Model;
+
+// How many queries there are at most.
+const MOST: usize = 64;
 
 /// A live vector of all six bodies, with standing queries by name. What it is asked by a kind is kept by that kind.
 #[derive(Drop)]
 pub struct Standing {
     live: Live<Six>,
-    watches: IndexMap<Name, Watch>,
+    // The queries, each of which counts as told what it answers at the last edit.
+    set: QuerySet<Query>,
+    // The summary of each query's elements by the query's kind, in the same order.
+    summaries: Vec<KindSummary>,
     kinds: Kinds,
 }
 
 impl Model for Standing {
-    ghost use Rattle.lv_standing.specs.Standings.{IsStanding, StandingState, queries_of};
+    ghost use Rattle.lv_standing.specs.Standings.{IsStanding, StandingState};
 
     ghost Value = { StandingState };
 
-    ghost view = { λ a. record { live = a.live; queries = queries_of a.watches.entries; kinds = a.kinds } };
+    ghost view = { λ a. record { live = a.live; queries = a.set.queries; kinds = a.kinds } };
 
-    ghost invariant = { λ a. IsStanding a.live a.watches.entries a.kinds };
+    ghost invariant = { λ a. IsStanding a.live a.set a.summaries.items a.kinds };
 }
 
 impl Standing {
@@ -69,36 +76,47 @@ impl Standing {
     {
         Standing {
             live: Live::new(alloc, limits, Six),
-            watches: IndexMap::new(alloc),
+            set: QuerySet::new(alloc, MOST),
+            summaries: Vec::new(alloc),
             kinds: Kinds::new(alloc, Automaton::program()),
         }
     }
 
-    /// Registers a query. Refused with `BadRange`, `NameTaken`, `TooMany`, then `NoMemory`. The range may reach past the end:
-    /// what of it exists is asked, by the query's kind, and no other kind follows more edits for it.
+    /// Registers a query of a range, from index `lo` up to `hi`, as `watch_query` does.
     pub fn watch(&mut self, name: Name, kind: Kind, lo: u32, hi: u32) -> Result<(), Refusal>
         ensures ok { OnOk result ((watch_refusal self.old.queries name lo hi ≡ None)
-            × (self.new.queries ≡ self.old.queries ++ record { name = name; kind = kind; lo = lo; hi = hi } ∷ [])) }
+            × (self.new.queries ≡ self.old.queries ++ between name kind lo hi ∷ [])) }
         ensures err { IfErr result (λ refusal. IsRefusal (watch_refusal self.old.queries name lo hi) refusal) }
         ensures unchanged { OnErr result (self.new.queries ≡ self.old.queries) }
         ensures live { self.new.live ≡ self.old.live }
         ensures others { LeavesOthers kind self.old.kinds self.new.kinds }
     {
-        if lo > hi {
-            return Err(Refusal::BadRange);
+        self.watch_query(&Query::between(name, kind, lo, hi))
+    }
+
+    /// Registers a query. Refused with `BadRange`, `NameTaken`, `TooMany`, then `NoMemory`. Its span may reach past the end: what of it
+    /// exists is asked, by the query's kind, and no other kind follows more edits for it.
+    pub fn watch_query(&mut self, query: &Query) -> Result<(), Refusal>
+        ensures ok { OnOk result ((query_refusal 64 self.old.queries query.now ≡ None) × (self.new.queries ≡ self.old.queries ++ query.now ∷ [])) }
+        ensures err { IfErr result (λ refusal. IsRefusal (query_refusal 64 self.old.queries query.now) refusal) }
+        ensures unchanged { OnErr result (self.new.queries ≡ self.old.queries) }
+        ensures live { self.new.live ≡ self.old.live }
+        ensures others { LeavesOthers query.now.kind self.old.kinds self.new.kinds }
+    {
+        if let Some(refusal) = query.refusal_among(self.set.queries(), MOST) {
+            return Err(refusal);
         }
-        if self.watches.contains_key(&name) {
-            return Err(Refusal::NameTaken);
-        }
-        if self.watches.len() >= 64 {
-            return Err(Refusal::TooMany);
-        }
-        let summary = ask_inside(&self.live, &mut self.kinds, kind, lo, hi);
-        let watch = Watch { lo, hi, summary };
-        let Ok(_) = self.watches.insert(name, watch) else {
+        let Ok(()) = self.summaries.reserve(1) else {
             return Err(Refusal::NoMemory);
         };
-        Ok(())
+        let summary = ask_span(&self.live, &mut self.kinds, query.kind, query.span);
+        match self.set.watch(query, summary.shown()) {
+            Err(refusal) => Err(refusal),
+            Ok(()) => {
+                self.summaries.push_reserved(summary);
+                Ok(())
+            }
+        }
     }
 
     /// Forgets a query; the others keep their order. Refused with `NoSuchName`.
@@ -109,30 +127,30 @@ impl Standing {
         ensures live { self.new.live ≡ self.old.live }
         ensures kinds { self.new.kinds ≡ self.old.kinds }
     {
-        // A map's keys are distinct, so that no second entry has the name.
-        let _ = self.watches.len();
-        let Some(_) = self.watches.shift_remove(&name) else {
+        let Some(place) = self.set.place(&name) else {
             return Err(Refusal::NoSuchName);
         };
+        self.set.forget(place);
+        self.summaries.remove(place);
         Ok(())
     }
 
     /// What a query answers at the last edit. Refused with `NoSuchName`.
     pub fn answer(&self, name: Name) -> Result<Answered, Refusal>
-        ensures ok { IfOk result (λ answered. (q : Query) × (query_of self.now.queries name ≡ Some q)
+        ensures ok { IfOk result (λ answered. (q : Asked) × (query_of self.now.queries name ≡ Some q)
             × (answered.edit ≡ length self.now.live.history.journal) × (answered.value ≡ watch_answer self.now.live.history.journal q)) }
         ensures err { IfErr result (λ refusal. (query_of self.now.queries name ≡ None) × (refusal ≡ Refusal.NoSuchName)) }
     {
-        match self.watches.get(&name) {
-            Some(watch) => Ok(Answered {
+        match self.set.place(&name) {
+            Some(place) => Ok(Answered {
                 edit: self.live.edit(),
-                value: watch.summary.shown(),
+                value: self.set.told()[place],
             }),
             None => Err(Refusal::NoSuchName),
         }
     }
 
-    /// Makes an edit, and tells of each query whose answer it changed, in order of registration, with the answer after. Refused
+    /// Makes an edit, and tells of each query of which a note is due, in order of registration, with the answer after. Refused
     /// as the vector's verdict says, then with `NoMemory`: the room for the notes, and for what may be kept by kind, is made before
     /// the edit. A kind follows it at once only where a query of that kind has to be asked, or many edits have waited.
     pub fn edit(&mut self, alloc: Global, edit: Edit) -> Result<(Receipt, Vec<Note>), Refusal>
@@ -167,7 +185,8 @@ impl Standing {
         let receipt = edit_noted(
             &mut self.live,
             &mut self.kinds,
-            &mut self.watches,
+            &mut self.set,
+            &mut self.summaries,
             edit,
             notes,
         )?;

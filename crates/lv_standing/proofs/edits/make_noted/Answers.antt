@@ -1,12 +1,12 @@
--- Proof of `make_noted`: makes an edit, and puts notes of the queries whose answer it changed behind the notes that there are.
-use Rattle.std.proofs.Common.{◌∙◌, ap, arith, length, subst, sym}
-use Rattle.std.specs.List.{AllByRecursion}
+-- Proof of `make_noted`: makes an edit, and puts the notes that are due behind those that there are.
+use Rattle.std.proofs.Common.{◌≡◌, ◌∙◌, ap, arith, length, map, subst, sym}
 use Rattle.lv_edits.specs.History.{History, list_of}
 use Rattle.lv_edits.specs.Kept.{IsLegalInLimits}
 use Rattle.lv_edits.specs.Verdict.{Accepts}
 use Rattle.lv_known.proofs.FoldableLaws.{can_fold}
-use Rattle.lv_standing.specs.Inner.{AddsNotes, IsChangedBy, size_after}
-use Rattle.lv_standing.specs.Standings.{IsCurrent, queries_of}
+use Rattle.lv_standing.specs.Inner.{IsChangedBy, asked}
+use Rattle.lv_standing.specs.Queries.{AddsNotesOf, watch_answer}
+use Rattle.lv_standing.specs.Standings.{summary_at}
 use Rattle.lv_standing.proofs.EditLaws.{pushed_last, same_elsewhere, still_ready, told_noted}
 use Rattle.lv_standing.proofs.edits.make_noted.Goals as goal
 
@@ -14,27 +14,27 @@ pub tell-requires : goal.tell-requires
 tell-requires g c =
     let here = c.requires.0 in
     let standing = c.requires.1 in
-    let new = c.make_beside.new.live in
-    let answer = subst (λ h. Accepts h c.args.edit c.in-Ok-make_beside.receipt new.history) here c.in-Ok-make_beside.ensures.answer in
+    let set = c.args.set.now in
+    let new = c.edit_beside.new.live in
+    let answer = subst (λ h. Accepts h c.args.edit c.in-Ok-edit_beside.receipt new.history) here c.in-Ok-edit_beside.ensures.answer in
     let legal = subst IsLegalInLimits here standing.limits in
-    let size = c.size.ensures ∙ ap (λ (h : History). length (list_of h.journal)) here in
-    let changed : IsChangedBy (list_of g.before.journal) c.args.edit c.changed_by-changed.result = record {
-      written = c.changed_by-changed.ensures.written (list_of g.before.journal) (sym size);
-      from = c.changed_by-changed.ensures.from ∙ ap (λ n. size_after n c.args.edit) size;
-      to = c.changed_by-changed.ensures.to ∙ size;
-    } in (
-      c.make_beside.ensures.limits,
+    let changed = c.changed_by-changed.result in
+    let is : IsChangedBy (list_of g.before.journal) c.args.edit changed = c.changed_by-changed.ensures (list_of g.before.journal) (sym (c.size.ensures ∙ ap (λ (h : History). length (list_of h.journal)) here)) in (
+      c.edit_beside.ensures.limits,
       (
-        still_ready c.args.live.now new c.args.watches.now.entries c.args.kinds.now c.make_beside.new.kinds c.args.notes.now.items c.args.edit standing c.make_beside.ensures.kept,
+        still_ready c.args.live.now new set c.args.summaries.now.items c.args.kinds.now c.edit_beside.new.kinds c.args.notes.now.items c.args.edit standing c.edit_beside.ensures.kept,
         (
           can_fold g.before legal,
           (
-            same_elsewhere g.before new.history c.args.edit c.changed_by-changed.result legal answer.verdict answer.journal changed,
+            same_elsewhere g.before new.history c.args.edit changed legal answer.verdict answer.journal is,
             (
-              pushed_last g.before new.history c.args.edit c.changed_by-changed.result legal answer.verdict answer.journal changed c.pushed_by.result c.pushed_by.ensures,
+              pushed_last g.before new.history c.args.edit changed legal answer.verdict answer.journal is,
               (
-                subst (λ (h : History). AllByRecursion (IsCurrent h.journal) c.args.watches.now.entries) here standing.current,
-                omega (arith, c.count_asked.ensures, c.in-Ok.ensures.ok),
+                subst (λ (h : History). set.told ≡ map (watch_answer h.journal) set.queries) here standing.told,
+                (
+                  subst (λ (h : History). c.args.summaries.now.items ≡ map (summary_at h.journal) set.queries) here standing.summaries_are,
+                  omega (arith, c.count_asked.ensures, c.in-Ok.ensures.ok, ap (λ l. length (asked changed l)) c.queries.ensures.queries),
+                ),
               ),
             ),
           ),
@@ -42,15 +42,11 @@ tell-requires g c =
       ),
     )
 
-pub returns-in-Ok-make_beside : goal.returns-in-Ok-make_beside
-returns-in-Ok-make_beside g c =
-    let here = c.requires.0 in
-    let old = c.args.live.now in
-    let new = c.make_beside.new.live in
-    let entries = c.args.watches.now.entries in
-    let receipt = c.in-Ok-make_beside.receipt in
-    let told = c.in-Ok-make_beside.ensures in
-    told_noted old new entries c.args.kinds.now c.tell.new.kinds c.args.notes.now.items c.args.edit c.requires.1 c.make_beside.new.kinds c.tell.new.watches.entries c.tell.new.notes.items receipt
-    told.answer told.limits told.refresh told.leaves c.tell.ensures.kept c.tell.ensures.others c.tell.ensures.entries
-    (subst (λ (h : History). AddsNotes h.journal new.history.journal (queries_of entries) c.args.notes.now.items c.tell.new.notes.items) (sym here)
-    (subst (λ ns. AddsNotes g.before.journal new.history.journal (queries_of entries) ns c.tell.new.notes.items) c.in-Ok.ensures.items c.tell.ensures.notes))
+pub returns-in-Ok-edit_beside : goal.returns-in-Ok-edit_beside
+returns-in-Ok-edit_beside g c =
+    let set = c.args.set.now in
+    let told = c.in-Ok-edit_beside.ensures in
+    told_noted c.args.live.now c.edit_beside.new.live set c.args.summaries.now.items c.args.kinds.now c.tell.new.kinds c.args.notes.now.items c.args.edit c.requires.1 c.edit_beside.new.kinds
+    c.tell.new.set c.tell.new.summaries.items c.tell.new.notes.items c.in-Ok-edit_beside.receipt
+    told.answer told.limits told.refresh told.leaves c.tell.ensures.kept c.tell.ensures.others c.tell.ensures.told c.tell.ensures.summaries
+    (subst (λ ns. AddsNotesOf set.queries set.told c.tell.new.set.told ns c.tell.new.notes.items) c.in-Ok.ensures.items c.tell.ensures.notes)

@@ -1,9 +1,9 @@
--- What the loop keeps in `tell`: brings each query up to an edit whose range has an index that the edit changed.
-use Rattle.std.proofs.Common.{◌≡◌, ◌+◌, ◌≤◌, ◌++◌, length, map, take, drop, vec_capacity}
+-- What the loop keeps in `tell`: the queries so far were brought up to the edit, and told.
+use Rattle.std.proofs.Common.{◌≡◌, ◌+◌, ◌≤◌, length, drop, vec_capacity, vec_len}
 use Rattle.lv_bodies.specs.Plain.{program_table}
 use Rattle.lv_tree.specs.Kinds.{AreReady}
-use Rattle.lv_standing.specs.Inner.{AddsNotes, asked, refreshed}
-use Rattle.lv_standing.specs.Standings.{LeavesUnasked, queries_of}
+use Rattle.lv_standing.specs.Inner.{AddsNotesUpTo, AreToldUpTo, asked}
+use Rattle.lv_standing.specs.Standings.{LeavesUnasked}
 use Rattle.lv_standing.proofs.watches.tell.Given as goal
 
 abbrev pub ghost-tell_one : goal.ghost-tell_one
@@ -12,11 +12,12 @@ ghost-tell_one g a = g.old
 abbrev pub invariant-loop-i : goal.invariant-loop-i
 invariant-loop-i g l =
     let new = l.live.history.journal in
-    let all = l.initial.watches.entries in
+    let queries = l.initial.set.queries in
     record {
+      set : l.set ≡ record l.initial.set { told = l.set.told };
+      told : AreToldUpTo g.old new l.i l.set l.summaries.items;
+      notes : AddsNotesUpTo g.old new l.i queries l.initial.notes.items l.notes.items;
+      room : vec_len l.notes + length (asked l.changed (drop l.i queries)) ≤ vec_capacity l.notes;
       kept : AreReady program_table new l.kinds;
-      others : LeavesUnasked (queries_of all) l.initial.kinds l.kinds;
-      entries : l.watches.entries ≡ map (refreshed new) (take l.i all) ++ drop l.i all;
-      notes : AddsNotes g.old new (queries_of (take l.i all)) l.initial.notes.items l.notes.items;
-      room : length l.notes.items + length (asked l.changed (drop l.i all)) ≤ vec_capacity l.notes;
+      others : LeavesUnasked queries l.initial.kinds l.kinds;
     }

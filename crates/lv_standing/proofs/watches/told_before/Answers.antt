@@ -1,22 +1,17 @@
--- Proof of `told_before`: the summary that one of the six queries before an index keeps.
-use Rattle.std.proofs.Common.{◌≡◌, ◌∙◌, ◌<◌, ℕ, List, ap, slice_range}
-use Rattle.lv_edits.specs.declared.edit.Edit.{Edit}
+-- Proof of `told_before`: the summary of one of the six queries before a place, if one is alike.
+use Rattle.std.proofs.Common.{◌∙◌, ap, ap₂, sym}
 use Rattle.lv_edits.specs.History.{list_of}
-use Rattle.lv_tree.specs.KindSummaries.{kind_of, summary_of}
-use Rattle.lv_standing.specs.declared.watches.Watch.{Watch}
-use Rattle.lv_standing.specs.Inner.{IsAlike}
+use Rattle.lv_tree.specs.KindSummaries.{summary_of}
+use Rattle.lv_standing.specs.Queries.{span_of}
 use Rattle.lv_standing.specs.Standings.{summary_at}
+use Rattle.lv_standing.proofs.TellLaws.{at_front}
 use Rattle.lv_standing.proofs.watches.told_before.Goals as goal
-
--- watches of one range and kind have one summary
-same_summary : (edits : List Edit) (a b : Watch) → IsAlike a b → summary_at edits a ≡ summary_at edits b
-same_summary edits a b alike =
-    ap (λ k. summary_of k (slice_range (list_of edits) a.lo a.hi)) alike.2
-    ∙ ap (λ lo. summary_of (kind_of b.summary) (slice_range (list_of edits) lo a.hi)) alike.0
-    ∙ ap (λ hi. summary_of (kind_of b.summary) (slice_range (list_of edits) b.lo hi)) alike.1
 
 pub returns-then-is_alike : goal.returns-then-is_alike
 returns-then-is_alike c =
-    let there : List ℕ × Watch = (c.watch_at.result.0.now, c.watch_at.result.1.now) in
-    let before : c.loop-j.j < c.args.i = c.loop-j-test.true in
-    c.requires.told c.loop-j.j before there c.watch_at.ensures ∙ same_summary c.args._live.now.history.journal there.1 c.args.watch.now (c.is_alike.ensures.0 c.if-is_alike.true)
+    let edits = c.args._live.now.history.journal in
+    let other = c.index-queries-j.result in
+    let alike = c.is_alike.ensures.0 c.if-is_alike.true in
+    at_front (summary_at edits) c.args.queries.now c.args.summaries.now c.args.i c.loop-j.j other _ c.requires.told c.loop-j-test.true c.requires.within
+    ∙ ap (summary_at edits) (sym c.index-queries-j.is)
+    ∙ ap₂ (λ span kind. summary_of kind (span_of span (list_of edits))) alike.0 alike.1

@@ -1,4 +1,4 @@
--- What the loop keeps in `told_before`: the summary that one of the six queries before an index keeps.
+-- What the loop keeps in `told_before`: nothing, since it stops at the first query that is alike.
 use Rattle.std.specs.Prelude.{⊤}
 use Rattle.lv_standing.proofs.watches.told_before.Given as goal
 

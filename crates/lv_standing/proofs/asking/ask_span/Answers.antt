@@ -1,0 +1,15 @@
+-- Proof of `ask_span`: the summary by a kind of the elements in a span.
+use Rattle.std.proofs.Common.{◌∙◌, ap, arith, sym}
+use Rattle.std.proofs.lemmas.Option.{none-some}
+use Rattle.lv_tree.specs.KindSummaries.{summary_of}
+use Rattle.lv_edits.specs.History.{list_of}
+use Rattle.lv_standing.proofs.RangeLaws.{range_granted}
+use Rattle.lv_standing.proofs.asking.ask_span.Goals as goal
+
+pub unreachable-requires : goal.unreachable-requires
+unreachable-requires c =
+    none-some _ (sym (range_granted c.args.live.now.history.journal c.indices_in-lo.result.lo c.indices_in-lo.result.hi c.indices_in-lo.ensures.order (omega (arith, c.indices_in-lo.ensures.inside, c.size.ensures))) ∙ c.in-Err.ensures.err)
+
+pub returns-clause-value : goal.returns-clause-value
+returns-clause-value c =
+    c.in-Ok.ensures.ok.summary ∙ ap (summary_of c.args.kind) (c.indices_in-lo.ensures.same (list_of c.args.live.now.history.journal) (sym c.size.ensures))

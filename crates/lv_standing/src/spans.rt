@@ -1,0 +1,91 @@
+//! Spans: which elements of a vector a standing query is about.
+ghost use Rattle.std.specs.Prelude.{◌≡◌, ◌≤◌, ℤ, List, length};
+ghost use Rattle.std.specs.List.{slice_range};
+ghost use Rattle.lv_standing.specs.Inner.{has_changed, has_index, has_written};
+ghost use Rattle.lv_standing.specs.Queries.{span_of};
+
+use crate::changes::Changed;
+use lv_live::Touched;
+
+/// Which elements a query is about.
+#[derive(Clone, Copy, Debug, PartialEq, Eq)]
+pub enum Span {
+    /// Those from index `lo` up to `hi`, `hi` excluded. It may reach past the end: it has the elements that there are.
+    Between { lo: u64, hi: u64 },
+    /// The last so many, or all where there are fewer.
+    Last(u64),
+}
+
+/// The indices from `lo` up to `hi`, `hi` excluded, of a vector that has them all.
+#[derive(Clone, Copy)]
+pub struct Indices {
+    pub lo: u32,
+    pub hi: u32,
+}
+
+impl Span {
+    /// The indices of its elements in a vector of this size.
+    #[inline(always)]
+    pub fn indices_in(&self, size: u32) -> Indices
+        ensures order { result.lo ≤ result.hi }
+        ensures inside { result.hi ≤ size }
+        ensures same { (xs : List ℤ) → length xs ≡ size → slice_range xs result.lo result.hi ≡ span_of self.now xs }
+    {
+        let end = u64::from(size);
+        match *self {
+            Span::Between { lo, hi } => {
+                let hi = hi.min(end);
+                Indices {
+                    lo: lo.min(hi) as u32,
+                    hi: hi as u32,
+                }
+            }
+            Span::Last(count) => Indices {
+                lo: (end - count.min(end)) as u32,
+                hi: size,
+            },
+        }
+    }
+
+    /// Whether it has an element that changed. The last so many also change with each edit that changes how many there are.
+    #[inline(always)]
+    pub fn has_changed(&self, changed: Changed) -> bool
+        ensures { result ≡ has_changed self.now changed }
+    {
+        let Changed {
+            written,
+            from,
+            to,
+            ..
+        } = changed;
+        let (before, after) = (u64::from(to), u64::from(from));
+        match *self {
+            Span::Between { lo, hi } => {
+                has_written(lo, hi, written) || lo.max(after) < hi.min(before)
+            }
+            Span::Last(count) => {
+                before != after || has_written(before.saturating_sub(count), before, written)
+            }
+        }
+    }
+}
+
+// Whether a range has one of the indices at which an edit wrote. An element that is swapped with itself stays.
+#[inline(always)]
+fn has_written(lo: u64, hi: u64, written: Touched) -> bool
+    ensures { result ≡ has_written lo hi written }
+{
+    match written {
+        Touched::Nothing => false,
+        Touched::One(i) => has_index(lo, hi, i),
+        Touched::Two(i, j) => i != j && (has_index(lo, hi, i) || has_index(lo, hi, j)),
+    }
+}
+
+// Whether a range has an index.
+#[inline(always)]
+fn has_index(lo: u64, hi: u64, i: u32) -> bool
+    ensures { result ≡ has_index lo hi i }
+{
+    lo <= u64::from(i) && u64::from(i) < hi
+}
