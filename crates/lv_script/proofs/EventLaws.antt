@@ -1,20 +1,19 @@
 -- What the calls of a vector with standing queries make of a script.
-use Rattle.std.proofs.Common.{◌≡◌, ℕ, Bool, Option, None, Result, Ok, Err, OnOk, IfErr, List, [], ◌∷◌, ◌++◌, length, drop, ◌-◌, arith, refl, sym, ap, ◌∙◌, inl, inr}
-use Rattle.std.proofs.lemmas.List.{append-nil, length-drop, length-take}
-use Rattle.std.proofs.lemmas.List.Elements.{All-drop, All-take}
+use Rattle.std.proofs.Common.{◌≡◌, ℕ, Bool, Option, None, Result, Ok, Err, OnOk, IfErr, List, [], ◌++◌, length, map, arith, refl, sym, ap, ◌∙◌, inr}
+use Rattle.std.proofs.lemmas.List.{append-nil}
 use Rattle.lv_geometry.specs.declared.nodes.Node.{Node}
 use Rattle.lv_geometry.specs.declared.refusals.Refusal.{Refusal}
 use Rattle.lv_bodies.specs.declared.kinds.Kind.{Kind}
 use Rattle.lv_bodies.specs.declared.kinds.Shown.{Shown}
 use Rattle.lv_bodies.specs.declared.sixes.Six.{Six}
-use Rattle.lv_bodies.specs.Body.{CanFold, fold_of}
+use Rattle.lv_bodies.specs.Body.{fold_of}
+use Rattle.lv_bodies.specs.Long.{CanFoldLong}
 use Rattle.lv_bodies.specs.Plain.{plain_value}
 use Rattle.lv_bodies.specs.Six.{SixSummary, six_operations}
 use Rattle.lv_edits.specs.declared.edit.Edit.{Edit}
 use Rattle.lv_edits.specs.declared.receipt.Receipt.{Receipt}
 use Rattle.lv_edits.specs.History.{History, list_of}
 use Rattle.lv_edits.specs.Kept.{IsLegalInLimits}
-use Rattle.lv_geometry.specs.Elements.{IsElement}
 use Rattle.lv_edits.specs.Verdict.{Accepts, Refuses}
 use Rattle.lv_edits.specs.Ranges.{range_refusal, slice_of}
 use Rattle.lv_summary.specs.declared.accepted.Accepted.{Accepted}
@@ -27,8 +26,8 @@ use Rattle.lv_live.specs.State.{HasNoClaims, SameLive, SameRefresh, recorded, wi
 use Rattle.lv_live.specs.Step.{Costs, Reduces, Step, accepted_reply, numbered_reply, reduction_reply}
 use Rattle.lv_live.proofs.WorldLaws.{step_edit, step_forget, step_reduction, step_settle}
 use Rattle.lv_standing.specs.declared.notes.Note.{Note}
-use Rattle.lv_standing.specs.declared.queries.Query.{Query}
-use Rattle.lv_standing.specs.Queries.{AreNotes}
+use Rattle.lv_standing.specs.Queries.{AreNotes, watch_answer}
+use Rattle.lv_standing.proofs.TellLaws.{none_due}
 use Rattle.lv_standing.specs.Standings.{StandingState}
 use Rattle.lv_lines.specs.declared.fault.Fault.{Fault}
 use Rattle.lv_lines.specs.declared.fault.Fault.TheVariants.{WriteFault}
@@ -38,6 +37,7 @@ use Rattle.lv_lines.proofs.OutputLemmas.{Writes-trans, WritesFront-after}
 use Rattle.lv_lines.specs.Texts.{answer_text, cost_text, refused_text, scan_text}
 use Rattle.lv_script.specs.Script.{HasQueries, Tells, TellsEdit, TellsEvent, TellsScan, edit_text, notes_text, plain_scan, reduced_text, reply_text, scanned_range_text}
 use Rattle.lv_script.specs.Scripted.{state_of}
+use Rattle.lv_script.proofs.ScanLemmas.{can_fold-slice}
 
 -- a vector with standing queries that stays as it is
 pub unchanged : (s : StandingState) (jobs : List (Carried Six SixSummary)) → HasQueries (state_of s jobs) (state_of s jobs) s.queries
@@ -102,11 +102,6 @@ tells_accepted old new e receipt notes jobs same accepts queries are =
       text_is = refl;
     }
 
--- where no answer changed there are no notes
-no_notes : (edits : List Edit) (queries : List Query) → AreNotes edits edits queries []
-no_notes edits [] = refl
-no_notes edits (q ∷ queries) = inl (refl, no_notes edits queries)
-
 -- an edit that was refused
 pub tells_refused : (old new : StandingState) (e : Edit) (refusal : Refusal) (jobs : List (Carried Six SixSummary)) → SameRefresh old.live new.live → Refuses old.live.history e refusal new.live.history → new.queries ≡ old.queries
     → TellsEdit (state_of old jobs) e (refused_text refusal) (state_of new jobs)
@@ -115,7 +110,7 @@ tells_refused old new e refusal jobs same refuses queries =
       answer = Err refusal;
       notes = [];
       does = record { step = step_edit six_operations old.live new.live e (Err refusal) jobs same refuses; limits = ap (λ h. h.limits) refuses.same; queries = queries };
-      notes_are = rw refuses.same (no_notes old.live.history.journal old.queries);
+      notes_are = rw refuses.same (none_due old.queries (map (watch_answer old.live.history.journal) old.queries));
       text_is = sym (append-nil (refused_text refusal));
     }
 
@@ -125,35 +120,24 @@ reduced_ok edits kind lo hi edit shown granted at is =
     ap (λ edit. answer_text edit kind shown) at ∙ ap (answer_text (length edits) kind) is ∙ ap (reduced_text edits kind lo hi) (sym granted)
 
 -- the elements of a range can be folded
-pub can_fold_slice : (h : History) (lo hi : ℕ) → IsLegalInLimits h → CanFold (slice_of h.journal lo hi)
-can_fold_slice h lo hi limits =
-    record {
-      few = omega (arith, limits.few, length-take (hi - lo) (drop lo (list_of h.journal)), length-drop lo (list_of h.journal));
-      elements = All-take IsElement (hi - lo) (drop lo (list_of h.journal)) (All-drop IsElement lo (list_of h.journal) limits.elements);
-    }
+pub can_fold_slice : (h : History) (lo hi : ℕ) → IsLegalInLimits h → CanFoldLong (slice_of h.journal lo hi)
+can_fold_slice h lo hi limits = can_fold-slice (list_of h.journal) lo hi limits.elements (omega (arith, limits.few))
 
--- the reply to a scan of a range that nothing refuses
-abbrev granted_text : StandingState → Bool → Kind → ℕ → ℕ → List ℕ
-granted_text s inclusive kind lo hi = scan_text (length s.live.history.journal) inclusive kind (plain_scan inclusive kind (slice_of s.live.history.journal lo hi))
-
--- a scan, answered
-tells_scan : (s : StandingState) (inclusive : Bool) (kind : Kind) (lo hi : ℕ) (jobs : List (Carried Six SixSummary)) → range_refusal s.live.history.journal lo hi ≡ None
-    → TellsScan (state_of s jobs) inclusive kind lo hi (granted_text s inclusive kind lo hi) (state_of s jobs)
+-- a scan of a range that nothing refuses
+pub tells_scan : (s : StandingState) (inclusive : Bool) (kind : Kind) (lo hi : ℕ) (jobs : List (Carried Six SixSummary)) → range_refusal s.live.history.journal lo hi ≡ None
+    → TellsScan (state_of s jobs) inclusive kind lo hi (scan_text (length s.live.history.journal) inclusive kind (plain_scan inclusive kind (slice_of s.live.history.journal lo hi))) (state_of s jobs)
 tells_scan s inclusive kind lo hi jobs granted = (ap (scanned_range_text s.live.history.journal inclusive kind lo hi) (sym granted), unchanged s jobs)
 
--- a scan that was put whole
-pub scan_put : {T E : Type 0} (result : Result T E) (s : StandingState) (inclusive : Bool) (kind : Kind) (lo hi : ℕ) (written : List ℕ → Type 0) → range_refusal s.live.history.journal lo hi ≡ None
-    → OnOk result (written (granted_text s inclusive kind lo hi))
-    → OnOk result ((text : List ℕ) × ((jobs : List (Carried Six SixSummary)) → TellsScan (state_of s jobs) inclusive kind lo hi text (state_of s jobs)) × written text)
-scan_put (Ok done) s inclusive kind lo hi written granted put = (_, (λ jobs. tells_scan s inclusive kind lo hi jobs granted), put)
-scan_put (Err fault) s inclusive kind lo hi written granted put = put
+module _ {T : Type 0} (answers written : List ℕ → Type 0) (text : List ℕ) (told : answers text) where
+  -- a text that is an answer was put whole
+  pub put_whole : {E : Type 0} (result : Result T E) → OnOk result (written text) → OnOk result ((reply : List ℕ) × answers reply × written reply)
+  put_whole (Ok done) put = (text, told, put)
+  put_whole (Err fault) put = put
 
--- a scan of which a front was put
-pub scan_put_front : {T : Type 0} (result : Result T Fault) (s : StandingState) (inclusive : Bool) (kind : Kind) (lo hi : ℕ) (written : List ℕ → Type 0) → range_refusal s.live.history.journal lo hi ≡ None
-    → IfErr result (λ fault. (fault ≡ WriteFault) × written (granted_text s inclusive kind lo hi))
-    → IfErr result (λ fault. (fault ≡ WriteFault) × (text : List ℕ) × ((jobs : List (Carried Six SixSummary)) → TellsScan (state_of s jobs) inclusive kind lo hi text (state_of s jobs)) × written text)
-scan_put_front (Ok done) s inclusive kind lo hi written granted put = put
-scan_put_front (Err fault) s inclusive kind lo hi written granted put = (put.0, _, (λ jobs. tells_scan s inclusive kind lo hi jobs granted), put.1)
+  -- or a front of it
+  pub put_front : (result : Result T Fault) → IfErr result (λ fault. (fault ≡ WriteFault) × written text) → IfErr result (λ fault. (fault ≡ WriteFault) × (reply : List ℕ) × answers reply × written reply)
+  put_front (Ok done) put = put
+  put_front (Err fault) put = (put.0, text, told, put.1)
 
 module _ {S : Type 0} (step : S → ℕ → List ℕ → List ℕ → S → Type 0) where
   -- a line that was answered once there was room is answered with what was held before

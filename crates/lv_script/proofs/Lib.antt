@@ -1,4 +1,5 @@
 -- Names the files of lemmas of `lv_script`.
+pub mod InterpreterLaws
 pub mod OneLineLaws
 pub mod OneTextLaws
 pub mod PlainRunLaws
@@ -9,3 +10,10 @@ pub mod BoundedLaws
 pub mod EventLaws
 pub mod Playing
 pub mod RestoredLaws
+mod FoundLaws
+mod KnownLaws
+mod LongShown
+mod Notes
+mod SearchedLaws
+mod ValueLaws
+mod WholeSeriesLaws

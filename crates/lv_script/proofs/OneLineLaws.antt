@@ -14,7 +14,7 @@ use Rattle.lv_live.specs.Step.{claim_reply, delivery_reply}
 use Rattle.lv_lines.proofs.InputLemmas.{has_end-append_none}
 use Rattle.lv_lines.specs.Texts.{accepted_text, refused_text, reply_line}
 use Rattle.lv_script.specs.Script.{reply_text}
-use Rattle.lv_script.specs.PlainRuns.{IsOneLine}
+use Rattle.lv_script.specs.Interpreter.{IsOneLine}
 
 -- a text is one line
 abbrev pub IsLine : List ℕ → Type 0

@@ -1,5 +1,5 @@
 -- Where memory is never wanted, the lines of a script have one text.
-use Rattle.std.proofs.Common.{◌≡◌, ◌≢◌, ◌⊎◌, ℕ, ◌+◌, Option, Some, None, Result, Ok, Err, List, [], ◌∷◌, ◌++◌, refl, sym, ap, ap₂, ◌∙◌, subst, inl, inr, append-nil}
+use Rattle.std.proofs.Common.{◌≡◌, ◌≢◌, ◌⊎◌, ℕ, ◌+◌, Option, Some, None, Result, Ok, Err, List, [], ◌∷◌, ◌++◌, refl, sym, ap, ap₂, ◌∙◌, subst, inl, inr, append-nil, true≢false}
 use Rattle.lv_geometry.specs.Bounds.{Bounds}
 use Rattle.lv_geometry.specs.declared.refusals.Refusal.{Refusal}
 use Rattle.lv_geometry.specs.declared.refusals.Refusal.TheVariants.{NoMemory}
@@ -15,7 +15,8 @@ use Rattle.lv_live.specs.Step.{EditStep, edit_reply}
 use Rattle.lv_live.proofs.OneOutcomeLaws.{one_record, one_step}
 use Rattle.lv_standing.specs.declared.notes.Note.{Note}
 use Rattle.lv_standing.specs.declared.queries.Query.{Query}
-use Rattle.lv_standing.specs.Queries.{AreNotes, query_of, watch_answer, watch_refusal}
+use Rattle.lv_standing.specs.Queries.{AreNotes, between, query_of, query_refusal, watch_answer}
+use Rattle.lv_standing.proofs.QueryLaws.{never_due}
 use Rattle.lv_lines.specs.declared.command.Command.{Command}
 use Rattle.lv_lines.specs.declared.command.Command.TheVariants as command
 use Rattle.lv_lines.specs.declared.lines.Line.{Line}
@@ -42,10 +43,10 @@ one_list_of_notes old new (q ∷ queries) a b first second =
     elim first [
       | inl same ↦ elim second [
         | inl too ↦ one_list_of_notes old new queries a b same.1 too.1
-        | inr changed ↦ absurd (changed.0 same.0)
+        | inr changed ↦ absurd (true≢false (sym changed.0 ∙ same.0))
       ]
       | inr changed ↦ elim second [
-        | inl same ↦ absurd (changed.0 same.0)
+        | inl same ↦ absurd (true≢false (sym changed.0 ∙ same.0))
         | inr too ↦ changed.2 ∙ ap (λ rest. record { name = q.name; value = watch_answer new q } ∷ rest) (one_list_of_notes old new queries changed.1 too.1 changed.3 too.3) ∙ sym too.2
       ]
     ]
@@ -53,7 +54,7 @@ one_list_of_notes old new (q ∷ queries) a b first second =
 -- where the edits are the same there are no notes
 pub no_notes : (edits : List Edit) (queries : List Query) (notes : List Note) → AreNotes edits edits queries notes → notes ≡ []
 no_notes edits [] notes is = is
-no_notes edits (q ∷ queries) notes is = elim is [ inl same ↦ no_notes edits queries notes same.1 | inr changed ↦ absurd (changed.0 refl) ]
+no_notes edits (q ∷ queries) notes is = elim is [ inl same ↦ no_notes edits queries notes same.1 | inr changed ↦ absurd (true≢false (sym changed.0 ∙ never_due q.bound (watch_answer edits q))) ]
 
 -- an edit's reply tells its answer
 pub edit_reply_tells : (a b : Result Receipt Refusal) → edit_reply {S = SixSummary} a ≡ edit_reply b → a ≡ b
@@ -135,21 +136,21 @@ no_reason : (known : Option Refusal) (a : Refusal) → known ≡ None → known 
 no_reason known a granted refused = cc
 
 -- a query that is registered, beside the same that is refused
-watch_or_refused : (old after : ScriptState) (q : Query) (told : List ℕ) → watch_refusal old.queries q.name q.lo q.hi ≡ None
-    → (refusal : Refusal) → (watch_refusal old.queries q.name q.lo q.hi ≡ Some refusal) ⊎ ((watch_refusal old.queries q.name q.lo q.hi ≡ None) × (refusal ≡ NoMemory))
+watch_or_refused : (old after : ScriptState) (q : Query) (told : List ℕ) → query_refusal 64 old.queries q ≡ None
+    → (refusal : Refusal) → (query_refusal 64 old.queries q ≡ Some refusal) ⊎ ((query_refusal 64 old.queries q ≡ None) × (refusal ≡ NoMemory))
     → told ≡ refused_text refusal → told ≢ refused_text NoMemory → ⊥
 watch_or_refused old after q told granted refusal why is had =
-    elim why [ inl refused ↦ no_reason (watch_refusal old.queries q.name q.lo q.hi) refusal granted refused | inr wanted ↦ had (is ∙ ap refused_text wanted.1) ]
+    elim why [ inl refused ↦ no_reason (query_refusal 64 old.queries q) refusal granted refused | inr wanted ↦ had (is ∙ ap refused_text wanted.1) ]
 
 -- two refusals of a query, none for want of memory
 watch_refused : (old : ScriptState) (q : Query) (a b : Refusal) (text told : List ℕ)
-    → (watch_refusal old.queries q.name q.lo q.hi ≡ Some a) ⊎ ((watch_refusal old.queries q.name q.lo q.hi ≡ None) × (a ≡ NoMemory))
-    → (watch_refusal old.queries q.name q.lo q.hi ≡ Some b) ⊎ ((watch_refusal old.queries q.name q.lo q.hi ≡ None) × (b ≡ NoMemory))
+    → (query_refusal 64 old.queries q ≡ Some a) ⊎ ((query_refusal 64 old.queries q ≡ None) × (a ≡ NoMemory))
+    → (query_refusal 64 old.queries q ≡ Some b) ⊎ ((query_refusal 64 old.queries q ≡ None) × (b ≡ NoMemory))
     → text ≡ refused_text a → told ≡ refused_text b → text ≢ refused_text NoMemory → told ≢ refused_text NoMemory → text ≡ told
 watch_refused old q a b text told why wherefore is was room had =
     elim why [
       | inl first ↦ elim wherefore [
-        | inl second ↦ is ∙ ap refused_text (one_reason (watch_refusal old.queries q.name q.lo q.hi) a b first second) ∙ sym was
+        | inl second ↦ is ∙ ap refused_text (one_reason (query_refusal 64 old.queries q) a b first second) ∙ sym was
         | inr wanted ↦ absurd (had (was ∙ ap refused_text wanted.1))
       ]
       | inr wanted ↦ absurd (room (is ∙ ap refused_text wanted.1))
@@ -188,7 +189,7 @@ command_one old new after command.Claim text told first second room had = claim_
 command_one old new after (command.Deliver k) text told first second room had = event_one old new after (event.Deliver k) text told first second room had
 command_one old new after command.Forget text told first second room had = event_one old new after event.Forget text told first second room had
 command_one old new after (command.Watch name kind lo hi) text told first second room had =
-    watch_one old new after record { name = name; kind = kind; lo = lo; hi = hi } text told first second room had
+    watch_one old new after (between name kind lo hi) text told first second room had
 command_one old new after (command.Unwatch name) text told first second room had = unwatch_one old new after name (query_of old.queries name) text told first second
 command_one old new after (command.Answer name) text told first second room had = tells_one old new after _ text told first second
 
@@ -216,7 +217,7 @@ pub one_beginning : (limits : Bounds) (a b : ScriptState) → Begins limits a �
 one_beginning limits a b first second =
     one_state a b (first.limits_are ∙ sym second.limits_are)
     (λ i. record {
-      edits = (first.edits ∙ sym second.edits) i;
+      edits = (first.edits_are ∙ sym second.edits_are) i;
       issued = (first.issued ∙ sym second.issued) i;
       claimed = λ n. (first.claimed n ∙ sym (second.claimed n)) i;
       kept = λ n. (first.kept n ∙ sym (second.kept n)) i;

@@ -1,12 +1,7 @@
 -- What follows of lines that are answered as the plain interpreter answers them.
-use Rattle.std.proofs.Common.{◌≡◌, ◌≢◌, ℕ, ◌+◌, ◌≤◌, Option, Some, None, Result, Ok, Err, OnOk, List, [], ◌∷◌, ◌++◌, codes, length, take, get_or, nat_eq, if◌then◌else◌, refl, sym, ap, ap₂, ◌∙◌, subst, inl, inr, arith, le_refl, append-nil, append_assoc, length-append, true≢false, All}
+use Rattle.std.proofs.Common.{◌≡◌, ℕ, ◌+◌, Option, Some, None, List, [], ◌∷◌, ◌++◌, codes, length, take, get_or, refl, sym, ap, ◌∙◌, subst, inl, inr, arith, append-nil, append_assoc, length-append, true≢false}
 use Rattle.std.specs.Option.{option_map_or}
-use Rattle.std.specs.Io.KnownBytes.{Appends, Consumes, IsAtEnd}
-use Rattle.std.proofs.lemmas.Bool.{cases_Bool, cond-false, cond-true, eq-eqb, ne_eqb}
-use Rattle.std.proofs.lemmas.List.Elements.{All-head, All-tail}
-use Rattle.lv_geometry.specs.Bounds.{Bounds}
 use Rattle.lv_geometry.specs.declared.refusals.Refusal.{Refusal}
-use Rattle.lv_geometry.specs.declared.refusals.Refusal.TheVariants.{NoMemory}
 use Rattle.lv_edits.specs.declared.edit.Edit.{Edit}
 use Rattle.lv_edits.specs.declared.receipt.Receipt.{Receipt}
 use Rattle.lv_edits.specs.declared.receipt.Receipt.TheVariants.{Pushed, Popped, Written, Reserved, Swapped, Truncated}
@@ -15,101 +10,23 @@ use Rattle.lv_lines.specs.declared.command.Command.{Command}
 use Rattle.lv_lines.specs.declared.command.Command.TheVariants as command
 use Rattle.lv_lines.specs.declared.lines.Line.{Line}
 use Rattle.lv_lines.specs.declared.lines.Line.TheVariants.{Nothing, Bad, Do}
-use Rattle.lv_lines.specs.declared.fault.Fault.{Fault}
 use Rattle.lv_lines.specs.Grammar.{line_of}
-use Rattle.lv_lines.specs.Input.{lines_of, whole_lines_of}
-use Rattle.lv_lines.specs.Replies.{Answered, LinesServed}
-use Rattle.lv_lines.proofs.InputLemmas.{lines_of-append, whole_lines_of-ended}
+use Rattle.lv_lines.specs.Replies.{Answered}
 use Rattle.lv_lines.specs.Texts.{receipt_text, refused_text, reply_line}
-use Rattle.lv_script.specs.PlainRuns.{AnswerStep, IsOneLine, IsPlainText, IsTrueOf, MeetsWant, NeverWants, PlainStep, Takes, TrueStep, asked_by, asked_in, plain_answers}
-use Rattle.lv_script.specs.PlainScript.{Plain, after, plain_after, plain_reply, plain_text, refusal_of, reply_of, start}
-use Rattle.lv_script.proofs.OneLineLaws.{IsLine, refused_bytes, refused_line, refused_one}
-use Rattle.lv_script.proofs.WholeLaws.{IsWhole, whole_line, whole_reply}
-
--- ---- where memory was there
-
--- the second of two parts
-all_second : {X : Type 0} (P : X → Type 0) (xs ys : List X) → All P (xs ++ ys) → All P ys
-all_second P [] ys all = all
-all_second P (x ∷ xs) ys all = all_second P xs ys (All-tail P x (xs ++ ys) all)
-
--- a line doesn't tell that memory was wanting
-abbrev IsNoWant : List ℕ → Type 0
-IsNoWant line = reply_line line ≢ refused_text NoMemory
-
--- what met want of memory was refused so
-want_text : (old new : Plain) (line : Line Command) (text : List ℕ) → MeetsWant old line text new → text ≡ refused_text NoMemory
-want_text old new Nothing text want = absurd want
-want_text old new Bad text want = absurd want
-want_text old new (Do c) text want = want.2
-
--- the lines of a text whose first part is whole are those of both parts
-pub lines_after : (front rest : List ℕ) → IsWhole front → NeverWants (front ++ rest) → NeverWants rest
-lines_after front rest whole never =
-    let parts : lines_of (front ++ rest) ≡ whole_lines_of front ++ lines_of rest = lines_of-append front rest ∙ ap (λ begun. whole_lines_of front ++ lines_of (begun ++ rest)) whole in
-    all_second IsNoWant (whole_lines_of front) (lines_of rest) (subst (All IsNoWant) parts never)
-
--- a text that begins with a refusal for want of memory tells it
-pub tells_want : (rest : List ℕ) → NeverWants (refused_text NoMemory ++ rest) → ⊥
-tells_want rest never =
-    let bytes = refused_bytes NoMemory in
-    let lines : whole_lines_of (reply_line bytes) ≡ bytes ∷ [] = whole_lines_of-ended bytes [] (refused_one NoMemory) in
-    let parts : lines_of (reply_line bytes ++ rest) ≡ bytes ∷ lines_of rest =
-    lines_of-append (reply_line bytes) rest ∙ ap₂ (λ lines begun. lines ++ lines_of (begun ++ rest)) lines (whole_line bytes) in
-    All-head IsNoWant bytes (lines_of rest) (subst (All IsNoWant) parts never) refl
-
--- a line that memory was there for, by the text from it on
-room_step : (old new : Plain) (n : ℕ) (line text rest : List ℕ) → PlainStep old n line text new → NeverWants (text ++ rest)
-    → (told : List ℕ) × IsOneLine told × (text ≡ plain_reply told old n (line_of line)) × (new ≡ plain_after old (line_of line)) × NeverWants rest
-room_step old new n line text rest (told, one, inl is) never =
-    (told, one, is.0, is.1, lines_after text rest (subst IsWhole (sym is.0) (whole_reply told old n (line_of line))) never)
-room_step old new n line text rest (told, one, inr want) never =
-    absurd (tells_want rest (subst (λ text. NeverWants (text ++ rest)) (want_text old new (line_of line) text want) never))
-
--- the text of lines from n on is told nothing of those before
-text_same : (told other : ℕ → List ℕ) (s : Plain) (n : ℕ) (lines : List (List ℕ)) → ((k : ℕ) → n ≤ k → told k ≡ other k) → plain_text told s n lines ≡ plain_text other s n lines
-text_same told other s n [] same = refl
-text_same told other s n (line ∷ lines) same =
-    ap₂ (λ t rest. plain_reply t s n (line_of line) ++ rest) (same n (le_refl n)) (text_same told other (plain_after s (line_of line)) (n + 1) lines (λ k within. same k (omega (arith, within))))
-
--- what line n is told, and what the others are
-abbrev told_at : ℕ → List ℕ → (ℕ → List ℕ) → ℕ → List ℕ
-told_at n first later k = if nat_eq k n then first else later k
-
--- all are one line
-told_lines : (n : ℕ) (first : List ℕ) (later : ℕ → List ℕ) → IsOneLine first → ((k : ℕ) → IsOneLine (later k)) → (k : ℕ) → IsOneLine (told_at n first later k)
-told_lines n first later one all k = elim (cases_Bool (nat_eq k n)) [ inl here ↦ rw here one | inr other ↦ rw other (all k) ]
-
--- lines that memory was there for have the interpreter's text
-pub room_text : (s last : Plain) (n : ℕ) (lines : List (List ℕ)) (text : List ℕ) → Answered PlainStep s n lines text last → NeverWants text
-    → (told : ℕ → List ℕ) × ((k : ℕ) → IsOneLine (told k)) × (text ≡ plain_text told s n lines)
-room_text s last n [] text a never = ((λ k. []), (λ k. refl), a.0)
-room_text s last n (line ∷ lines) text (reply, rest, mid, step, more, is) never =
-    let one = room_step s mid n line reply rest step (subst NeverWants is never) in
-    let later = room_text mid last (n + 1) lines rest more one.4 in
-    let told : ℕ → List ℕ = told_at n one.0 later.0 in
-    let here : told n ≡ one.0 = cond-true (nat_eq n n) one.0 (later.0 n) (eq-eqb n n refl) in
-    let there = text_same later.0 told (plain_after s (line_of line)) (n + 1) lines (λ k within. sym (cond-false (nat_eq k n) one.0 (later.0 k) (ne_eqb k n (λ same. omega (arith, within, same))))) in (
-      told,
-      told_lines n one.0 later.0 one.1 later.1,
-      is ∙ ap₂ ◌++◌ (one.2 ∙ ap (λ t. plain_reply t s n (line_of line)) (sym here)) (later.2 ∙ ap (λ m. plain_text later.0 m (n + 1) lines) one.3 ∙ there),
-    )
-
--- what a conversation wrote that came to the end of its input
-pub written_plain : {T : Type 0} (limits : Bounds) (last : Plain) (a b k l : Option (List ℕ)) (result : Result T Fault) → LinesServed PlainStep (start limits) last a b k l result
-    → OnOk result ((input : List ℕ) × (text : List ℕ) × Consumes a b input × IsAtEnd b × Appends k l text × (NeverWants text → IsPlainText limits input text))
-written_plain limits last a b k l (Ok done) c =
-    let all = c.ends.2 in
-    (c.seen, all.text, c.read, c.ends.0, all.written, λ never. room_text (start limits) last 1 _ all.text all.answered never)
-written_plain limits last a b k l (Err fault) c = tt
+use Rattle.lv_script.specs.PlainRuns.{AnswerStep, IsTrueOf, Takes, TrueStep, asked_by, asked_in, plain_answers}
+use Rattle.lv_script.specs.Interpreter.{IsOneLine, NeverWants, PlainStep, plain_after, plain_reply}
+use Rattle.lv_script.specs.PlainScript.{Plain, after, refusal_of, reply_of, vector_script}
+use Rattle.lv_script.proofs.InterpreterLaws.{room_step, want_keeps, want_text}
+use Rattle.lv_script.proofs.OneLineLaws.{IsLine, refused_line}
+use Rattle.lv_script.proofs.WholeLaws.{whole_command}
 
 -- ---- edits and queries alone
 
 -- an edit or query, of which nothing is told
-takes_first : (s : Plain) (told : List ℕ) (n : ℕ) (c : Command) (commands : List Command) (text : List ℕ) → reply_of told s c ≡ reply_of [] s c → text ≡ plain_reply told s n (Do c)
-    → plain_answers s (c ∷ commands) ≡ text ∷ plain_answers (plain_after s (Do c)) commands
+takes_first : (s : Plain) (told : List ℕ) (n : ℕ) (c : Command) (commands : List Command) (text : List ℕ) → reply_of told s c ≡ reply_of [] s c → text ≡ plain_reply vector_script told s n (Do c)
+    → plain_answers s (c ∷ commands) ≡ text ∷ plain_answers (plain_after vector_script s (Do c)) commands
 takes_first s told n c commands text same is =
-    ap (λ reply. reply ∷ plain_answers (plain_after s (Do c)) commands) (sym (is ∙ ap (option_map_or refused_text (refusal_of s c)) same))
+    ap (λ reply. reply ∷ plain_answers (plain_after vector_script s (Do c)) commands) (sym (is ∙ ap (option_map_or refused_text (refusal_of s c)) same))
 
 -- what is kept where it stays, whether it is refused or not
 stays : (s : Plain) (o : Option Refusal) → option_map_or (λ refusal. s) o s ≡ s
@@ -122,8 +39,8 @@ decided_line told text None one is = (told, one, is)
 decided_line told text (Some refusal) one is = let line = refused_line refusal in (line.0, line.1, is ∙ line.2)
 
 -- a line takes the first answer, or none
-takes_line : (s : Plain) (told : List ℕ) (n : ℕ) (line : Line Command) (commands : List Command) (text : List ℕ) → IsOneLine told → text ≡ plain_reply told s n line
-    → Takes (plain_answers s (asked_by line ++ commands)) n line text (plain_answers (plain_after s line) commands)
+takes_line : (s : Plain) (told : List ℕ) (n : ℕ) (line : Line Command) (commands : List Command) (text : List ℕ) → IsOneLine told → text ≡ plain_reply vector_script told s n line
+    → Takes (plain_answers s (asked_by line ++ commands)) n line text (plain_answers (plain_after vector_script s line) commands)
 takes_line s told n Nothing commands text one is = (is, refl)
 takes_line s told n Bad commands text one is = (is, refl)
 takes_line s told n (Do (command.Edit e)) commands text one is = (takes_first s told n (command.Edit e) commands text refl is, λ no. absurd (true≢false no))
@@ -143,12 +60,12 @@ takes_line s told n (Do (command.Unwatch name)) commands text one is = (takes_fi
 takes_line s told n (Do (command.Answer name)) commands text one is = (takes_first s told n (command.Answer name) commands text refl is, λ no. absurd (true≢false no))
 
 -- lines that memory was there for are answered so
-pub room_answers : (s last : Plain) (n : ℕ) (lines : List (List ℕ)) (text : List ℕ) → Answered PlainStep s n lines text last → NeverWants text → Answered AnswerStep (plain_answers s (asked_in lines)) n lines text []
+pub room_answers : (s last : Plain) (n : ℕ) (lines : List (List ℕ)) (text : List ℕ) → Answered (PlainStep vector_script) s n lines text last → NeverWants text → Answered AnswerStep (plain_answers s (asked_in lines)) n lines text []
 room_answers s last n [] text a never = (a.0, refl)
 room_answers s last n (line ∷ lines) text (reply, rest, mid, step, more, is) never =
-    let one = room_step s mid n line reply rest step (subst NeverWants is never) in
+    let one = room_step vector_script whole_command s mid n line reply rest step (subst NeverWants is never) in
     let later = subst (λ m. Answered AnswerStep (plain_answers m (asked_in lines)) (n + 1) lines rest []) one.3 (room_answers mid last (n + 1) lines rest more one.4) in
-    (reply, rest, plain_answers (plain_after s (line_of line)) (asked_in lines), takes_line s one.0 n (line_of line) (asked_in lines) reply one.1 one.2, later, is)
+    (reply, rest, plain_answers (plain_after vector_script s (line_of line)) (asked_in lines), takes_line s one.0 n (line_of line) (asked_in lines) reply one.1 one.2, later, is)
 
 -- ---- refusals
 
@@ -179,22 +96,16 @@ refusal_keeps s told (command.Watch name kind lo hi) refusal None is = let first
 refusal_keeps s told (command.Unwatch name) refusal None is = let first : 114 ≡ 117 = ap (λ text. get_or text 0 0) is in absurd (omega (arith, first))
 refusal_keeps s told (command.Answer name) refusal None is = refl
 
--- what met want of memory changed nothing
-want_keeps : (old new : Plain) (line : Line Command) (text : List ℕ) → MeetsWant old line text new → new ≡ old
-want_keeps old new Nothing text want = absurd want
-want_keeps old new Bad text want = absurd want
-want_keeps old new (Do c) text want = want.3
-
 -- so of a line
-line_keeps : (s : Plain) (told : List ℕ) (n : ℕ) (line : Line Command) (refusal : Refusal) → refused_text refusal ≡ plain_reply told s n line → plain_after s line ≡ s
+line_keeps : (s : Plain) (told : List ℕ) (n : ℕ) (line : Line Command) (refusal : Refusal) → refused_text refusal ≡ plain_reply vector_script told s n line → plain_after vector_script s line ≡ s
 line_keeps s told n Nothing refusal is = refl
 line_keeps s told n Bad refusal is = refl
 line_keeps s told n (Do c) refusal is = refusal_keeps s told c refusal (refusal_of s c) is
 
 -- and by its bytes
-pub refused_keeps : (old new : Plain) (n : ℕ) (line : List ℕ) (refusal : Refusal) → PlainStep old n line (refused_text refusal) new → new ≡ old
+pub refused_keeps : (old new : Plain) (n : ℕ) (line : List ℕ) (refusal : Refusal) → PlainStep vector_script old n line (refused_text refusal) new → new ≡ old
 refused_keeps old new n line refusal (told, one, inl is) = is.1 ∙ line_keeps old told n (line_of line) refusal is.0
-refused_keeps old new n line refusal (told, one, inr want) = want_keeps old new (line_of line) (refused_text refusal) want
+refused_keeps old new n line refusal (told, one, inr want) = want_keeps vector_script old new (line_of line) (refused_text refusal) want
 
 -- ---- what was answered is true of the edits that there are at the end
 
@@ -240,18 +151,18 @@ decided_grows s next None grows = grows
 decided_grows s next (Some refusal) grows = grows_none s
 
 -- a line
-line_grows : (s : Plain) (line : Line Command) → Grows s (plain_after s line)
+line_grows : (s : Plain) (line : Line Command) → Grows s (plain_after vector_script s line)
 line_grows s Nothing = grows_none s
 line_grows s Bad = grows_none s
 line_grows s (Do c) = decided_grows s (after s c) (refusal_of s c) (command_grows s c)
 
 -- by its bytes
-step_grows : (old new : Plain) (n : ℕ) (line text : List ℕ) → PlainStep old n line text new → Grows old new
+step_grows : (old new : Plain) (n : ℕ) (line text : List ℕ) → PlainStep vector_script old n line text new → Grows old new
 step_grows old new n line text (told, one, inl is) = subst (Grows old) (sym is.1) (line_grows old (line_of line))
-step_grows old new n line text (told, one, inr want) = subst (Grows old) (sym (want_keeps old new (line_of line) text want)) (grows_none old)
+step_grows old new n line text (told, one, inr want) = subst (Grows old) (sym (want_keeps vector_script old new (line_of line) text want)) (grows_none old)
 
 -- all lines
-answered_grows : (old new : Plain) (n : ℕ) (lines : List (List ℕ)) (text : List ℕ) → Answered PlainStep old n lines text new → Grows old new
+answered_grows : (old new : Plain) (n : ℕ) (lines : List (List ℕ)) (text : List ℕ) → Answered (PlainStep vector_script) old n lines text new → Grows old new
 answered_grows old new n [] text a = subst (Grows old) (sym a.1) (grows_none old)
 answered_grows old new n (line ∷ lines) text (reply, rest, mid, step, more, is) =
     grows_more old mid new (step_grows old mid n line reply step) (answered_grows mid new (n + 1) lines rest more)
@@ -262,7 +173,7 @@ take_first [] ys = refl
 take_first (x ∷ xs) ys = ap (λ rest. x ∷ rest) (take_first xs ys)
 
 -- one line's answer is true of the edits that come to be
-step_true : (old mid last : Plain) (n : ℕ) (line text : List ℕ) → PlainStep old n line text mid → Grows old last → IsTrueOf last.limits last.edits n line text
+step_true : (old mid last : Plain) (n : ℕ) (line text : List ℕ) → PlainStep vector_script old n line text mid → Grows old last → IsTrueOf last.limits last.edits n line text
 step_true old mid last n line text (told, one, cases) grows =
     let first : take (length old.edits) last.edits ≡ old.edits = ap (take (length old.edits)) grows.edits ∙ take_first old.edits grows.more in
     let at : Plain = record { limits = last.limits; edits = take (length old.edits) last.edits; queries = old.queries } in
@@ -273,13 +184,13 @@ step_true old mid last n line text (told, one, cases) grows =
       queries = old.queries;
       told = told;
       answer = elim cases [
-        | inl is ↦ inl (is.0 ∙ ap (λ s. plain_reply told s n (line_of line)) (sym there))
-        | inr want ↦ inr (want_text old mid (line_of line) text want)
+        | inl is ↦ inl (is.0 ∙ ap (λ s. plain_reply vector_script told s n (line_of line)) (sym there))
+        | inr want ↦ inr (want_text vector_script old mid (line_of line) text want)
       ];
     }
 
 -- so is every line's
-pub answered_true : (old last : Plain) (n : ℕ) (lines : List (List ℕ)) (text : List ℕ) → Answered PlainStep old n lines text last
+pub answered_true : (old last : Plain) (n : ℕ) (lines : List (List ℕ)) (text : List ℕ) → Answered (PlainStep vector_script) old n lines text last
     → Answered (TrueStep last.limits last.edits) tt n lines text tt
 answered_true old last n [] text a = (a.0, refl)
 answered_true old last n (line ∷ lines) text (reply, rest, mid, step, more, is) =
@@ -287,5 +198,5 @@ answered_true old last n (line ∷ lines) text (reply, rest, mid, step, more, is
     (reply, rest, tt, step_true old mid last n line reply step grows, answered_true mid last (n + 1) lines rest more, is)
 
 -- the limits stay
-pub answered_limits : (old last : Plain) (n : ℕ) (lines : List (List ℕ)) (text : List ℕ) → Answered PlainStep old n lines text last → last.limits ≡ old.limits
+pub answered_limits : (old last : Plain) (n : ℕ) (lines : List (List ℕ)) (text : List ℕ) → Answered (PlainStep vector_script) old n lines text last → last.limits ≡ old.limits
 answered_limits old last n lines text a = (answered_grows old last n lines text a).limits

@@ -1,20 +1,13 @@
 -- Each line of a script is answered as the plain interpreter answers it.
-use Rattle.std.proofs.Common.{◌≡◌, ◌⊎◌, ℕ, ℤ, ◌+◌, Bool, true, false, Decides, Option, Some, None, Result, Ok, Err, List, [], ◌∷◌, ◌++◌, length, slice_range, codes, decimal, flat_map, int_eq, nat_eq, refl, sym, ap, ap₂, ◌∙◌, subst, inl, inr, append-nil}
-use Rattle.std.specs.Option.{option_eq, option_map_or}
-use Rattle.std.proofs.lemmas.Bool.{cond-false, cond-true}
-use Rattle.std.proofs.lemmas.Bool.Decides.{Decides-and, Decides-eqb, Decides-int_eq}
-use Rattle.std.proofs.lemmas.Slice.Eq.{bytes_eq-Decides}
+use Rattle.std.proofs.Common.{◌≡◌, ◌⊎◌, ℕ, ◌+◌, Bool, Option, Some, None, Result, Ok, Err, List, [], ◌∷◌, ◌++◌, length, codes, decimal, flat_map, refl, sym, ap, ap₂, ◌∙◌, subst, inl, inr, append-nil}
+use Rattle.std.specs.Option.{option_map_or}
 use Rattle.lv_geometry.specs.Bounds.{Bounds}
 use Rattle.lv_geometry.specs.declared.refusals.Refusal.{Refusal}
 use Rattle.lv_geometry.specs.declared.refusals.Refusal.TheVariants.{NoMemory, NoSuchName}
 use Rattle.lv_bodies.specs.declared.kinds.Kind.{Kind}
-use Rattle.lv_bodies.specs.declared.kinds.Kind.TheVariants as kind
-use Rattle.lv_bodies.specs.declared.kinds.Shown.TheVariants as shown
-use Rattle.lv_bodies.specs.Plain.{plain_affine, plain_automaton, plain_best, plain_greatest, plain_least, plain_sum, plain_value, program_table}
 use Rattle.lv_bodies.specs.Six.{SixSummary, six_operations}
 use Rattle.lv_edits.specs.declared.edit.Edit.{Edit}
 use Rattle.lv_edits.specs.declared.receipt.Receipt.{Receipt}
-use Rattle.lv_edits.specs.History.{list_of}
 use Rattle.lv_edits.specs.Ranges.{range_refusal}
 use Rattle.lv_reduce.specs.declared.reductions.Answer.{Answer}
 use Rattle.lv_live.specs.declared.events.Event.{Event}
@@ -23,7 +16,7 @@ use Rattle.lv_live.specs.Step.{EditStep, Reduces, job_of, reduction_reply}
 use Rattle.lv_live.proofs.RunLaws.{claimed_edits, delivered_edits}
 use Rattle.lv_standing.specs.declared.notes.Note.{Note}
 use Rattle.lv_standing.specs.declared.queries.Query.{Query}
-use Rattle.lv_standing.specs.Queries.{AreNotes, query_of, watch_answer, without_query}
+use Rattle.lv_standing.specs.Queries.{AreNotes, between, query_of, watch_answer, without_query}
 use Rattle.lv_lines.specs.declared.command.Command.{Command}
 use Rattle.lv_lines.specs.declared.command.Command.TheVariants as command
 use Rattle.lv_lines.specs.declared.lines.Line.{Line}
@@ -31,60 +24,20 @@ use Rattle.lv_lines.specs.declared.lines.Line.TheVariants.{Nothing, Bad, Do}
 use Rattle.lv_lines.specs.declared.fault.Fault.{Fault}
 use Rattle.lv_lines.specs.Grammar.{line_of}
 use Rattle.lv_lines.specs.Replies.{LinesServed}
-use Rattle.lv_lines.specs.Texts.{named_text, note_text, receipt_text, refused_text}
+use Rattle.lv_lines.specs.Texts.{named_text, receipt_text, refused_text}
 use Rattle.lv_lines.proofs.LineLoopLaws.{lines_served_as}
-use Rattle.lv_script.specs.PlainRuns.{IsOneLine, MeetsWant, PlainStep, may_want}
-use Rattle.lv_script.specs.PlainScript.{Plain, after, note_of, plain_after, plain_reply, refusal_of, reply_of, same_value, start, unknown}
+use Rattle.lv_script.specs.Interpreter.{PlainLine, PlainStep}
+use Rattle.lv_script.specs.PlainScript.{Plain, note_of, start_after, unknown, vector_script}
+use Rattle.lv_script.proofs.InterpreterLaws.{granted, refused, wanted}
 use Rattle.lv_script.specs.Script.{CommandAnswer, HasQueries, LineAnswer, ScriptState, ScriptStep, Tells, TellsEvent, TellsUnwatch, TellsWatch, edit_text, named_answer_text, notes_text, reduced_text, reply_text, scanned_range_text}
-use Rattle.lv_script.specs.Beginnings.{Begins}
+use Rattle.lv_script.specs.Beginnings.{BeginsAfter}
 use Rattle.lv_script.proofs.OneLineLaws.{claim_line, cost_line, delivery_line, refused_line}
+use Rattle.lv_script.proofs.Notes.{notes_text_of}
 use Rattle.lv_script.proofs.OneTextLaws.{edit_reply_tells, no_notes}
 
 -- what the interpreter keeps of all that a script has seen
 abbrev pub plain_of : ScriptState → Plain
 plain_of s = record { limits = s.limits; edits = s.seen.edits; queries = s.queries }
-
--- ---- notes
-
--- the test of two optional numbers tells whether they are the same
-options_decide : (a b : Option ℤ) → Decides (option_eq int_eq a b) (a ≡ b)
-options_decide None None = (λ is. refl, λ same. refl)
-options_decide None (Some y) = (λ is. cc, λ same. cc)
-options_decide (Some x) None = (λ is. cc, λ same. cc)
-options_decide (Some x) (Some y) = let d = Decides-int_eq x y in (λ is. ap Some (d.0 is), λ same. d.1 (cc (same)))
-
--- the test of two values of a kind
-values_decide : (k : Kind) (xs ys : List ℤ) → Decides (same_value (plain_value k xs) (plain_value k ys)) (plain_value k xs ≡ plain_value k ys)
-values_decide kind.Sum xs ys = let d = Decides-eqb (plain_sum xs) (plain_sum ys) in (λ is. ap shown.Sum (d.0 is), λ same. d.1 (cc (same)))
-values_decide kind.Least xs ys = let d = options_decide (plain_least xs) (plain_least ys) in (λ is. ap shown.Least (d.0 is), λ same. d.1 (cc (same)))
-values_decide kind.Greatest xs ys = let d = options_decide (plain_greatest xs) (plain_greatest ys) in (λ is. ap shown.Greatest (d.0 is), λ same. d.1 (cc (same)))
-values_decide kind.Best xs ys = let d = options_decide (plain_best xs) (plain_best ys) in (λ is. ap shown.Best (d.0 is), λ same. d.1 (cc (same)))
-values_decide kind.Affine xs ys =
-    let a = plain_affine xs in
-    let b = plain_affine ys in
-    let d = Decides-and (nat_eq a.0 b.0) (nat_eq a.1 b.1) (Decides-eqb a.0 b.0) (Decides-eqb a.1 b.1) in
-    (λ is. ap₂ shown.Affine (d.0 is).0 (d.0 is).1, λ same. d.1 (cc (same), cc (same)))
-values_decide kind.Automaton xs ys =
-    let d = bytes_eq-Decides (plain_automaton program_table xs) (plain_automaton program_table ys) in (λ is. ap shown.Automaton (d.0 is), λ same. d.1 (cc (same)))
-
--- a test that tells of what isn't so
-decided_not : {P : Type 0} (test : Bool) → Decides test P → (P → ⊥) → test ≡ false
-decided_not true d other = absurd (other (d.0 refl))
-decided_not false d other = refl
-
--- the notes of an edit are those of its queries, one by one
-notes_plain : (old new : List Edit) (queries : List Query) (notes : List Note) → AreNotes old new queries notes → notes_text notes ≡ flat_map (note_of old new) queries
-notes_plain old new [] notes are = ap notes_text are
-notes_plain old new (q ∷ queries) notes are =
-    let test = same_value (watch_answer new q) (watch_answer old q) in
-    let note = note_text q.name (watch_answer new q) in
-    let d = values_decide q.kind (slice_range (list_of new) q.lo q.hi) (slice_range (list_of old) q.lo q.hi) in
-    elim are [
-      | inl same ↦ notes_plain old new queries notes same.1 ∙ ap (λ told. told ++ flat_map (note_of old new) queries) (sym (cond-true test [] note (d.1 same.0)))
-      | inr changed ↦
-          ap notes_text changed.2 ∙ ap (λ rest. note ++ rest) (notes_plain old new queries changed.1 changed.3)
-          ∙ ap (λ told. told ++ flat_map (note_of old new) queries) (sym (cond-false test [] note (decided_not test d changed.0)))
-    ]
 
 -- ---- what is kept
 
@@ -98,75 +51,56 @@ has_edits old new edits limits are queries = λ i. record { limits = limits i; e
 
 -- ---- one line
 
--- one line, by what it says
-abbrev PlainLine : Plain → ℕ → Line Command → List ℕ → Plain → Type 0
-PlainLine old n line text new =
-    (told : List ℕ) × IsOneLine told × (((text ≡ plain_reply told old n line) × (new ≡ plain_after old line)) ⊎ MeetsWant old line text new)
-
--- a command that nothing refuses
-granted : (old new : Plain) (n : ℕ) (c : Command) (text told : List ℕ) → refusal_of old c ≡ None → IsOneLine told → text ≡ reply_of told old c → new ≡ after old c → PlainLine old n (Do c) text new
-granted old new n c text told free one is then =
-    (told, one, inl (is ∙ ap (λ o. option_map_or refused_text o (reply_of told old c)) (sym free), then ∙ ap (λ o. option_map_or (λ refusal. old) o (after old c)) (sym free)))
-
--- one that is refused
-refused : (old new : Plain) (n : ℕ) (c : Command) (text : List ℕ) (refusal : Refusal) → refusal_of old c ≡ Some refusal → text ≡ refused_text refusal → new ≡ old → PlainLine old n (Do c) text new
-refused old new n c text refusal why is same =
-    ([], refl, inl (is ∙ ap (λ o. option_map_or refused_text o (reply_of [] old c)) (sym why), same ∙ ap (λ o. option_map_or (λ refusal. old) o (after old c)) (sym why)))
-
--- one that was refused for want of memory
-wanted : (old new : Plain) (n : ℕ) (c : Command) (text : List ℕ) → may_want c ≡ true → refusal_of old c ≡ None → text ≡ refused_text NoMemory → new ≡ old → PlainLine old n (Do c) text new
-wanted old new n c text may free is same = ([], refl, inr (may, free, is, same))
-
 -- an edit
 edit_plain : (old new : ScriptState) (n : ℕ) (e : Edit) (text : List ℕ) (notes : List Note) (answer : Result Receipt Refusal) → EditStep old.limits old.seen e answer new.seen → new.limits ≡ old.limits → new.queries ≡ old.queries
-    → AreNotes old.seen.edits new.seen.edits old.queries notes → text ≡ edit_text answer ++ notes_text notes → PlainLine (plain_of old) n (Do (command.Edit e)) text (plain_of new)
+    → AreNotes old.seen.edits new.seen.edits old.queries notes → text ≡ edit_text answer ++ notes_text notes → PlainLine vector_script (plain_of old) n (Do (command.Edit e)) text (plain_of new)
 edit_plain old new n e text notes (Ok receipt) step limits queries are is =
-    granted (plain_of old) (plain_of new) n (command.Edit e) text [] step.0 refl
-    (is ∙ ap₂ (λ receipt told. receipt_text receipt ++ told) step.1 (notes_plain old.seen.edits new.seen.edits old.queries notes are ∙ ap (λ edits. flat_map (note_of old.seen.edits edits) old.queries) step.2.edits))
+    granted vector_script (plain_of old) (plain_of new) n (command.Edit e) text [] step.0 refl
+    (is ∙ ap₂ (λ receipt told. receipt_text receipt ++ told) step.1 (notes_text_of (watch_answer old.seen.edits) (watch_answer new.seen.edits) old.queries notes are ∙ ap (λ edits. flat_map (λ q. note_of q (watch_answer old.seen.edits q) (watch_answer edits q)) old.queries) step.2.edits))
     (has_edits old new (old.seen.edits ++ e ∷ []) limits step.2.edits queries)
 edit_plain old new n e text notes (Err refusal) step limits queries are is =
     let none = no_notes old.seen.edits old.queries notes (subst (λ edits. AreNotes old.seen.edits edits old.queries notes) step.1.edits are) in
     let told : text ≡ refused_text refusal = is ∙ ap (λ notes. refused_text refusal ++ notes_text notes) none ∙ append-nil (refused_text refusal) in
     let same = has_edits old new old.seen.edits limits step.1.edits queries in
     elim step.0 [
-      | inl why ↦ refused (plain_of old) (plain_of new) n (command.Edit e) text refusal why told same
-      | inr want ↦ wanted (plain_of old) (plain_of new) n (command.Edit e) text refl want.0 (told ∙ ap refused_text want.1) same
+      | inl why ↦ refused vector_script (plain_of old) (plain_of new) n (command.Edit e) text refusal why told same
+      | inr want ↦ wanted vector_script (plain_of old) (plain_of new) n (command.Edit e) text refl want.0 (told ∙ ap refused_text want.1) same
     ]
 
 -- the value of a kind over a range
 reduced_plain : (old new : ScriptState) (n : ℕ) (kind : Kind) (lo hi : ℕ) (text : List ℕ) (o : Option Refusal) → range_refusal old.seen.edits lo hi ≡ o → Tells old (reduced_text old.seen.edits kind lo hi o) text new
-    → PlainLine (plain_of old) n (Do (command.Reduce kind lo hi)) text (plain_of new)
-reduced_plain old new n kind lo hi text None free t = granted (plain_of old) (plain_of new) n (command.Reduce kind lo hi) text [] free refl t.0 (has_queries old new old.queries t.1)
-reduced_plain old new n kind lo hi text (Some refusal) why t = refused (plain_of old) (plain_of new) n (command.Reduce kind lo hi) text refusal why t.0 (has_queries old new old.queries t.1)
+    → PlainLine vector_script (plain_of old) n (Do (command.Reduce kind lo hi)) text (plain_of new)
+reduced_plain old new n kind lo hi text None free t = granted vector_script (plain_of old) (plain_of new) n (command.Reduce kind lo hi) text [] free refl t.0 (has_queries old new old.queries t.1)
+reduced_plain old new n kind lo hi text (Some refusal) why t = refused vector_script (plain_of old) (plain_of new) n (command.Reduce kind lo hi) text refusal why t.0 (has_queries old new old.queries t.1)
 
 -- a scan
 scanned_plain : (old new : ScriptState) (n : ℕ) (inclusive : Bool) (kind : Kind) (lo hi : ℕ) (text : List ℕ) (o : Option Refusal) → range_refusal old.seen.edits lo hi ≡ o → Tells old (scanned_range_text old.seen.edits inclusive kind lo hi o) text new
-    → PlainLine (plain_of old) n (Do (command.Scan inclusive kind lo hi)) text (plain_of new)
-scanned_plain old new n inclusive kind lo hi text None free t = granted (plain_of old) (plain_of new) n (command.Scan inclusive kind lo hi) text [] free refl t.0 (has_queries old new old.queries t.1)
-scanned_plain old new n inclusive kind lo hi text (Some refusal) why t = refused (plain_of old) (plain_of new) n (command.Scan inclusive kind lo hi) text refusal why t.0 (has_queries old new old.queries t.1)
+    → PlainLine vector_script (plain_of old) n (Do (command.Scan inclusive kind lo hi)) text (plain_of new)
+scanned_plain old new n inclusive kind lo hi text None free t = granted vector_script (plain_of old) (plain_of new) n (command.Scan inclusive kind lo hi) text [] free refl t.0 (has_queries old new old.queries t.1)
+scanned_plain old new n inclusive kind lo hi text (Some refusal) why t = refused vector_script (plain_of old) (plain_of new) n (command.Scan inclusive kind lo hi) text refusal why t.0 (has_queries old new old.queries t.1)
 
 -- a query that is registered, or not
-watch_plain : (old new : ScriptState) (n : ℕ) (name : List ℕ) (kind : Kind) (lo hi : ℕ) (text : List ℕ) → TellsWatch old record { name = name; kind = kind; lo = lo; hi = hi } text new
-    → PlainLine (plain_of old) n (Do (command.Watch name kind lo hi)) text (plain_of new)
+watch_plain : (old new : ScriptState) (n : ℕ) (name : List ℕ) (kind : Kind) (lo hi : ℕ) (text : List ℕ) → TellsWatch old (between name kind lo hi) text new
+    → PlainLine vector_script (plain_of old) n (Do (command.Watch name kind lo hi)) text (plain_of new)
 watch_plain old new n name kind lo hi text (inl is) =
-    granted (plain_of old) (plain_of new) n (command.Watch name kind lo hi) text [] is.0 refl is.1 (has_queries old new (old.queries ++ record { name = name; kind = kind; lo = lo; hi = hi } ∷ []) is.2)
+    granted vector_script (plain_of old) (plain_of new) n (command.Watch name kind lo hi) text [] is.0 refl is.1 (has_queries old new (old.queries ++ between name kind lo hi ∷ []) is.2)
 watch_plain old new n name kind lo hi text (inr (refusal, why, t)) =
     let same = has_queries old new old.queries t.1 in
     elim why [
-      | inl first ↦ refused (plain_of old) (plain_of new) n (command.Watch name kind lo hi) text refusal first t.0 same
-      | inr want ↦ wanted (plain_of old) (plain_of new) n (command.Watch name kind lo hi) text refl want.0 (t.0 ∙ ap refused_text want.1) same
+      | inl first ↦ refused vector_script (plain_of old) (plain_of new) n (command.Watch name kind lo hi) text refusal first t.0 same
+      | inr want ↦ wanted vector_script (plain_of old) (plain_of new) n (command.Watch name kind lo hi) text refl want.0 (t.0 ∙ ap refused_text want.1) same
     ]
 
 -- a query that is forgotten
-unwatch_plain : (old new : ScriptState) (n : ℕ) (name text : List ℕ) (o : Option Query) → query_of old.queries name ≡ o → TellsUnwatch old name o text new → PlainLine (plain_of old) n (Do (command.Unwatch name)) text (plain_of new)
-unwatch_plain old new n name text None none t = refused (plain_of old) (plain_of new) n (command.Unwatch name) text NoSuchName (ap unknown none) t.0 (has_queries old new old.queries t.1)
-unwatch_plain old new n name text (Some q) some t = granted (plain_of old) (plain_of new) n (command.Unwatch name) text [] (ap unknown some) refl t.0 (has_queries old new (without_query old.queries name) t.1)
+unwatch_plain : (old new : ScriptState) (n : ℕ) (name text : List ℕ) (o : Option Query) → query_of old.queries name ≡ o → TellsUnwatch old name o text new → PlainLine vector_script (plain_of old) n (Do (command.Unwatch name)) text (plain_of new)
+unwatch_plain old new n name text None none t = refused vector_script (plain_of old) (plain_of new) n (command.Unwatch name) text NoSuchName (ap unknown none) t.0 (has_queries old new old.queries t.1)
+unwatch_plain old new n name text (Some q) some t = granted vector_script (plain_of old) (plain_of new) n (command.Unwatch name) text [] (ap unknown some) refl t.0 (has_queries old new (without_query old.queries name) t.1)
 
 -- what a query answers
-named_plain : (old new : ScriptState) (n : ℕ) (name text : List ℕ) (o : Option Query) → query_of old.queries name ≡ o → Tells old (named_answer_text old.seen.edits name o) text new → PlainLine (plain_of old) n (Do (command.Answer name)) text (plain_of new)
-named_plain old new n name text None none t = refused (plain_of old) (plain_of new) n (command.Answer name) text NoSuchName (ap unknown none) t.0 (has_queries old new old.queries t.1)
+named_plain : (old new : ScriptState) (n : ℕ) (name text : List ℕ) (o : Option Query) → query_of old.queries name ≡ o → Tells old (named_answer_text old.seen.edits name o) text new → PlainLine vector_script (plain_of old) n (Do (command.Answer name)) text (plain_of new)
+named_plain old new n name text None none t = refused vector_script (plain_of old) (plain_of new) n (command.Answer name) text NoSuchName (ap unknown none) t.0 (has_queries old new old.queries t.1)
 named_plain old new n name text (Some q) some t =
-    granted (plain_of old) (plain_of new) n (command.Answer name) text [] (ap unknown some) refl
+    granted vector_script (plain_of old) (plain_of new) n (command.Answer name) text [] (ap unknown some) refl
     (t.0 ∙ ap (λ o. option_map_or (λ q. named_text (length old.seen.edits) name (watch_answer old.seen.edits q)) o []) (sym some)) (has_queries old new old.queries t.1)
 
 -- an event that leaves the edits leaves what the interpreter keeps
@@ -175,41 +109,41 @@ event_same old new event text t same = has_edits old new old.seen.edits t.does.l
 
 -- how many reads a reduction takes
 cost_plain : (old new : ScriptState) (n lo hi : ℕ) (text : List ℕ) (answer : Result (Answer SixSummary) Refusal) → Reduces six_operations old.seen lo hi answer → text ≡ reply_text (reduction_reply answer) → plain_of new ≡ plain_of old
-    → PlainLine (plain_of old) n (Do (command.Cost lo hi)) text (plain_of new)
+    → PlainLine vector_script (plain_of old) n (Do (command.Cost lo hi)) text (plain_of new)
 cost_plain old new n lo hi text (Ok answer) is told same =
-    granted (plain_of old) (plain_of new) n (command.Cost lo hi) text
+    granted vector_script (plain_of old) (plain_of new) n (command.Cost lo hi) text
     (codes "cells " ++ decimal answer.cells_read ++ codes " summaries " ++ decimal answer.summaries_read) is.0.granted (cost_line answer.cells_read answer.summaries_read) told same
-cost_plain old new n lo hi text (Err refusal) why told same = refused (plain_of old) (plain_of new) n (command.Cost lo hi) text refusal why told same
+cost_plain old new n lo hi text (Err refusal) why told same = refused vector_script (plain_of old) (plain_of new) n (command.Cost lo hi) text refusal why told same
 
 -- a claim
-claim_plain : (old new : ScriptState) (n : ℕ) (text : List ℕ) → TellsEvent old event.Claim text new ⊎ Tells old (refused_text NoMemory) text new → PlainLine (plain_of old) n (Do command.Claim) text (plain_of new)
+claim_plain : (old new : ScriptState) (n : ℕ) (text : List ℕ) → TellsEvent old event.Claim text new ⊎ Tells old (refused_text NoMemory) text new → PlainLine vector_script (plain_of old) n (Do command.Claim) text (plain_of new)
 claim_plain old new n text (inl t) =
     let step = t.does.step in
     let line = claim_line (length old.seen.issued + 1) step.0 in
-    granted (plain_of old) (plain_of new) n command.Claim text line.0 refl line.1 (t.text_is ∙ ap reply_text step.2 ∙ line.2) (event_same old new event.Claim text t (step.3.edits ∙ claimed_edits old.seen step.0))
+    granted vector_script (plain_of old) (plain_of new) n command.Claim text line.0 refl line.1 (t.text_is ∙ ap reply_text step.2 ∙ line.2) (event_same old new event.Claim text t (step.3.edits ∙ claimed_edits old.seen step.0))
 claim_plain old new n text (inr t) =
     let line = refused_line NoMemory in
-    granted (plain_of old) (plain_of new) n command.Claim text line.0 refl line.1 (t.0 ∙ line.2) (has_queries old new old.queries t.1)
+    granted vector_script (plain_of old) (plain_of new) n command.Claim text line.0 refl line.1 (t.0 ∙ line.2) (has_queries old new old.queries t.1)
 
 -- a delivery
-delivery_plain : (old new : ScriptState) (n k : ℕ) (text : List ℕ) → TellsEvent old (event.Deliver k) text new → PlainLine (plain_of old) n (Do (command.Deliver k)) text (plain_of new)
+delivery_plain : (old new : ScriptState) (n k : ℕ) (text : List ℕ) → TellsEvent old (event.Deliver k) text new → PlainLine vector_script (plain_of old) n (Do (command.Deliver k)) text (plain_of new)
 delivery_plain old new n k text t =
     let step = t.does.step in
     let line = delivery_line old.seen (job_of old.seen k) in
-    granted (plain_of old) (plain_of new) n (command.Deliver k) text line.0 refl line.1 (t.text_is ∙ ap reply_text step.0 ∙ line.2)
+    granted vector_script (plain_of old) (plain_of new) n (command.Deliver k) text line.0 refl line.1 (t.text_is ∙ ap reply_text step.0 ∙ line.2)
     (event_same old new (event.Deliver k) text t (step.1.edits ∙ delivered_edits old.seen (job_of old.seen k)))
 
 -- a command
-command_plain : (old new : ScriptState) (n : ℕ) (c : Command) (text : List ℕ) → CommandAnswer old c text new → PlainLine (plain_of old) n (Do c) text (plain_of new)
+command_plain : (old new : ScriptState) (n : ℕ) (c : Command) (text : List ℕ) → CommandAnswer old c text new → PlainLine vector_script (plain_of old) n (Do c) text (plain_of new)
 command_plain old new n (command.Edit e) text t =
     let step = t.does.step in
     edit_plain old new n e text t.notes step.0 step.2 t.does.limits t.does.queries t.notes_are
     (t.text_is ∙ ap (λ answer. edit_text answer ++ notes_text t.notes) (edit_reply_tells t.answer step.0 step.1))
 command_plain old new n command.Settle text t =
-    granted (plain_of old) (plain_of new) n command.Settle text [] refl refl (t.text_is ∙ ap reply_text t.does.step.0) (event_same old new event.Settle text t t.does.step.1.edits)
-command_plain old new n (command.Get i) text t = granted (plain_of old) (plain_of new) n (command.Get i) text [] refl refl t.0 (has_queries old new old.queries t.1)
-command_plain old new n command.Size text t = granted (plain_of old) (plain_of new) n command.Size text [] refl refl t.0 (has_queries old new old.queries t.1)
-command_plain old new n command.Capacity text t = granted (plain_of old) (plain_of new) n command.Capacity text [] refl refl t.0 (has_queries old new old.queries t.1)
+    granted vector_script (plain_of old) (plain_of new) n command.Settle text [] refl refl (t.text_is ∙ ap reply_text t.does.step.0) (event_same old new event.Settle text t t.does.step.1.edits)
+command_plain old new n (command.Get i) text t = granted vector_script (plain_of old) (plain_of new) n (command.Get i) text [] refl refl t.0 (has_queries old new old.queries t.1)
+command_plain old new n command.Size text t = granted vector_script (plain_of old) (plain_of new) n command.Size text [] refl refl t.0 (has_queries old new old.queries t.1)
+command_plain old new n command.Capacity text t = granted vector_script (plain_of old) (plain_of new) n command.Capacity text [] refl refl t.0 (has_queries old new old.queries t.1)
 command_plain old new n (command.Reduce kind lo hi) text t = reduced_plain old new n kind lo hi text (range_refusal old.seen.edits lo hi) refl t
 command_plain old new n (command.Cost lo hi) text t =
     let step = t.does.step in cost_plain old new n lo hi text step.0 step.2 (t.text_is ∙ ap reply_text step.1) (event_same old new (event.Reduce lo hi) text t step.3.edits)
@@ -217,29 +151,26 @@ command_plain old new n (command.Scan inclusive kind lo hi) text t = scanned_pla
 command_plain old new n command.Claim text t = claim_plain old new n text t
 command_plain old new n (command.Deliver k) text t = delivery_plain old new n k text t
 command_plain old new n command.Forget text t =
-    granted (plain_of old) (plain_of new) n command.Forget text [] refl refl (t.text_is ∙ ap reply_text t.does.step.0) (event_same old new event.Forget text t t.does.step.1.edits)
+    granted vector_script (plain_of old) (plain_of new) n command.Forget text [] refl refl (t.text_is ∙ ap reply_text t.does.step.0) (event_same old new event.Forget text t t.does.step.1.edits)
 command_plain old new n (command.Watch name kind lo hi) text t = watch_plain old new n name kind lo hi text t
 command_plain old new n (command.Unwatch name) text t = unwatch_plain old new n name text (query_of old.queries name) refl t
 command_plain old new n (command.Answer name) text t = named_plain old new n name text (query_of old.queries name) refl t
 
 -- a line
-line_plain : (old new : ScriptState) (n : ℕ) (line : Line Command) (text : List ℕ) → LineAnswer old n line text new → PlainLine (plain_of old) n line text (plain_of new)
+line_plain : (old new : ScriptState) (n : ℕ) (line : Line Command) (text : List ℕ) → LineAnswer old n line text new → PlainLine vector_script (plain_of old) n line text (plain_of new)
 line_plain old new n Nothing text t = ([], refl, inl (t.0, has_queries old new old.queries t.1))
 line_plain old new n Bad text t = ([], refl, inl (t.0, has_queries old new old.queries t.1))
 line_plain old new n (Do c) text t = command_plain old new n c text t
 
 -- a line moves what the interpreter keeps by a step of its own
-pub step_plain : (s : ScriptState) (p : Plain) (n : ℕ) (line text : List ℕ) (u : ScriptState) → p ≡ plain_of s → ScriptStep s n line text u → (q : Plain) × (q ≡ plain_of u) × PlainStep p n line text q
+pub step_plain : (s : ScriptState) (p : Plain) (n : ℕ) (line text : List ℕ) (u : ScriptState) → p ≡ plain_of s → ScriptStep s n line text u → (q : Plain) × (q ≡ plain_of u) × PlainStep vector_script p n line text q
 unfolding ScriptStep
-step_plain s p n line text u is step = (plain_of u, refl, subst (λ p. PlainStep p n line text (plain_of u)) (sym is) (line_plain s u n (line_of line) text step))
+step_plain s p n line text u is step = (plain_of u, refl, subst (λ p. PlainStep vector_script p n line text (plain_of u)) (sym is) (line_plain s u n (line_of line) text step))
 
--- a script begins as the interpreter does
-begins_plain : (limits : Bounds) (s : ScriptState) → Begins limits s → start limits ≡ plain_of s
-begins_plain limits s b = λ i. record { limits = sym b.limits_are i; edits = sym b.edits i; queries = sym b.queries i }
-
--- the conversation of a script is one of the interpreter
-pub lines_served_plain : {R : Type 0} (limits : Bounds) (first last : ScriptState) (a b k l : Option (List ℕ)) (result : Result R Fault) → Begins limits first → LinesServed ScriptStep first last a b k l result
-    → (end : Plain) × LinesServed PlainStep (start limits) end a b k l result
-lines_served_plain limits first last a b k l result begins c =
-    let came = lines_served_as (λ s p. p ≡ plain_of s) (record { moves = step_plain }) first (start limits) last a b k l result (begins_plain limits first begins) c in
+-- the conversation of a script that begins with some edits is one of the interpreter
+pub lines_served_plain : {R : Type 0} (limits : Bounds) (edits : List Edit) (first last : ScriptState) (a b k l : Option (List ℕ)) (result : Result R Fault) → BeginsAfter limits edits first → LinesServed ScriptStep first last a b k l result
+    → (end : Plain) × LinesServed (PlainStep vector_script) (start_after limits edits) end a b k l result
+lines_served_plain limits edits first last a b k l result begins c =
+    let same : start_after limits edits ≡ plain_of first = λ i. record { limits = sym begins.limits_are i; edits = sym begins.edits_are i; queries = sym begins.queries i } in
+    let came = lines_served_as (λ s p. p ≡ plain_of s) (record { moves = step_plain }) first (start_after limits edits) last a b k l result same c in
     (came.0, came.2)

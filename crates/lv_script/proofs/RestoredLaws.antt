@@ -1,6 +1,5 @@
 -- A script that goes on from edits is answered as the plain interpreter answers it from these on.
-use Rattle.std.proofs.Common.{◌≡◌, ℕ, zero, suc, ◌+◌, ◌<◌, None, Option, Result, Ok, Err, OnOk, List, [], ◌∷◌, ◌++◌, length, take, get_or, refl, sym, ap, ◌∙◌, subst, arith, lit≤, append_assoc, append-nil}
-use Rattle.std.specs.Io.KnownBytes.{Appends, Consumes, IsAtEnd}
+use Rattle.std.proofs.Common.{◌≡◌, ℕ, zero, suc, ◌+◌, ◌<◌, None, Option, Result, Err, List, [], ◌∷◌, ◌++◌, length, take, get_or, refl, sym, ap, ◌∙◌, subst, arith, lit≤, append_assoc, append-nil}
 use Rattle.std.proofs.KnownBytes.{Consumes-nil}
 use Rattle.std.proofs.lemmas.List.{take_more}
 use Rattle.lv_geometry.specs.Bounds.{Bounds}
@@ -10,41 +9,28 @@ use Rattle.lv_edits.specs.Verdict.{verdict_of}
 use Rattle.lv_lines.specs.declared.fault.Fault.{Fault}
 use Rattle.lv_lines.specs.declared.fault.Fault.TheVariants.{NoMemory}
 use Rattle.lv_lines.specs.Replies.{LinesServed}
-use Rattle.lv_lines.proofs.LineLoopLaws.{lines_served_as}
 use Rattle.lv_transcript.specs.Transcript.{AreAcceptedAfter}
-use Rattle.lv_script.specs.PlainRuns.{NeverWants, PlainStep}
-use Rattle.lv_script.specs.PlainScript.{Plain}
-use Rattle.lv_script.specs.Restored.{AnswersAfter, IsPlainTextAfter, start_after}
+use Rattle.lv_script.specs.PlainScript.{start_after, vector_script}
+use Rattle.lv_script.specs.Restored.{AnswersAfter}
 use Rattle.lv_script.specs.Script.{ScriptState, ScriptStep}
 use Rattle.lv_script.specs.Beginnings.{BeginsAfter}
-use Rattle.lv_script.proofs.PlainRunLaws.{room_text}
-use Rattle.lv_script.proofs.PlainStepLaws.{plain_of, step_plain}
+use Rattle.lv_script.proofs.InterpreterLaws.{written_plain}
+use Rattle.lv_script.proofs.PlainStepLaws.{lines_served_plain}
+use Rattle.lv_script.proofs.WholeLaws.{whole_command}
 
-module _ (limits : Bounds) (edits : List Edit) where
-  -- such a script begins as the interpreter does
-  begins_after : (s : ScriptState) → BeginsAfter limits edits s → start_after limits edits ≡ plain_of s
-  begins_after s b = λ i. record { limits = sym b.limits_are i; edits = sym b.edits_are i; queries = sym b.queries i }
-
-  -- what a conversation wrote that came to the end of its input
-  written_after : {T : Type 0} (last : Plain) (a b k l : Option (List ℕ)) (result : Result T Fault) → LinesServed PlainStep (start_after limits edits) last a b k l result
-      → OnOk result ((input : List ℕ) × (text : List ℕ) × Consumes a b input × IsAtEnd b × Appends k l text × (NeverWants text → IsPlainTextAfter limits edits input text))
-  written_after last a b k l (Ok done) c =
-      let all = c.ends.2 in
-      (c.seen, all.text, c.read, c.ends.0, all.written, λ never. room_text (start_after limits edits) last 1 _ all.text all.answered never)
-  written_after last a b k l (Err fault) c = tt
-
+module _ {T : Type 0} (limits : Bounds) (edits : List Edit) where
   -- a script's conversation from these edits on
-  pub answers_after : {T : Type 0} (first last : ScriptState) (a b k l : Option (List ℕ)) (result : Result T Fault) → BeginsAfter limits edits first → LinesServed ScriptStep first last a b k l result
+  pub answers_after : (first last : ScriptState) (a b k l : Option (List ℕ)) (result : Result T Fault) → BeginsAfter limits edits first → LinesServed ScriptStep first last a b k l result
       → AnswersAfter limits edits a b k l result
   answers_after first last a b k l result begins c =
-      let came = lines_served_as (λ s p. p ≡ plain_of s) (record { moves = step_plain }) first (start_after limits edits) last a b k l result (begins_after first begins) c in
-      record { seen = (first, last, begins, c); plain = (came.0, came.2); text = written_after came.0 a b k l result came.2 }
+      let plain = lines_served_plain limits edits first last a b k l result begins c in
+      record { seen = (first, last, begins, c); plain = plain; text = written_plain vector_script whole_command (start_after limits edits) plain.0 a b k l result plain.1 }
 
   -- it never began, for want of memory
-  pub answers_none : {T : Type 0} (a k : Option (List ℕ)) → AnswersAfter {T = T} limits edits a a k k (Err NoMemory)
-  answers_none {T} a k =
+  pub answers_none : (a k : Option (List ℕ)) → AnswersAfter {T = T} limits edits a a k k (Err NoMemory)
+  answers_none a k =
       let first : ScriptState = record { limits = limits; seen = record { edits = edits; issued = []; claimed = λ n. None; kept = λ n. None }; queries = [] } in
-      answers_after {T = T} first first a a k k (Err NoMemory) record { limits_are = refl; edits_are = refl; issued = refl; claimed = λ n. refl; kept = λ n. refl; queries = refl }
+      answers_after first first a a k k (Err NoMemory) record { limits_are = refl; edits_are = refl; issued = refl; claimed = λ n. refl; kept = λ n. refl; queries = refl }
       record { seen = []; read = Consumes-nil a; few = lit≤ tt; ends = (refl, refl, refl) }
 
 -- ---- edits that are made one after the other

@@ -5,16 +5,7 @@ use Rattle.lv_geometry.specs.declared.nodes.Node.{Node}
 use Rattle.lv_edits.specs.declared.edit.Edit.{Edit}
 use Rattle.lv_script.specs.Script.{ScriptState}
 
--- a script begins with no edits, no jobs, no claims, no summaries and no queries
-pub record Begins (limits : Bounds) (s : ScriptState) : Type 0 where
-  pub limits_are : s.limits ≡ limits
-  pub edits : s.seen.edits ≡ []
-  pub issued : s.seen.issued ≡ []
-  pub claimed : (n : Node) → s.seen.claimed n ≡ None
-  pub kept : (n : Node) → s.seen.kept n ≡ None
-  pub queries : s.queries ≡ []
-
--- or with these edits, and nothing else
+-- a script begins with these edits, and with no jobs, no claims, no summaries and no queries
 pub record BeginsAfter (limits : Bounds) (edits : List Edit) (s : ScriptState) : Type 0 where
   pub limits_are : s.limits ≡ limits
   pub edits_are : s.seen.edits ≡ edits
@@ -22,3 +13,7 @@ pub record BeginsAfter (limits : Bounds) (edits : List Edit) (s : ScriptState) :
   pub claimed : (n : Node) → s.seen.claimed n ≡ None
   pub kept : (n : Node) → s.seen.kept n ≡ None
   pub queries : s.queries ≡ []
+
+-- or with none
+abbrev pub Begins : Bounds → ScriptState → Type 0
+Begins limits s = BeginsAfter limits [] s

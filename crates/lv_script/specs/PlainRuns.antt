@@ -1,51 +1,18 @@
--- Scripts as the plain interpreter answers them: line by line, also where memory is wanting, and without the lines of refresh and cost.
-use Rattle.std.specs.Prelude.{◌≡◌, ◌≢◌, ◌⊎◌, ℕ, ◌≤◌, Bool, true, false, IsTrue, None, List, [], ◌∷◌, ◌++◌, length, take, map, All, if◌then◌else◌}
+-- What the plain interpreter of a vector's scripts answers, by the edits that come to be, and without the lines of refresh and cost.
+use Rattle.std.specs.Prelude.{◌≡◌, ◌⊎◌, ℕ, ◌≤◌, Bool, true, false, List, [], ◌∷◌, ◌++◌, length, take, if◌then◌else◌}
 use Rattle.std.specs.List.{flat_map}
 use Rattle.lv_geometry.specs.Bounds.{Bounds}
 use Rattle.lv_geometry.specs.declared.refusals.Refusal.TheVariants.{NoMemory}
 use Rattle.lv_edits.specs.declared.edit.Edit.{Edit}
 use Rattle.lv_standing.specs.declared.queries.Query.{Query}
 use Rattle.lv_lines.specs.declared.command.Command.{Command}
-use Rattle.lv_lines.specs.declared.command.Command.TheVariants as command
-use Rattle.lv_lines.specs.declared.command.Command.TheVariants.{Settle, Cost, Claim, Deliver, Forget, Watch}
+use Rattle.lv_lines.specs.declared.command.Command.TheVariants.{Settle, Cost, Claim, Deliver, Forget}
 use Rattle.lv_lines.specs.declared.lines.Line.{Line}
 use Rattle.lv_lines.specs.declared.lines.Line.TheVariants.{Nothing, Bad, Do}
 use Rattle.lv_lines.specs.Grammar.{line_of}
-use Rattle.lv_lines.specs.Input.{has_end, lines_of}
 use Rattle.lv_lines.specs.Texts.{bad_text, refused_text, reply_line}
-use Rattle.lv_script.specs.PlainScript.{Plain, plain_after, plain_reply, plain_text, refusal_of, start}
-
--- ---- line by line
-
--- no LF stands in it, so it is one line of a reply
-abbrev pub IsOneLine : List ℕ → Type 0
-IsOneLine bytes = has_end bytes ≡ false
-
--- whether a command may ask for memory that is not there: an edit, or a new query
-abbrev pub may_want : Command → Bool
-may_want (command.Edit e) = true
-may_want (Watch name kind lo hi) = true
-may_want _ = false
-
--- a command that nothing else refuses was refused for want of memory, and nothing has changed
-abbrev pub MeetsWant : Plain → Line Command → List ℕ → Plain → Type 0
-MeetsWant old (Do c) text new = IsTrue (may_want c) × (refusal_of old c ≡ None) × (text ≡ refused_text NoMemory) × (new ≡ old)
-MeetsWant old _ text new = ⊥
-
--- one line of a script, by its bytes and its number: the interpreter's reply and what it keeps then, of something that the line was told;
--- or want of memory
-abbrev pub PlainStep : Plain → ℕ → List ℕ → List ℕ → Plain → Type 0
-PlainStep old n line text new =
-    (told : List ℕ) × IsOneLine told
-    × (((text ≡ plain_reply told old n (line_of line)) × (new ≡ plain_after old (line_of line))) ⊎ MeetsWant old (line_of line) text new)
-
--- a text in which no line tells that memory was wanting
-abbrev pub NeverWants : List ℕ → Type 0
-NeverWants text = All (λ line. reply_line line ≢ refused_text NoMemory) (lines_of text)
-
--- a text is the interpreter's answer to an input, of each line its first 121 bytes, where each line is told something
-abbrev pub IsPlainText : Bounds → List ℕ → List ℕ → Type 0
-IsPlainText limits input text = (told : ℕ → List ℕ) × ((n : ℕ) → IsOneLine (told n)) × (text ≡ plain_text told (start limits) 1 (map (take 121) (lines_of input)))
+use Rattle.lv_script.specs.Interpreter.{IsOneLine, plain_after, plain_reply}
+use Rattle.lv_script.specs.PlainScript.{Plain, vector_script}
 
 -- what line n was answered is true of some edits: it is the interpreter's reply after the first so many of them, or `refused 6`
 pub record IsTrueOf (limits : Bounds) (edits : List Edit) (n : ℕ) (line text : List ℕ) : Type 0 where
@@ -53,7 +20,7 @@ pub record IsTrueOf (limits : Bounds) (edits : List Edit) (n : ℕ) (line text :
   pub within : many ≤ length edits
   pub queries : List Query
   pub told : List ℕ
-  pub answer : (text ≡ plain_reply told record { limits = limits; edits = take many edits; queries = queries } n (line_of line)) ⊎ (text ≡ refused_text NoMemory)
+  pub answer : (text ≡ plain_reply vector_script told record { limits = limits; edits = take many edits; queries = queries } n (line_of line)) ⊎ (text ≡ refused_text NoMemory)
 
 -- so of a line, in a run that keeps nothing
 abbrev pub TrueStep : Bounds → List Edit → Unit {0} → ℕ → List ℕ → List ℕ → Unit {0} → Type 0
@@ -82,7 +49,7 @@ asked_in lines = flat_map (λ line. asked_by (line_of line)) lines
 -- what they are answered, each after those before it: nothing is told
 abbrev pub plain_answers : Plain → List Command → List (List ℕ)
 plain_answers s [] = []
-plain_answers s (c ∷ commands) = plain_reply [] s 0 (Do c) ∷ plain_answers (plain_after s (Do c)) commands
+plain_answers s (c ∷ commands) = plain_reply vector_script [] s 0 (Do c) ∷ plain_answers (plain_after vector_script s (Do c)) commands
 
 -- of the answers that are still to come, in order, an edit or query takes the first. A line that says nothing is answered by nothing, a bad
 -- one by its number, every other by one line

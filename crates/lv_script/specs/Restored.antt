@@ -1,10 +1,9 @@
 -- Scripts that go on from edits that were made before, as those of a transcript's front.
-use Rattle.std.specs.Prelude.{◌≡◌, ℕ, ◌+◌, ◌^◌, ◌≤◌, List, [], length, take, map, Option, Result, Ok, Err, OnOk}
+use Rattle.std.specs.Prelude.{◌≡◌, ℕ, ◌+◌, ◌^◌, ◌≤◌, List, length, Option, Result, Ok, Err, OnOk}
 use Rattle.std.specs.Io.KnownBytes.{Appends, Consumes, IsAtEnd}
 use Rattle.lv_geometry.specs.Bounds.{Bounds}
 use Rattle.lv_edits.specs.declared.edit.Edit.{Edit}
 use Rattle.lv_lines.specs.declared.fault.Fault.{Fault}
-use Rattle.lv_lines.specs.Input.{lines_of}
 use Rattle.lv_lines.specs.Replies.{LinesServed}
 use Rattle.lv_transcript.specs.declared.fronts.FrontVerdict.{FrontVerdict}
 use Rattle.lv_transcript.specs.declared.fronts.FrontVerdict.TheVariants as verdicts
@@ -12,30 +11,21 @@ use Rattle.lv_transcript.specs.Fronts.{FrontFound, IsRightOfFront, ReadingEnds}
 use Rattle.lv_transcript.specs.Transcript.{IsWhole, greatest}
 use Rattle.lv_script.specs.declared.restored.Unrestored.{Unrestored}
 use Rattle.lv_script.specs.declared.restored.Unrestored.TheVariants as unrestored
-use Rattle.lv_script.specs.PlainRuns.{IsOneLine, NeverWants, PlainStep}
-use Rattle.lv_script.specs.PlainScript.{Plain, plain_text}
+use Rattle.lv_script.specs.Interpreter.{IsPlainText, NeverWants, PlainStep}
+use Rattle.lv_script.specs.PlainScript.{Plain, start_after, vector_script}
 use Rattle.lv_script.specs.Script.{ScriptState, ScriptStep}
 use Rattle.lv_script.specs.Beginnings.{BeginsAfter}
-
--- the plain interpreter begins with these edits and no queries
-abbrev pub start_after : Bounds → List Edit → Plain
-start_after limits edits = record { limits = limits; edits = edits; queries = [] }
-
--- a text is that interpreter's answer to an input, of each line its first 121 bytes, where each line is told something
-abbrev pub IsPlainTextAfter : Bounds → List Edit → List ℕ → List ℕ → Type 0
-IsPlainTextAfter limits edits input text =
-    (told : ℕ → List ℕ) × ((n : ℕ) → IsOneLine (told n)) × (text ≡ plain_text told (start_after limits edits) 1 (map (take 121) (lines_of input)))
 
 -- a script was answered from these edits on. Line by line the replies are the plain interpreter's; at the end of the input all that was written is its
 -- text, unless a line of it tells that memory was wanting
 pub record AnswersAfter {T : Type 0} (limits : Bounds) (edits : List Edit) (remaining_old remaining_new contents_old contents_new : Option (List ℕ)) (result : Result T Fault) : Type 0 where
   pub seen :
       (first : ScriptState) × (last : ScriptState) × BeginsAfter limits edits first × LinesServed ScriptStep first last remaining_old remaining_new contents_old contents_new result
-  pub plain : (last : Plain) × LinesServed PlainStep (start_after limits edits) last remaining_old remaining_new contents_old contents_new result
+  pub plain : (last : Plain) × LinesServed (PlainStep vector_script) (start_after limits edits) last remaining_old remaining_new contents_old contents_new result
   pub text :
       OnOk result (
       (input : List ℕ) × (text : List ℕ) × Consumes remaining_old remaining_new input × IsAtEnd remaining_new × Appends contents_old contents_new text
-      × (NeverWants text → IsPlainTextAfter limits edits input text)
+      × (NeverWants text → IsPlainText vector_script (start_after limits edits) input text)
       )
 
 -- nothing was read and nothing written

@@ -22,7 +22,7 @@ use Rattle.lv_live.specs.declared.replies.Reply.TheVariants as reply
 use Rattle.lv_live.specs.Step.{Step, edit_reply}
 use Rattle.lv_standing.specs.declared.notes.Note.{Note}
 use Rattle.lv_standing.specs.declared.queries.Query.{Query}
-use Rattle.lv_standing.specs.Queries.{AreNotes, query_of, watch_answer, watch_refusal, without_query}
+use Rattle.lv_standing.specs.Queries.{AreNotes, between, query_of, query_refusal, watch_answer, without_query}
 use Rattle.lv_lines.specs.declared.command.Command.{Command}
 use Rattle.lv_lines.specs.declared.command.Command.TheVariants as command
 use Rattle.lv_lines.specs.declared.command.Command.TheVariants.{Settle, Get, Size, Capacity, Reduce, Cost, Scan, Claim, Deliver, Forget, Watch, Unwatch, Answer}
@@ -110,8 +110,8 @@ TellsScan old inclusive kind lo hi text new = Tells old (scanned_range_text old.
 -- a query is registered after the others; or it is refused, for want of memory where nothing else refuses it
 abbrev pub TellsWatch : ScriptState → Query → List ℕ → ScriptState → Type 0
 TellsWatch old q text new =
-    ((watch_refusal old.queries q.name q.lo q.hi ≡ None) × (text ≡ watching_text q.name) × HasQueries old new (old.queries ++ q ∷ []))
-    ⊎ ((refusal : Refusal) × ((watch_refusal old.queries q.name q.lo q.hi ≡ Some refusal) ⊎ ((watch_refusal old.queries q.name q.lo q.hi ≡ None) × (refusal ≡ NoMemory)))
+    ((query_refusal 64 old.queries q ≡ None) × (text ≡ watching_text q.name) × HasQueries old new (old.queries ++ q ∷ []))
+    ⊎ ((refusal : Refusal) × ((query_refusal 64 old.queries q ≡ Some refusal) ⊎ ((query_refusal 64 old.queries q ≡ None) × (refusal ≡ NoMemory)))
     × Tells old (refused_text refusal) text new)
 
 -- the query of a name is forgotten, if there is one
@@ -138,7 +138,7 @@ CommandAnswer old (Scan inclusive kind lo hi) text new = TellsScan old inclusive
 CommandAnswer old Claim text new = TellsEvent old event.Claim text new ⊎ Tells old (refused_text NoMemory) text new
 CommandAnswer old (Deliver k) text new = TellsEvent old (event.Deliver k) text new
 CommandAnswer old Forget text new = TellsEvent old event.Forget text new
-CommandAnswer old (Watch name kind lo hi) text new = TellsWatch old record { name = name; kind = kind; lo = lo; hi = hi } text new
+CommandAnswer old (Watch name kind lo hi) text new = TellsWatch old (between name kind lo hi) text new
 CommandAnswer old (Unwatch name) text new = TellsUnwatch old name (query_of old.queries name) text new
 CommandAnswer old (Answer name) text new = Tells old (named_answer_text old.seen.edits name (query_of old.queries name)) text new
 

@@ -7,8 +7,9 @@ ghost use Rattle.lv_lines.specs.Input.{last_line, lines_of, unended_of, whole_li
 ghost use Rattle.lv_lines.specs.Replies.{Answered, AnsweredInParts};
 ghost use Rattle.lv_lines.specs.Texts.{refused_text, reply_line};
 ghost use Rattle.lv_script.specs.OneText.{StepWithRoom};
-ghost use Rattle.lv_script.specs.PlainRuns.{AnswerStep, IsOneLine, NeverWants, PlainStep, TrueStep, asked_in, plain_answers};
-ghost use Rattle.lv_script.specs.PlainScript.{Plain, plain_text, start};
+ghost use Rattle.lv_script.specs.PlainRuns.{AnswerStep, TrueStep, asked_in, plain_answers};
+ghost use Rattle.lv_script.specs.Interpreter.{IsOneLine, NeverWants, PlainStep, plain_text};
+ghost use Rattle.lv_script.specs.PlainScript.{Plain, start, vector_script};
 ghost use Rattle.lv_script.specs.Script.{ScriptState};
 ghost use Rattle.lv_script.specs.Beginnings.{Begins};
 
@@ -47,10 +48,10 @@ pub fn a_script_has_one_text()
 /// Where no line tells that memory was wanting, a text is the plain interpreter's. That is told one line of each line: which job
 /// a claim hands out, what becomes of a delivery, or how many reads a reduction takes.
 pub fn a_script_is_answered_plainly()
-    ensures text { (first last : Plain) (n : ℕ) (lines : List (List ℕ)) (text : List ℕ) → Answered PlainStep first n lines text last → NeverWants text →
-        (told : ℕ → List ℕ) × ((k : ℕ) → IsOneLine (told k)) × (text ≡ plain_text told first n lines) }
+    ensures text { (first last : Plain) (n : ℕ) (lines : List (List ℕ)) (text : List ℕ) → Answered (PlainStep vector_script) first n lines text last → NeverWants text →
+        (told : ℕ → List ℕ) × ((k : ℕ) → IsOneLine (told k)) × (text ≡ plain_text vector_script told first n lines) }
     // Edits and queries are answered as if nothing else stood between them.
-    ensures answers { (first last : Plain) (n : ℕ) (lines : List (List ℕ)) (text : List ℕ) → Answered PlainStep first n lines text last → NeverWants text →
+    ensures answers { (first last : Plain) (n : ℕ) (lines : List (List ℕ)) (text : List ℕ) → Answered (PlainStep vector_script) first n lines text last → NeverWants text →
         Answered AnswerStep (plain_answers first (asked_in lines)) n lines text [] }
 {}
 
@@ -58,8 +59,8 @@ pub fn a_script_is_answered_plainly()
 /// whatever else stands between them. Scripts that meet want of memory apart.
 pub fn refresh_lines_change_no_answer()
     ensures { (limits : Bounds) (last end : Plain) (lines others : List (List ℕ)) (text told : List ℕ) →
-        Answered PlainStep (start limits) 1 lines text last → NeverWants text →
-        Answered PlainStep (start limits) 1 others told end → NeverWants told →
+        Answered (PlainStep vector_script) (start limits) 1 lines text last → NeverWants text →
+        Answered (PlainStep vector_script) (start limits) 1 others told end → NeverWants told →
         asked_in lines ≡ asked_in others →
         (answers : List (List ℕ)) × Answered AnswerStep answers 1 lines text [] × Answered AnswerStep answers 1 others told [] }
 {}
@@ -67,14 +68,14 @@ pub fn refresh_lines_change_no_answer()
 /// Also where memory is wanting: each line's reply is the plain interpreter's after the first so many of the edits that were
 /// accepted in all, `refused 6` apart, and whatever is refused changes nothing.
 pub fn answers_are_true_of_the_accepted_edits()
-    ensures answers { (limits : Bounds) (last : Plain) (lines : List (List ℕ)) (text : List ℕ) → Answered PlainStep (start limits) 1 lines text last →
+    ensures answers { (limits : Bounds) (last : Plain) (lines : List (List ℕ)) (text : List ℕ) → Answered (PlainStep vector_script) (start limits) 1 lines text last →
         Answered (TrueStep limits last.edits) tt 1 lines text tt }
-    ensures refused { (old new : Plain) (n : ℕ) (line : List ℕ) (refusal : Refusal) → PlainStep old n line (refused_text refusal) new → new ≡ old }
+    ensures refused { (old new : Plain) (n : ℕ) (line : List ℕ) (refusal : Refusal) → PlainStep vector_script old n line (refused_text refusal) new → new ≡ old }
 {}
 
 /// The tour in README.md: its lines, and what the plain interpreter answers them. Whoever changes the one changes the other.
 pub fn the_tour_in_the_readme()
-    ensures edits { plain_text (λ n. []) (start record { buckets = 17; edits = 16777215 }) 1
+    ensures edits { plain_text vector_script (λ n. []) (start record { buckets = 17; edits = 16777215 }) 1
         (codes "watch total sum 0 100" ∷ codes "push 4" ∷ codes "push 6" ∷ codes "reduce best 0 2" ∷ codes "inc sum 0 2"
         ∷ codes "write 0 4" ∷ codes "swap 0 1" ∷ codes "truncate 1" ∷ [])
         ≡ flat_map reply_line
@@ -82,7 +83,7 @@ pub fn the_tour_in_the_readme()
         ∷ codes "at 2 best 10" ∷ codes "at 2 inc sum 2" ∷ codes "= 4" ∷ codes "= 10"
         ∷ codes "edit 3 was 4" ∷ codes "edit 4 now 6 4" ∷ codes "edit 5 dropped 1" ∷ codes "note total 6" ∷ []) }
     // After pushes of 1 to 8. What a claim, a delivery and the cost are answered is told.
-    ensures refresh { plain_text (λ n. if n == 9 then codes "job 1 node 1 0 version 8" else (if n == 11 then codes "stale 9" else (if n == 12 then codes "job 2 node 1 0 version 9"
+    ensures refresh { plain_text vector_script (λ n. if n == 9 then codes "job 1 node 1 0 version 8" else (if n == 11 then codes "stale 9" else (if n == 12 then codes "job 2 node 1 0 version 9"
         else (if n == 13 then codes "installed" else codes "cells 0 summaries 1")))) (start record { buckets = 17; edits = 16777215 }) 1
         (codes "push 1" ∷ codes "push 2" ∷ codes "push 3" ∷ codes "push 4" ∷ codes "push 5" ∷ codes "push 6" ∷ codes "push 7" ∷ codes "push 8"
         ∷ codes "claim" ∷ codes "write 3 9" ∷ codes "deliver 1" ∷ codes "claim" ∷ codes "deliver 2" ∷ codes "cost 0 8" ∷ [])

@@ -4,6 +4,9 @@
 //! end to end; a fault leaves a front of them. Memory is fixed, however long the input or a line of it is. It decides
 //! nothing about the vector: the layers below do.
 //!
+//! `run_series_script` does the same on a series, whose indices go up to 2^62 and whose front may expire. Both are answered as one plain
+//! interpreter answers them (`specs/Interpreter.antt`).
+//!
 //! A schedule plays the lock-free machine, one event a line: `run_schedule` answers it in the same loop.
 //!
 //! What lines say, and the loop, are `lv_lines`'; transcripts and their auditor are `lv_transcript`'s. Their names are
@@ -15,16 +18,20 @@ mod board_lines;
 pub mod devices;
 mod job_answers;
 mod laws;
+mod long_commands;
+mod long_grammar;
 mod plain_calls;
 mod query_answers;
 mod refresh_replies;
 mod restored;
+mod running_scans;
 mod scan_replies;
 mod scans;
 mod schedule_lines;
 mod schedule_replies;
 mod schedules;
 mod scripts;
+mod series_scripts;
 mod watch_replies;
 
 pub use board_lines::read_board_line;
@@ -34,6 +41,8 @@ pub use laws::{
     a_script_is_answered_plainly, answers_are_true_of_the_accepted_edits,
     refresh_lines_change_no_answer, the_tour_in_the_readme,
 };
+pub use long_commands::{LongCommand, Search};
+pub use long_grammar::read_long_line;
 pub use lv_lines::{
     Command, Fault, HELD, LINE, Line, LineHandler, ReplyBuffer, print_command, put, put_answer,
     put_bad, put_element, put_number, put_receipt, put_refusal, put_wide, read_line, serve_lines,
@@ -42,9 +51,10 @@ pub use lv_transcript::{
     Claimed, FrontVerdict, Verdict, audit, audit_front, read_front, write_transcript,
 };
 pub use restored::{Unrestored, restore_script, resume_script};
-pub use scan_replies::put_scan;
+pub use running_scans::{Elements, Slice, put_running_scan};
 pub use scans::Asked;
 pub use schedule_replies::{put_said, said_shown};
 pub use schedules::run_schedule;
 pub use scripts::{run_script, run_script_within};
+pub use series_scripts::run_series_script;
 pub use watch_replies::{ROOM, put_notes};

@@ -3,7 +3,7 @@ ghost use Rattle.std.specs.Prelude.{◌≡◌, ◌+◌, ◌<◌, ◌++◌, List,
 ghost use Rattle.lv_bodies.specs.Six.{SixSummary};
 ghost use Rattle.lv_bodies.specs.declared.sixes.Six.{Six};
 ghost use Rattle.lv_refresh.specs.Carried.{Carried};
-ghost use Rattle.lv_standing.specs.Queries.{query_of};
+ghost use Rattle.lv_standing.specs.Queries.{between, query_of};
 ghost use Rattle.lv_lines.specs.Output.{HasRoom, KeepsRoom};
 ghost use Rattle.lv_script.specs.Script.{TellsUnwatch, TellsWatch, named_answer_text};
 ghost use Rattle.lv_script.specs.Scripted.{state_of};
@@ -23,7 +23,7 @@ pub fn put_watch(
     held: &mut Vec<u8>,
 )
     requires { HasRoom held.old ROOM }
-    ensures answer { (reply : List ℕ) × ((jobs : List (Carried Six SixSummary)) → TellsWatch (state_of standing.old jobs) record { name = name; kind = kind; lo = lo; hi = hi } reply (state_of standing.new jobs))
+    ensures answer { (reply : List ℕ) × ((jobs : List (Carried Six SixSummary)) → TellsWatch (state_of standing.old jobs) (between name kind lo hi) reply (state_of standing.new jobs))
         × (held.new.items ≡ held.old.items ++ reply) }
     ensures live { standing.new.live ≡ standing.old.live }
     ensures room { KeepsRoom held.old held.new }

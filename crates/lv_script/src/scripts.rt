@@ -6,8 +6,8 @@ ghost use Rattle.lv_edits.specs.Kept.{IsLegalInLimits};
 ghost use Rattle.lv_live.specs.Kept.{IsWorld};
 ghost use Rattle.lv_lines.specs.Output.{HasRoom, Puts, PutsFront, SamePlaces};
 ghost use Rattle.lv_lines.specs.Replies.{LinesServed, FailsToReply, Replies};
-ghost use Rattle.lv_script.specs.PlainRuns.{IsPlainText, NeverWants, PlainStep};
-ghost use Rattle.lv_script.specs.PlainScript.{Plain, start};
+ghost use Rattle.lv_script.specs.Interpreter.{IsPlainText, NeverWants, PlainStep};
+ghost use Rattle.lv_script.specs.PlainScript.{Plain, start, vector_script};
 ghost use Rattle.lv_script.specs.Script.{LineAnswer, ScriptState, ScriptStep};
 ghost use Rattle.lv_script.specs.Beginnings.{Begins};
 ghost use Rattle.lv_script.specs.Scripted.{Bounded, BoundedStep, state_of};
@@ -37,11 +37,11 @@ pub fn run_script<R: Read, W: Write>(
     ensures seen { (first : ScriptState) × (last : ScriptState) × Begins limits first × LinesServed ScriptStep first last
         (R.remaining reader.old) (R.remaining reader.new) (W.contents writer.old) (W.contents writer.new) result }
     // Line by line the replies are those of the plain interpreter, which knows edits and standing queries alone.
-    ensures plain { (last : Plain) × LinesServed PlainStep (start limits) last
+    ensures plain { (last : Plain) × LinesServed (PlainStep vector_script) (start limits) last
         (R.remaining reader.old) (R.remaining reader.new) (W.contents writer.old) (W.contents writer.new) result }
     // At the end of the input all that was written is the plain interpreter's text, unless a line of it tells that memory was wanting.
     ensures text { OnOk result ((input : List ℕ) × (text : List ℕ) × Consumes (R.remaining reader.old) (R.remaining reader.new) input × IsAtEnd (R.remaining reader.new)
-        × Appends (W.contents writer.old) (W.contents writer.new) text × (NeverWants text → IsPlainText limits input text)) }
+        × Appends (W.contents writer.old) (W.contents writer.new) text × (NeverWants text → IsPlainText vector_script (start limits) input text)) }
 {
     run_script_within(alloc, limits, usize::MAX, reader, writer)
 }
@@ -57,10 +57,10 @@ pub fn run_script_within<R: Read, W: Write>(
 ) -> Result<(), Fault>
     ensures seen { (first : ScriptState) × (last : ScriptState) × Begins limits first × (length last.seen.issued ≤ jobs) × LinesServed ScriptStep first last
         (R.remaining reader.old) (R.remaining reader.new) (W.contents writer.old) (W.contents writer.new) result }
-    ensures plain { (last : Plain) × LinesServed PlainStep (start limits) last
+    ensures plain { (last : Plain) × LinesServed (PlainStep vector_script) (start limits) last
         (R.remaining reader.old) (R.remaining reader.new) (W.contents writer.old) (W.contents writer.new) result }
     ensures text { OnOk result ((input : List ℕ) × (text : List ℕ) × Consumes (R.remaining reader.old) (R.remaining reader.new) input × IsAtEnd (R.remaining reader.new)
-        × Appends (W.contents writer.old) (W.contents writer.new) text × (NeverWants text → IsPlainText limits input text)) }
+        × Appends (W.contents writer.old) (W.contents writer.new) text × (NeverWants text → IsPlainText vector_script (start limits) input text)) }
 {
     answer_script(alloc, Standing::new(alloc, limits), jobs, reader, writer)
 }
