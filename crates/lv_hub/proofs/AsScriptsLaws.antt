@@ -13,7 +13,8 @@ use Rattle.lv_lines.specs.declared.lines.Line.{Line}
 use Rattle.lv_lines.specs.declared.lines.Line.TheVariants.{Nothing, Bad, Do}
 use Rattle.lv_lines.specs.Grammar.{line_of}
 use Rattle.lv_lines.specs.Texts.{receipt_text, refused_text}
-use Rattle.lv_script.specs.PlainScript.{Plain, after, plain_after, plain_reply}
+use Rattle.lv_script.specs.Interpreter.{plain_after, plain_reply}
+use Rattle.lv_script.specs.PlainScript.{Plain, after, vector_script}
 use Rattle.lv_hub.specs.PlainSession.{FindsNoMemory, PlainSessionStep, Seen, known_of, seen_after, session_reply}
 use Rattle.lv_hub.specs.AsScripts.{ScriptedStep, WantsMemory, made_since, plain_at}
 
@@ -35,11 +36,11 @@ module _ (limits : Bounds) (edits : List Edit) where
   there = plain_at limits edits
 
   -- the replies are the same
-  command_reply : (n : ℕ) (c : Command) → session_reply limits edits n (known_of (Do c)) ≡ plain_reply [] there n (known_of (Do c))
+  command_reply : (n : ℕ) (c : Command) → session_reply limits edits n (known_of (Do c)) ≡ plain_reply vector_script [] there n (known_of (Do c))
   command_reply n (command.Edit e) = ap (option_map_or refused_text (verdict_of limits edits e)) (sym (append-nil (receipt_text (receipt_of edits e))))
   command_reply n _ = refl
 
-  reply_is : (n : ℕ) (line : Line Command) → session_reply limits edits n (known_of line) ≡ plain_reply [] there n (known_of line)
+  reply_is : (n : ℕ) (line : Line Command) → session_reply limits edits n (known_of line) ≡ plain_reply vector_script [] there n (known_of line)
   reply_is n Nothing = refl
   reply_is n Bad = refl
   reply_is n (Do c) = command_reply n c
@@ -53,13 +54,13 @@ module _ (limits : Bounds) (edits : List Edit) where
   range_kept old (Some refusal) = none_made old edits
   range_kept old None = none_made old edits
 
-  command_kept : (old : Seen) (c : Command) → made_since old edits (plain_after there (known_of (Do c))).edits ≡ seen_after limits edits old (known_of (Do c))
+  command_kept : (old : Seen) (c : Command) → made_since old edits (plain_after vector_script there (known_of (Do c))).edits ≡ seen_after limits edits old (known_of (Do c))
   command_kept old (command.Edit e) = edit_kept old e (verdict_of limits edits e)
   command_kept old (command.Reduce kind lo hi) = range_kept old (range_refusal edits lo hi)
   command_kept old (command.Scan inclusive kind lo hi) = range_kept old (range_refusal edits lo hi)
   command_kept old _ = none_made old edits
 
-  kept_is : (old : Seen) (line : Line Command) → made_since old edits (plain_after there (known_of line)).edits ≡ seen_after limits edits old (known_of line)
+  kept_is : (old : Seen) (line : Line Command) → made_since old edits (plain_after vector_script there (known_of line)).edits ≡ seen_after limits edits old (known_of line)
   kept_is old Nothing = none_made old edits
   kept_is old Bad = none_made old edits
   kept_is old (Do c) = command_kept old c

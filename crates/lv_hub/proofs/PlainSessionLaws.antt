@@ -1,27 +1,23 @@
 -- Each line of a session is answered as the plain interpreter answers it, at some edits of the hub's.
-use Rattle.std.proofs.Common.{◌≡◌, ◌⊎◌, ℕ, ℤ, ◌+◌, Bool, true, false, Option, Some, None, Result, Ok, Err, List, [], ◌∷◌, ◌++◌, length, take, map, refl, sym, ap, ap₂, ◌∙◌, subst, inl, inr, arith}
-use Rattle.std.specs.List.{range_with_len}
+use Rattle.std.proofs.Common.{◌≡◌, ◌⊎◌, ℕ, ◌+◌, Bool, Option, Some, None, Result, Ok, Err, List, [], ◌∷◌, ◌++◌, length, take, refl, sym, ap, ap₂, ◌∙◌, subst, inl, inr, arith}
 use Rattle.std.specs.Option.{option_map_or}
-use Rattle.std.proofs.lemmas.List.{length-take, take_all, take-append-le}
-use Rattle.std.proofs.lemmas.List.Elements.{All-take}
-use Rattle.std.proofs.lemmas.Simd.{map-map}
+use Rattle.std.proofs.lemmas.List.{take_all, take-append-le}
 use mathlib.Core.List.{IsPrefix}
 use Rattle.lv_geometry.specs.Bounds.{Bounds}
-use Rattle.lv_geometry.specs.Elements.{IsElement}
 use Rattle.lv_geometry.specs.declared.refusals.Refusal.{Refusal}
 use Rattle.lv_geometry.specs.declared.refusals.Refusal.TheVariants.{NoMemory}
 use Rattle.lv_bodies.specs.declared.kinds.Kind.{Kind}
-use Rattle.lv_bodies.specs.Body.{CanFold, fold_of}
 use Rattle.lv_bodies.specs.Plain.{plain_value, program_table}
-use Rattle.lv_bodies.specs.Six.{SixSummary, face_of, six_operations}
+use Rattle.lv_bodies.specs.Six.{SixSummary, six_operations}
+use Rattle.lv_bodies.specs.declared.sixes.Six.{Six}
 use Rattle.lv_bodies.proofs.SixFolds.{face_of-fold}
 use Rattle.lv_edits.specs.declared.edit.Edit.{Edit}
 use Rattle.lv_edits.specs.declared.receipt.Receipt.{Receipt}
 use Rattle.lv_edits.specs.Verdict.{verdict_of}
 use Rattle.lv_edits.specs.Ranges.{slice_of}
 use Rattle.lv_reduce.specs.declared.reductions.Answer.{Answer}
-use Rattle.lv_reduce.specs.declared.scans.Scan.{Scan}
-use Rattle.lv_reduce.specs.Answer.{IsAnswer, scan_of}
+use Rattle.lv_reduce.specs.Answer.{IsAnswer}
+use Rattle.lv_reduce.specs.Stretch.{StretchState}
 use Rattle.lv_lines.specs.declared.command.Command.{Command}
 use Rattle.lv_lines.specs.declared.command.Command.TheVariants as command
 use Rattle.lv_lines.specs.declared.lines.Line.{Line}
@@ -36,24 +32,9 @@ use Rattle.lv_script.specs.Script.{edit_text}
 use Rattle.lv_hub.specs.Replying.{ListsAnswer, SessionCommandAnswer, SessionLineAnswer, TellsLine, having_counted, scan_reply_text, up_to}
 use Rattle.lv_hub.specs.Session.{IsWithin, Lists, SessionState, SessionStep, kept_by}
 use Rattle.lv_hub.specs.PlainSession.{FindsNoMemory, IsTrueReply, PlainSessionStep, Seen, TrueReply, known_of, refusal_after, reply_after, seen_after, session_line_of, session_reply}
-use Rattle.lv_hub.specs.Told.{EditTold, ReductionTold, ScanTold}
+use Rattle.lv_hub.specs.Told.{EditTold, ReductionTold, StretchTold}
 use Rattle.lv_hub.proofs.PrefixLaws.{prefix_length, prefix_self, prefix_trans}
 use Rattle.lv_hub.proofs.TruthLaws.{edit_lists_nothing, slice_folds}
-
--- ---- values
-
--- the values of a scan are the plain values of the beginnings of its range
-front_folds : (xs : List ℤ) (n : ℕ) → CanFold xs → CanFold (take n xs)
-front_folds xs n can = record { few = omega (arith, can.few, length-take n xs); elements = All-take IsElement n xs can.elements }
-
-front_value : (kind : Kind) (xs : List ℤ) → CanFold xs → (n : ℕ) → face_of kind (fold_of six_operations (take n xs)) ≡ plain_value kind (take n xs)
-front_value kind xs can n = face_of-fold program_table kind (fold_of six_operations (take n xs)) (take n xs) (front_folds xs n can) refl
-
-scan_values : (kind : Kind) (inclusive : Bool) (xs : List ℤ) → CanFold xs → map (face_of kind) (scan_of inclusive six_operations xs) ≡ scan_by (plain_value kind) inclusive xs
-scan_values kind true xs can =
-    map-map (face_of kind) (λ i. fold_of six_operations (take (i + 1) xs)) (range_with_len 0 (length xs)) ∙ (λ j. map (λ i. front_value kind xs can (i + 1) j) (range_with_len 0 (length xs)))
-scan_values kind false xs can =
-    map-map (face_of kind) (λ i. fold_of six_operations (take i xs)) (range_with_len 0 (length xs)) ∙ (λ j. map (λ i. front_value kind xs can i j) (range_with_len 0 (length xs)))
 
 -- a list has its beginning as its first elements
 prefix_take : (xs ys : List Edit) → IsPrefix xs ys → take (length xs) ys ≡ xs
@@ -148,12 +129,12 @@ module _ (limits : Bounds) where
   }
 
   -- a scan
-  scan_plain : (old new : SessionState) (n : ℕ) (inclusive : Bool) (kind : Kind) (lo hi : ℕ) (text : List ℕ) (result : Result (Scan SixSummary) Refusal) → ScanTold six_operations limits old.seen new.seen lo hi inclusive result
+  scan_plain : (body : Six) (old new : SessionState) (n : ℕ) (inclusive : Bool) (kind : Kind) (lo hi : ℕ) (text : List ℕ) (result : Result (StretchState Six) Refusal) → StretchTold body limits old.seen new.seen lo hi result
       → text ≡ scan_reply_text inclusive kind result → new ≡ up_to old new.seen → PlainAt new.seen (kept_by old) n (Do (command.Scan inclusive kind lo hi)) text (kept_by new)
-  scan_plain old new n inclusive kind lo hi text (Ok scan) told is state =
-      let values = ap (map (face_of kind)) told.scanned.values_are ∙ scan_values kind inclusive (slice_of new.seen lo hi) (slice_folds limits new.seen lo hi told.within) in
-      inl (granted new.seen n (command.Scan inclusive kind lo hi) text told.scanned.granted (is ∙ ap₂ (λ edit shown. scan_text edit inclusive kind shown) told.scanned.edit values), seen_more old new new.seen refl (ap (λ s. s.count) state))
-  scan_plain old new n inclusive kind lo hi text (Err refusal) told is state =
+  scan_plain body old new n inclusive kind lo hi text (Ok stretch) told is state =
+      let text_is = is ∙ ap₂ (λ edit xs. scan_text edit inclusive kind (scan_by (plain_value kind) inclusive xs)) told.range.edit told.range.elements in
+      inl (granted new.seen n (command.Scan inclusive kind lo hi) text told.range.granted text_is, seen_more old new new.seen refl (ap (λ s. s.count) state))
+  scan_plain body old new n inclusive kind lo hi text (Err refusal) told is state =
       let same = seen_more old new new.seen refl (ap (λ s. s.count) state) in
       elim told.refused [
         | inl why ↦ inl (refused new.seen n (command.Scan inclusive kind lo hi) text refusal why is, same)
@@ -179,7 +160,7 @@ module _ (limits : Bounds) where
   command_said old new n (command.Scan inclusive kind lo hi) text a = record {
     before = new.seen;
     grown = a.told.seen;
-    answer = scan_plain old new n inclusive kind lo hi text a.result a.told a.text_is a.state;
+    answer = scan_plain a.body old new n inclusive kind lo hi text a.result a.told a.text_is a.state;
     within = a.told.within;
     lists = ap (λ s. s.answers) a.state;
   }

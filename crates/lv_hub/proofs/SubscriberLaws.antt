@@ -7,11 +7,11 @@ use Rattle.lv_bodies.specs.declared.kinds.Shown.{Shown}
 use Rattle.lv_edits.specs.Kept.{IsLegalInLimits}
 use Rattle.lv_standing.specs.declared.notes.Note.{Note}
 use Rattle.lv_standing.specs.declared.queries.Query.{Query}
-use Rattle.lv_standing.specs.Queries.{watch_answer}
-use Rattle.lv_standing.specs.QuerySets.{AddsDue, QuerySetState, with_answers, with_told}
+use Rattle.lv_standing.specs.Queries.{AddsNotesOf, AreNotesOf, watch_answer}
+use Rattle.lv_standing.specs.QuerySets.{QuerySetState, with_answers, with_told}
 use Rattle.lv_hub.specs.declared.told.Told.{Told}
 use Rattle.lv_hub.specs.Counting.{ShareState, having_seen}
-use Rattle.lv_hub.specs.Notes.{AreNotesOf, HasTold, SubscriberState}
+use Rattle.lv_hub.specs.Notes.{HasTold, SubscriberState}
 use Rattle.lv_hub.specs.Told.{history_of}
 use Rattle.lv_hub.proofs.PrefixLaws.{prefix_length, prefix_whole}
 
@@ -21,7 +21,7 @@ each_answered set asked answer is = ap (λ s. length s.answers) is ∙ length-ma
 
 -- a set puts notes of its last answers behind those of a list
 abbrev pub PutsNotes : QuerySetState Query → List Note → List Note → Type 0
-PutsNotes s = AddsDue (λ q. q.name) (λ q before now. now ≡ before) (λ q before now. now ≢ before) s.queries s.told s.answers
+PutsNotes s = AddsNotesOf s.queries s.told s.answers
 
 -- those that it puts into an empty list
 pub notes_put : (set asked : QuerySetState Query) (answers : List Shown) (none more : List Note) → asked ≡ with_answers set answers → none ≡ []

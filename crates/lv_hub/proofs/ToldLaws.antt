@@ -1,8 +1,7 @@
 -- What the vector in the lock answers is what the hub tells.
-use Rattle.std.proofs.Common.{◌≡◌, ℕ, Option, Some, IfSome, option_map, Result, Ok, Err, IfOk, IfErr, OnErr, List, refl, sym, ap, ◌∙◌, subst}
+use Rattle.std.proofs.Common.{◌≡◌, ℕ, Option, Some, IfSome, option_map, Result, Ok, Err, IfOk, IfErr, List, refl, sym, ap, ◌∙◌, subst}
 use mathlib.Core.List.{IsPrefix}
 use Rattle.lv_geometry.specs.Bounds.{Bounds}
-use Rattle.lv_geometry.specs.declared.nodes.Node.{Node}
 use Rattle.lv_geometry.specs.declared.refusals.Refusal.{Refusal}
 use Rattle.lv_bodies.specs.Body.{Operations}
 use Rattle.lv_edits.specs.declared.edit.Edit.{Edit}
@@ -17,13 +16,12 @@ use Rattle.lv_refresh.specs.Claim.{IsNextJob}
 use Rattle.lv_refresh.specs.Honesty.{IsHonest}
 use Rattle.lv_refresh.specs.Record.{Record, is_fresh}
 use Rattle.lv_reduce.specs.declared.reductions.Answer.{Answer}
-use Rattle.lv_reduce.specs.Answer.{IsAnswer, IsScanRefusal}
+use Rattle.lv_reduce.specs.Answer.{IsAnswer}
 use Rattle.lv_reduce.specs.Cost.{IsCost}
-use Rattle.lv_reduce.specs.Stretch.{IsStretch, StretchState}
 use Rattle.lv_live.specs.Kept.{IsLive}
-use Rattle.lv_live.specs.State.{HasClaim, HasDelivery, LiveState, node_and_version, recorded}
+use Rattle.lv_live.specs.State.{HasClaim, LiveState, node_and_version, recorded}
 use Rattle.lv_live.specs.Step.{Reduces}
-use Rattle.lv_hub.specs.Told.{ClaimTold, EditTold, Delivers, DeliveryTold, IsStanding, IsVector, ReadsTold, ReductionTold, StretchTold, VouchedBy, history_of}
+use Rattle.lv_hub.specs.Told.{ClaimTold, EditTold, Delivers, DeliveryTold, IsStanding, IsVector, ReadsTold, ReductionTold, VouchedBy, history_of}
 
 -- a vector of these limits has this history
 limits_said : (limits : Bounds) (h : History) → h.limits ≡ limits → h ≡ history_of limits h.journal
@@ -85,16 +83,6 @@ module _ {B S : Type 0} (o : B → Operations S) (limits : Bounds) (body : B) (s
   pub reads_told : (result : Result (Answer S) Refusal) → IsLive (o s.body) s → Reduces (o s.body) (recorded s) lo hi result → ReadsTold B (o body) limits new lo hi result
   reads_told result live reduces = record { standing = s; live = stands_there live; reads = reads_of (o s.body) (recorded s) lo hi result reduces }
 
-  -- a copy
-  pub stretch_told : (result : Result (StretchState B) Refusal) → IfOk result (λ stretch. IsStretch s.history.journal lo hi stretch) → IfOk result (λ stretch. stretch.body ≡ s.body) → IfErr result (λ refusal. IsScanRefusal s.history.journal lo hi refusal) → StretchTold body limits old new lo hi result
-  stretch_told result range copied refused = record {
-    seen = seen;
-    within = within_said limits s.history new vector is;
-    range = subst (λ es. IfOk result (λ stretch. IsStretch es lo hi stretch)) (sym is) range;
-    of = subst (λ b. IfOk result (λ stretch. stretch.body ≡ b)) of copied;
-    refused = subst (λ es. IfErr result (λ refusal. IsScanRefusal es lo hi refusal)) (sym is) refused;
-  }
-
 -- a claim
 pub claim_told : {B S : Type 0} (o : B → Operations S) (limits : Bounds) (body : B) (s t : LiveState B S) (result : Option (Carried B S)) → IsVector limits s.history → s.body ≡ body → IsLive (o s.body) s → IsLive (o t.body) t → IsNextJob (recorded s) (option_map node_and_version result) → HasClaim s t (option_map node_and_version result) → IfSome result (λ job. job.body ≡ s.body) → IfSome result (λ job. IsHonest (o s.body) (recorded t) job.node job.version job.contents) → ClaimTold (o body) body limits result
 claim_told o limits body s t result vector of live stays next claimed job_body honest = record {
@@ -114,8 +102,3 @@ claim_told o limits body s t result vector of live stays next claimed job_body h
 pub delivery_told : {B S M : Type 0} (meaning : B → M) (operations : B → Operations S) (limits : Bounds) (body : B) (s : LiveState B S) (outcome : Carried B S) (result : Result Accepted Refusal) → IsVector limits s.history → s.body ≡ body → IsLive (operations s.body) s → Delivers (recorded s) (VouchedBy meaning operations s outcome) outcome result → DeliveryTold meaning operations body limits outcome result
 delivery_told meaning operations limits body s outcome result vector of live gives =
     record { state = s; vector = vector; of = of; live = subst (λ b. IsLive (operations b) s) of live; gives = gives }
-
--- an outcome that is given leaves body and history
-pub given_leaves : {B S : Type 0} (old new : LiveState B S) (n : Node) (v : ℕ) (result : Result Accepted Refusal) → IfOk result (λ accepted. HasDelivery old new n v accepted) → OnErr result (new ≡ old) → (new.body ≡ old.body) × (new.history ≡ old.history)
-given_leaves old new n v (Ok accepted) delivered unchanged = (delivered.body, delivered.history)
-given_leaves old new n v (Err refusal) delivered unchanged = (ap (λ s. s.body) unchanged, ap (λ s. s.history) unchanged)

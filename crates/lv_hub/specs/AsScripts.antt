@@ -8,7 +8,8 @@ use Rattle.lv_lines.specs.declared.command.Command.{Command}
 use Rattle.lv_lines.specs.declared.lines.Line.{Line}
 use Rattle.lv_lines.specs.declared.lines.Line.TheVariants.{Do}
 use Rattle.lv_lines.specs.Texts.{refused_text}
-use Rattle.lv_script.specs.PlainScript.{Plain, plain_after, plain_reply, refusal_of}
+use Rattle.lv_script.specs.Interpreter.{plain_after, plain_reply}
+use Rattle.lv_script.specs.PlainScript.{Plain, refusal_of, vector_script}
 use Rattle.lv_hub.specs.PlainSession.{Seen, session_line_of}
 
 -- the interpreter after some edits
@@ -29,6 +30,6 @@ WantsMemory s _ text = ⊥
 pub record ScriptedStep (limits : Bounds) (old : Seen) (n : ℕ) (line text : List ℕ) (new : Seen) : Type 0 where
   pub before : List Edit
   pub grown : IsPrefix old.edits before
-  pub answer : ((text ≡ plain_reply [] (plain_at limits before) n (session_line_of line))
-      × (new ≡ made_since old before (plain_after (plain_at limits before) (session_line_of line)).edits))
+  pub answer : ((text ≡ plain_reply vector_script [] (plain_at limits before) n (session_line_of line))
+      × (new ≡ made_since old before (plain_after vector_script (plain_at limits before) (session_line_of line)).edits))
       ⊎ (WantsMemory (plain_at limits before) (session_line_of line) text × (new ≡ made_since old before before))

@@ -1,14 +1,12 @@
 -- Questions by name at a hub, and what a subscriber is told of them.
-use Rattle.std.specs.Prelude.{◌≡◌, ◌≢◌, ◌<◌, Option, Some, None, List, length, map}
+use Rattle.std.specs.Prelude.{◌≡◌, ◌<◌, Option, Some, None, List, length, map}
 use mathlib.Core.List.{IsPrefix}
 use Rattle.lv_geometry.specs.Bounds.{Bounds}
 use Rattle.lv_geometry.specs.declared.refusals.Refusal.{Refusal}
 use Rattle.lv_bodies.specs.declared.kinds.Shown.{Shown}
 use Rattle.lv_edits.specs.Kept.{IsLegalInLimits}
-use Rattle.lv_standing.specs.declared.notes.Note.{Note}
 use Rattle.lv_standing.specs.declared.queries.Query.{Query}
-use Rattle.lv_standing.specs.Queries.{query_refusal, watch_answer}
-use Rattle.lv_standing.specs.QuerySets.{AreDue}
+use Rattle.lv_standing.specs.Queries.{AreNotesOf, query_refusal, watch_answer}
 use Rattle.lv_hub.specs.declared.told.Told.{Told}
 use Rattle.lv_hub.specs.Counting.{ShareState, having_seen}
 use Rattle.lv_hub.specs.Told.{history_of}
@@ -28,12 +26,8 @@ pub record EndedState : Type 0 where
   pub questions : List Query
   pub told : List Shown
 
--- the notes of some values: one for each question, in order, whose value is another than it was told before, with that value
-abbrev pub AreNotesOf : List Query → List Shown → List Shown → List Note → Type 0
-AreNotesOf = AreDue (λ q. q.name) (λ q before now. now ≡ before) (λ q before now. now ≢ before)
-
 -- a subscriber was told of a hub with these limits: it came to a later edit, its answers there are what it was told, and the notes
--- are of those that are others than before
+-- are those that were due
 pub record HasTold (limits : Bounds) (old new : SubscriberState) (told : Told) : Type 0 where
   pub seen : IsPrefix old.share.seen new.share.seen
   pub later : length old.share.seen < told.edit

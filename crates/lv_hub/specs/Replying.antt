@@ -1,14 +1,16 @@
 -- What the code of sessions passes on: how a line was answered by what the hub told.
-use Rattle.std.specs.Prelude.{◌≡◌, ◌⊎◌, ℕ, ◌+◌, Bool, Result, Ok, Err, List, [], ◌∷◌, ◌++◌, map}
+use Rattle.std.specs.Prelude.{◌≡◌, ◌⊎◌, ℕ, ◌+◌, Bool, Result, Ok, Err, List, [], ◌∷◌, ◌++◌}
 use Rattle.lv_geometry.specs.Bounds.{Bounds}
 use Rattle.lv_geometry.specs.declared.refusals.Refusal.{Refusal}
 use Rattle.lv_geometry.specs.declared.refusals.Refusal.TheVariants.{NoMemory}
 use Rattle.lv_bodies.specs.declared.kinds.Kind.{Kind}
+use Rattle.lv_bodies.specs.Plain.{plain_value}
 use Rattle.lv_bodies.specs.Six.{SixSummary, face_of, six_operations}
+use Rattle.lv_bodies.specs.declared.sixes.Six.{Six}
 use Rattle.lv_edits.specs.declared.edit.Edit.{Edit}
 use Rattle.lv_edits.specs.declared.receipt.Receipt.{Receipt}
 use Rattle.lv_reduce.specs.declared.reductions.Answer.{Answer}
-use Rattle.lv_reduce.specs.declared.scans.Scan.{Scan}
+use Rattle.lv_reduce.specs.Stretch.{StretchState}
 use Rattle.lv_lines.specs.declared.command.Command.{Command}
 use Rattle.lv_lines.specs.declared.command.Command.TheVariants as commands
 use Rattle.lv_lines.specs.declared.lines.Line.{Line}
@@ -16,9 +18,10 @@ use Rattle.lv_lines.specs.declared.lines.Line.TheVariants.{Nothing, Bad, Do}
 use Rattle.lv_lines.specs.Grammar.{line_of}
 use Rattle.lv_lines.specs.Texts.{answer_text, bad_text, refused_text, scan_text}
 use Rattle.lv_transcript.specs.declared.claimed.Claimed.{Claimed}
+use Rattle.lv_script.specs.PlainScript.{scan_by}
 use Rattle.lv_script.specs.Script.{edit_text}
 use Rattle.lv_hub.specs.Session.{SessionState}
-use Rattle.lv_hub.specs.Told.{EditTold, ReductionTold, ScanTold}
+use Rattle.lv_hub.specs.Told.{EditTold, ReductionTold, StretchTold}
 
 -- the state once the hub's edits were seen up to these
 abbrev pub up_to : SessionState → List Edit → SessionState
@@ -44,9 +47,9 @@ ListsAnswer old kind lo hi (Ok answer) text new =
     ⊎ ((text ≡ refused_text NoMemory) × (new ≡ old))
 ListsAnswer old kind lo hi (Err refusal) text new = (text ≡ refused_text refusal) × (new ≡ old)
 
--- a scan's values, or its refusal
-abbrev pub scan_reply_text : Bool → Kind → Result (Scan SixSummary) Refusal → List ℕ
-scan_reply_text inclusive kind (Ok scan) = scan_text scan.edit inclusive kind (map (face_of kind) scan.values)
+-- the values of a scan of elements that were copied, or its refusal
+abbrev pub scan_reply_text : Bool → Kind → Result (StretchState Six) Refusal → List ℕ
+scan_reply_text inclusive kind (Ok stretch) = scan_text stretch.edit inclusive kind (scan_by (plain_value kind) inclusive stretch.elements)
 scan_reply_text inclusive kind (Err refusal) = refused_text refusal
 
 module _ (limits : Bounds) where
@@ -63,10 +66,11 @@ module _ (limits : Bounds) where
     pub told : ReductionTold six_operations limits old.seen new.seen lo hi result
     pub lists : ListsAnswer (up_to old new.seen) kind lo hi result text new
 
-  -- a scan is answered by its values or its refusal, and changes nothing else
+  -- a scan is answered by its values, of a range that was copied, or by its refusal, and changes nothing else
   pub record TellsScan (old : SessionState) (inclusive : Bool) (kind : Kind) (lo hi : ℕ) (text : List ℕ) (new : SessionState) : Type 0 where
-    pub result : Result (Scan SixSummary) Refusal
-    pub told : ScanTold six_operations limits old.seen new.seen lo hi inclusive result
+    pub body : Six
+    pub result : Result (StretchState Six) Refusal
+    pub told : StretchTold body limits old.seen new.seen lo hi result
     pub text_is : text ≡ scan_reply_text inclusive kind result
     pub state : new ≡ up_to old new.seen
 

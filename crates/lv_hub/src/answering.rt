@@ -8,38 +8,30 @@ ghost use Rattle.lv_standing.specs.QuerySets.{with_answers};
 ghost use Rattle.lv_hub.specs.Counting.{having_seen};
 ghost use Rattle.lv_hub.specs.Told.{IsVector, history_of};
 
-use crate::desk_with_history::DeskWithHistory;
 use crate::desks::Desk;
 use crate::hubs::Hub;
-use crate::naming::{Naming, WithBody};
+use crate::naming::WithBody;
 use crate::shares::Share;
 use lv_bodies::Six;
 use lv_standing::{Query, QuerySet};
 use std::sync::Wait;
 
-impl<N: Naming> Desk<Six, N> {
-    /// Asks all queries of a set. Takes no memory.
-    pub fn answer_all(&mut self, set: &mut QuerySet<Query>)
-        ensures answers { set.new ≡ with_answers set.old (map (watch_answer self.old.history.journal) set.old.queries) }
-        ensures same { SameLive self.old self.new }
-        ensures vector { IsVector N.limits self.old.history }
-    {
-        set.ask(&mut self.live);
-    }
-}
-
-impl<N: WithBody<Six>> DeskWithHistory<Six, N> {
-    /// The same, where the share sees all edits; says how many there are.
+impl<N: WithBody<Six>> Desk<Six, N> {
+    /// Asks all queries of a set, where the share sees all edits; says how many there are. Takes no memory.
     pub fn answer_all(&mut self, share: &mut Share<N>, set: &mut QuerySet<Query>) -> u32
         ensures begins { IsPrefix share.old.seen share.new.seen }
         ensures within { IsLegalInLimits (history_of N.limits share.new.seen) }
         ensures edit { result ≡ length share.new.seen }
         ensures answers { set.new ≡ with_answers set.old (map (watch_answer share.new.seen) set.old.queries) }
         ensures share { share.new ≡ having_seen share.old share.new.seen }
+        ensures all { share.new.seen ≡ self.old.live.history.journal }
+        ensures same { SameLive self.old.live self.new.live }
+        ensures rest { self.new ≡ record self.old { live = self.new.live } }
+        ensures vector { IsVector N.limits self.old.live.history }
     {
         share.see(&mut self.head);
-        self.desk.answer_all(set);
-        self.desk.live().edit()
+        set.ask(&mut self.live);
+        self.live.edit()
     }
 }
 
@@ -58,6 +50,6 @@ impl<N: WithBody<Six>> Hub<Six, N> {
         ensures answers { set.new ≡ with_answers set.old (map (watch_answer share.new.seen) set.old.queries) }
         ensures share { share.new ≡ having_seen share.old share.new.seen }
     {
-        self.locked.lock(rt).desk.answer_all(share, set)
+        self.desk.lock(rt).answer_all(share, set)
     }
 }

@@ -1,18 +1,22 @@
-//! What a hub answers, with no lock: a live vector, and the book that counts its edits.
-ghost use Rattle.std.specs.Prelude.{◌≡◌, ◌<◌, None, Some, option_map, [], length, IfOk, IfErr, IfSome, OnErr};
+//! What lies under a hub's lock.
+ghost use Rattle.std.specs.Prelude.{◌≡◌, ◌<◌, ◌≤◌, ◌&&◌, Some, None, [], drop, if◌then◌else◌, false, true, is_ok, length, nat_eq, nat_lt, not, option_map, take, IfOk, IfErr, IfSome, OnErr, vec_capacity};
+ghost use mathlib.Core.List.{IsPrefix};
 ghost use Rattle.lv_geometry.specs.declared.nodes.Node.{Node};
+ghost use Rattle.lv_edits.specs.History.{list_of};
 ghost use Rattle.lv_edits.specs.Verdict.{Answers};
 ghost use Rattle.lv_edits.specs.Ranges.{range_refusal};
 ghost use Rattle.lv_reduce.specs.Answer.{IsAnswer};
-ghost use Rattle.lv_refresh.specs.Claim.{IsNextJob};
+ghost use Rattle.lv_refresh.specs.Claim.{IsNextJob, wants_job};
 ghost use Rattle.lv_refresh.specs.Honesty.{IsHonest};
 ghost use Rattle.lv_live.specs.Kept.{IsLive};
 ghost use Rattle.lv_live.specs.State.{HasClaim, HasDelivery, SameLive, SameRefresh, node_and_version, recorded};
-ghost use Rattle.lv_hub.specs.Counting.{Counts};
+ghost use Rattle.lv_transcript.specs.Transcript.{AreAccepted, greatest};
+ghost use Rattle.lv_hub.specs.Counting.{Counts, having_seen};
 ghost use Rattle.lv_hub.specs.Told.{Delivers, IsVector, VouchedBy};
+ghost use Rattle.lv_hub.specs.Work.{left_asleep, makes_work};
 
-use crate::histories::HistoryPrefix;
-use crate::naming::Naming;
+use crate::histories::{Head, HistoryPrefix, Opened};
+use crate::naming::WithBody;
 use crate::shares::Share;
 use lv_bodies::Body;
 use lv_edits::{Edit, Receipt};
@@ -25,72 +29,143 @@ use std::alloc::Global;
 use std::marker::Model;
 use std::sync::ledger::{Blank, Book};
 
-/// What lies under a hub's lock: a live vector, and the book of the edits that were accepted.
+/// What lies under a hub's lock: a live vector by the body of the hub's name, the book that counts its edits, their history with the
+/// one permit to add to it, and who sleeps beside the lock.
 #[derive(Drop)]
-pub struct Desk<B: Body, N: Naming> {
+pub struct Desk<B: Body, N: WithBody<B>> {
     pub(crate) live: Live<B>,
+    pub(crate) head: Head<N>,
     book: Book<N>,
+    // At least how many workers sleep that were not woken.
+    asleep: u64,
+    // Whether the workers that attend are to end, and subscribers too.
+    dismissed: bool,
+    // Whether a subscriber may sleep that was not woken.
+    listened: bool,
 }
 
-impl<B: Body, N: Naming> Model for Desk<B, N> {
-    ghost use Rattle.std.specs.Prelude.{◌≡◌, length};
-    ghost use Rattle.lv_live.specs.State.{LiveState};
+impl<B: Body, N: WithBody<B>> Model for Desk<B, N> {
+    ghost use Rattle.std.specs.Prelude.{◌≡◌, Some, length};
+    ghost use Rattle.lv_transcript.specs.Transcript.{AreAccepted, greatest};
     ghost use Rattle.lv_hub.specs.Told.{IsVector};
+    ghost use Rattle.lv_hub.specs.Work.{DeskState};
 
-    ghost Value = { LiveState B B.S };
+    ghost Value = { DeskState B B.S };
 
-    ghost view = { λ d. d.live };
+    ghost view = { λ d. record { live = d.live; asleep = d.asleep; dismissed = d.dismissed; listened = d.listened } };
 
-    ghost invariant = { λ d. (length d.live.history.journal ≡ d.book.total) × IsVector N.limits d.live.history };
+    ghost invariant = { λ d. (length d.live.history.journal ≡ d.book.total) × IsVector N.limits d.live.history × (d.head ≡ d.live.history.journal) × (N.body ≡ Some d.live.body) × AreAccepted greatest d.live.history.journal };
 }
 
-impl<B: Body, N: Naming> Desk<B, N> {
-    /// An empty vector, with a share of all parts of the blank's ledger, which counts nothing, and has seen what the prefix has. Takes
-    /// no memory.
+impl<B: Body, N: WithBody<B>> Desk<B, N> {
+    /// An empty vector with an empty history, beside which nobody sleeps, and a share of all parts of the blank's ledger, which counts
+    /// nothing and has seen nothing. Takes no memory.
     pub fn new(
         alloc: Global,
         limits: Limits,
         body: B,
         blank: Blank,
         parts: u64,
-        prefix: HistoryPrefix<N>,
+        opened: Opened,
     ) -> (Desk<B, N>, Share<N>)
         requires name { blank.name ≡ N.name }
         requires all { blank.parts ≡ N.parts }
         requires parts { blank.parts ≡ parts }
         requires some { 0 < parts }
         requires limits { limits ≡ N.limits }
-        ensures body { result.0.body ≡ body }
-        ensures history { result.0.history ≡ record { limits = limits; journal = [] } }
-        ensures unclaimed { (n : Node) → (recorded result.0).claimed n ≡ None }
-        ensures nothing_kept { (n : Node) → (recorded result.0).kept n ≡ None }
-        ensures share { result.1 ≡ record { parts = parts; count = 0; seen = prefix } }
+        requires history { opened ≡ N.history }
+        requires body { N.body ≡ Some body }
+        ensures body { result.0.live.body ≡ body }
+        ensures history { result.0.live.history ≡ record { limits = limits; journal = [] } }
+        ensures unclaimed { (n : Node) → (recorded result.0.live).claimed n ≡ None }
+        ensures nothing_kept { (n : Node) → (recorded result.0.live).kept n ≡ None }
+        ensures awake { result.0 ≡ record { live = result.0.live; asleep = 0; dismissed = false; listened = false } }
+        ensures share { result.1 ≡ record { parts = parts; count = 0; seen = [] } }
     {
+        let (head, prefix) = opened.named::<N>();
         let (book, token) = blank.open::<N>();
         let live = Live::new(alloc, limits, body);
-        (Desk { live, book }, Share::whole(token, prefix, parts))
+        let desk = Desk {
+            live,
+            head,
+            book,
+            asleep: 0,
+            dismissed: false,
+            listened: false,
+        };
+        (desk, Share::whole(token, prefix, parts))
     }
 
-    /// Makes an edit, and counts it on the share where it is accepted. Refused as `Live::apply` is.
+    /// Makes an edit, counts it on the share where it is accepted, and adds it to the history then. The share sees all edits, and its
+    /// own last. Refused as `Live::apply` is.
     pub fn edit(&mut self, share: &mut Share<N>, edit: Edit) -> Result<Receipt, Refusal>
-        ensures answer { Answers self.old.history edit result self.new.history }
-        ensures refresh { SameRefresh self.old self.new }
-        ensures counts { Counts share.old result share.new }
-        ensures vector { IsVector N.limits self.old.history }
+        ensures begins { IsPrefix share.old.seen self.old.live.history.journal }
+        ensures seen { share.new.seen ≡ self.new.live.history.journal }
+        ensures answer { Answers self.old.live.history edit result self.new.live.history }
+        ensures refresh { SameRefresh self.old.live self.new.live }
+        ensures counts { Counts (having_seen share.old share.new.seen) result share.new }
+        ensures vector { IsVector N.limits self.old.live.history }
+        // An edit that makes no work makes no node want a job.
+        ensures quiet { makes_work result ≡ false → (n : Node) → wants_job (recorded self.new.live) n ≡ true → wants_job (recorded self.old.live) n ≡ true }
+        ensures rest { self.new ≡ record self.old { live = self.new.live } }
     {
+        share.see(&mut self.head);
         let receipt = self.live.apply(edit)?;
         share.enter(&mut self.book);
+        self.head.append(edit);
+        share.see(&mut self.head);
         Ok(receipt)
+    }
+
+    /// Whom an edit that was answered so wakes: a worker, which then counts as awake, where one sleeps, and the edit may have made a
+    /// node want a job; and subscribers, where one may sleep, and the edit was accepted.
+    pub fn wakes_after(&mut self, answer: Result<Receipt, Refusal>) -> (bool, bool)
+        ensures wakes { result.0 ≡ (makes_work answer && nat_lt 0 self.old.asleep) }
+        ensures calls { result.1 ≡ (is_ok answer && self.old.listened) }
+        ensures rest { self.new ≡ record self.old { asleep = left_asleep self.old.asleep result.0; listened = (if is_ok answer then false else self.old.listened) } }
+    {
+        let wakes = makes_work(answer) && self.wakes_another();
+        let calls = answer.is_ok() && self.listened;
+        if answer.is_ok() {
+            self.listened = false;
+        }
+        (wakes, calls)
+    }
+
+    /// Lets a share see all edits.
+    pub fn show(&mut self, share: &mut Share<N>)
+        ensures begins { IsPrefix share.old.seen self.old.live.history.journal }
+        ensures seen { share.new ≡ having_seen share.old self.old.live.history.journal }
+        ensures same { self.new ≡ self.old }
+    {
+        share.see(&mut self.head);
+    }
+
+    /// Lets a prefix see all edits, and puts those from index `from` on into a buffer, in place of what it has, as many as there is
+    /// room for.
+    pub fn copy_edits(&mut self, prefix: &mut HistoryPrefix<N>, from: usize, buffer: &mut Vec<Edit>)
+        ensures begins { IsPrefix prefix.old prefix.new }
+        ensures seen { prefix.new ≡ self.old.live.history.journal }
+        ensures copied { buffer.new.items ≡ take (vec_capacity buffer.old) (drop from prefix.new) }
+        ensures few { length prefix.new ≤ 16777215 }
+        ensures accepted { AreAccepted greatest prefix.new }
+        ensures same { self.new ≡ self.old }
+    {
+        let grown = self.head.grown(prefix);
+        *prefix = grown;
+        copy_from(self.live().journal(), from, buffer);
     }
 
     /// The fold of the elements from index `lo` up to `hi`, keeping what is computed for it. Refused as `Live::ask` is. Takes no
     /// memory.
     pub fn ask(&mut self, lo: u32, hi: u32) -> Result<Answer<B::S>, Refusal>
-        ensures ok { IfOk result (λ answer. IsAnswer (B.operations self.old.body) self.old.history.journal lo hi answer) }
-        ensures err { IfErr result (λ refusal. range_refusal self.old.history.journal lo hi ≡ Some refusal) }
-        ensures same { SameLive self.old self.new }
-        ensures vector { IsVector N.limits self.old.history }
-        ensures live { IsLive (B.operations self.old.body) self.old }
+        ensures ok { IfOk result (λ answer. IsAnswer (B.operations self.old.live.body) self.old.live.history.journal lo hi answer) }
+        ensures err { IfErr result (λ refusal. range_refusal self.old.live.history.journal lo hi ≡ Some refusal) }
+        ensures same { SameLive self.old.live self.new.live }
+        ensures rest { self.new ≡ record self.old { live = self.new.live } }
+        ensures vector { IsVector N.limits self.old.live.history }
+        ensures body { N.body ≡ Some self.old.live.body }
+        ensures live { IsLive (B.operations self.old.live.body) self.old.live }
     {
         self.live.keeps();
         self.live.ask(lo, hi)
@@ -98,13 +173,15 @@ impl<B: Body, N: Naming> Desk<B, N> {
 
     /// A job for the least node that wants one, or none. Takes no memory.
     pub fn claim(&mut self) -> Option<Job<B>>
-        ensures next { IsNextJob (recorded self.old) (option_map node_and_version result) }
-        ensures claimed { HasClaim self.old self.new (option_map node_and_version result) }
-        ensures body { IfSome result (λ job. job.body ≡ self.old.body) }
-        ensures honest { IfSome result (λ job. IsHonest (B.operations self.old.body) (recorded self.new) job.node job.version job.contents) }
-        ensures vector { IsVector N.limits self.old.history }
-        ensures live { IsLive (B.operations self.old.body) self.old }
-        ensures stays_live { IsLive (B.operations self.new.body) self.new }
+        ensures next { IsNextJob (recorded self.old.live) (option_map node_and_version result) }
+        ensures claimed { HasClaim self.old.live self.new.live (option_map node_and_version result) }
+        ensures job_body { IfSome result (λ job. job.body ≡ self.old.live.body) }
+        ensures honest { IfSome result (λ job. IsHonest (B.operations self.old.live.body) (recorded self.new.live) job.node job.version job.contents) }
+        ensures rest { self.new ≡ record self.old { live = self.new.live } }
+        ensures vector { IsVector N.limits self.old.live.history }
+        ensures body { N.body ≡ Some self.old.live.body }
+        ensures live { IsLive (B.operations self.old.live.body) self.old.live }
+        ensures stays_live { IsLive (B.operations self.new.live.body) self.new.live }
     {
         self.live.keeps();
         let job = self.live.claim();
@@ -114,11 +191,13 @@ impl<B: Body, N: Naming> Desk<B, N> {
 
     /// Delivers an outcome. Refused with `Stranger` exactly where `Live::vet` says no. Takes no memory.
     pub fn give(&mut self, outcome: Outcome<B>) -> Result<Accepted, Refusal>
-        ensures answer { Delivers (recorded self.old) (VouchedBy B.meaning B.operations self.old outcome) outcome result }
-        ensures delivered { IfOk result (λ accepted. HasDelivery self.old self.new outcome.node outcome.version accepted) }
+        ensures answer { Delivers (recorded self.old.live) (VouchedBy B.meaning B.operations self.old.live outcome) outcome result }
+        ensures delivered { IfOk result (λ accepted. HasDelivery self.old.live self.new.live outcome.node outcome.version accepted) }
         ensures unchanged { OnErr result (self.new ≡ self.old) }
-        ensures vector { IsVector N.limits self.old.history }
-        ensures live { IsLive (B.operations self.old.body) self.old }
+        ensures rest { self.new ≡ record self.old { live = self.new.live } }
+        ensures vector { IsVector N.limits self.old.live.history }
+        ensures body { N.body ≡ Some self.old.live.body }
+        ensures live { IsLive (B.operations self.old.live.body) self.old.live }
     {
         self.live.keeps();
         if !self.live.vet(&outcome) {
@@ -129,24 +208,123 @@ impl<B: Body, N: Naming> Desk<B, N> {
 
     /// Its vector.
     pub fn live(&self) -> &Live<B>
-        ensures same { result.now ≡ self.now }
-        ensures vector { IsVector N.limits self.now.history }
-        ensures live { IsLive (B.operations self.now.body) self.now }
+        ensures same { result.now ≡ self.now.live }
+        ensures vector { IsVector N.limits self.now.live.history }
+        ensures body { N.body ≡ Some self.now.live.body }
+        ensures live { IsLive (B.operations self.now.live.body) self.now.live }
     {
         self.live.keeps();
         &self.live
     }
 
-    // Its vector, which no thread edits any more. The share that is handed in has all parts.
+    // Its vector, which no thread edits any more, and of whose edits the share has seen a beginning. The share that is handed in has all
+    // parts.
     pub(crate) fn close(self, share: Share<N>) -> Live<B>
         requires { share.parts ≡ N.parts }
-        ensures same { result ≡ self }
-        ensures counted { length self.history.journal ≡ share.count }
-        ensures vector { IsVector N.limits self.history }
+        ensures same { result ≡ self.live }
+        ensures counted { length self.live.history.journal ≡ share.count }
+        ensures vector { IsVector N.limits self.live.history }
+        ensures body { N.body ≡ Some self.live.body }
+        ensures seen { IsPrefix share.seen self.live.history.journal }
+        ensures accepted { AreAccepted greatest self.live.history.journal }
     {
-        let Desk { live, mut book } = self;
+        let Desk {
+            live,
+            mut head,
+            mut book,
+            ..
+        } = self;
         let mut share = share;
+        share.see(&mut head);
         share.audit(&mut book);
         live
     }
+}
+
+// Who sleeps.
+impl<B: Body, N: WithBody<B>> Desk<B, N> {
+    /// Whether a worker is to be woken, as in place of another that ends: where one sleeps, which then counts as awake.
+    pub fn wakes_another(&mut self) -> bool
+        ensures wakes { result ≡ nat_lt 0 self.old.asleep }
+        ensures rest { self.new ≡ record self.old { asleep = left_asleep self.old.asleep result } }
+    {
+        let wakes = 0 < self.asleep;
+        if wakes {
+            self.asleep -= 1;
+        }
+        wakes
+    }
+
+    /// Counts a worker that is about to sleep.
+    pub fn count_asleep(&mut self)
+        ensures asleep { nat_lt 0 self.new.asleep ≡ true }
+        ensures rest { self.new ≡ record self.old { asleep = self.new.asleep } }
+    {
+        self.asleep = self.asleep.saturating_add(1);
+    }
+
+    /// Whether who waits for work is to sleep, and then counts as asleep: while the vector has no block, and so no node wants a job,
+    /// and nobody was dismissed.
+    pub fn has_no_work(&mut self) -> bool
+        ensures idle { result ≡ true → (n : Node) → wants_job (recorded self.old.live) n ≡ false }
+        ensures sleeps { result ≡ (nat_lt (length (list_of self.old.live.history.journal)) 8 && not self.old.dismissed) }
+        ensures rest { self.new ≡ record self.old { asleep = self.new.asleep } }
+    {
+        let sleeps = self.live().size() < 8 && !self.dismissed;
+        if sleeps {
+            self.count_asleep();
+        }
+        sleeps
+    }
+
+    /// Whether a subscriber that has seen so many edits is to sleep, and then counts as asleep: while there are no more of them, and
+    /// nobody was dismissed.
+    pub fn has_no_news(&mut self, seen: u64) -> bool
+        ensures sleeps { result ≡ (nat_eq (length self.old.live.history.journal) seen && not self.old.dismissed) }
+        ensures rest { self.new ≡ record self.old { listened = (if result then true else self.old.listened) } }
+    {
+        let sleeps = u64::from(self.live().edit()) == seen && !self.dismissed;
+        if sleeps {
+            self.listened = true;
+        }
+        sleeps
+    }
+
+    /// Whether the workers were dismissed.
+    pub fn is_dismissed(&self) -> bool
+        ensures { result ≡ self.now.dismissed }
+    {
+        self.dismissed
+    }
+
+    /// Dismisses the workers.
+    pub fn dismiss(&mut self)
+        ensures { self.new ≡ record self.old { dismissed = true } }
+    {
+        self.dismissed = true;
+    }
+}
+
+// Whether an edit may have made a node want a job: it wrote over an element, or swapped two, or pushed the last one of a block.
+fn makes_work(answer: Result<Receipt, Refusal>) -> bool
+    ensures { result ≡ makes_work answer }
+{
+    match answer {
+        Ok(Receipt::Written { .. }) => true,
+        Ok(Receipt::Swapped { .. }) => true,
+        Ok(Receipt::Pushed { index, .. }) => index % 8 == 7,
+        _ => false,
+    }
+}
+
+// Puts edits from index `from` on into a buffer, in place of what it has, as many as there is room for.
+fn copy_from(edits: &[Edit], from: usize, buffer: &mut Vec<Edit>)
+    ensures { buffer.new.items ≡ take (vec_capacity buffer.old) (drop from edits.now) }
+{
+    buffer.clear();
+    let (_, rest) = edits.split_at(from.min(edits.len()));
+    let (batch, _) = rest.split_at(buffer.capacity().min(rest.len()));
+    let Ok(()) = buffer.extend_from_slice(batch) else {
+        unreachable!();
+    };
 }

@@ -2,8 +2,7 @@
 ghost use Rattle.std.specs.Prelude.{◌≡◌, ◌≤◌, length, map, vec_capacity};
 ghost use Rattle.lv_edits.specs.Kept.{IsLegalInLimits};
 ghost use Rattle.lv_live.specs.State.{SameLive};
-ghost use Rattle.lv_standing.specs.Queries.{watch_answer};
-ghost use Rattle.lv_hub.specs.Notes.{AreNotesOf};
+ghost use Rattle.lv_standing.specs.Queries.{AreNotesOf, watch_answer};
 
 use crate::told::Told;
 use lv_bodies::Six;

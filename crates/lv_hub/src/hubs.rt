@@ -6,9 +6,8 @@ ghost use Rattle.lv_live.specs.State.{LiveState};
 ghost use Rattle.lv_hub.specs.Counting.{Counts, having_seen};
 ghost use Rattle.lv_hub.specs.Told.{ClaimTold, EditTold, DeliveryTold, IsStanding, IsVector, ReadsTold, ReductionTold, ScanTold, StretchTold};
 
-use crate::desk_with_history::DeskWithHistory;
+use crate::desks::Desk;
 use crate::histories::{HistoryPrefix, Opened};
-use crate::locked_state::LockedState;
 use crate::naming::WithBody;
 use crate::shares::Share;
 use lv_bodies::Body;
@@ -28,7 +27,7 @@ use std::thread::Threads;
 /// its desk. Its edits are one list, which only grows; contracts see the hub as its body. A share that is handed in is this hub's.
 #[derive(Drop)]
 pub struct Hub<B: Body, N: WithBody<B>> {
-    pub(crate) locked: Mutex<LockedState<B, N>>,
+    pub(crate) desk: Mutex<Desk<B, N>>,
     // Where workers sleep.
     pub(crate) bell: Condvar,
     // Where subscribers sleep.
@@ -68,9 +67,9 @@ impl<B: Body, N: WithBody<B>> Hub<B, N> {
         ensures body { result.0 ≡ body }
         ensures share { result.1 ≡ record { parts = parts; count = 0; seen = [] } }
     {
-        let (desk, share) = DeskWithHistory::new(alloc, limits, body, blank, parts, opened);
+        let (desk, share) = Desk::new(alloc, limits, body, blank, parts, opened);
         let hub = Hub {
-            locked: Mutex::new(LockedState::new(desk)),
+            desk: Mutex::new(desk),
             bell: Condvar::new(),
             news: Condvar::new(),
             body,
@@ -89,7 +88,10 @@ impl<B: Body, N: WithBody<B>> Hub<B, N> {
         ensures told { EditTold N.limits share.old.seen share.new.seen edit result }
         ensures counts { Counts (having_seen share.old share.new.seen) result share.new }
     {
-        let (answer, wakes, calls) = self.locked.lock(rt).edit(share, edit);
+        let mut desk = self.desk.lock(rt);
+        let answer = desk.edit(share, edit);
+        let (wakes, calls) = desk.wakes_after(answer);
+        drop(desk);
         self.wake(wakes, calls);
         answer
     }
@@ -108,9 +110,9 @@ impl<B: Body, N: WithBody<B>> Hub<B, N> {
         ensures share { share.new ≡ having_seen share.old share.new.seen }
         ensures bad_range { (result ≡ Err Refusal.BadRange) ↔ (hi < lo) }
     {
-        let mut locked = self.locked.lock(rt);
-        locked.desk.show(share);
-        locked.desk.live().reduce(lo, hi)
+        let mut desk = self.desk.lock(rt);
+        desk.show(share);
+        desk.live().reduce(lo, hi)
     }
 
     /// The same, keeping what is computed for it: so a range that was asked for is cheap until an edit touches it. Refused as
@@ -127,9 +129,9 @@ impl<B: Body, N: WithBody<B>> Hub<B, N> {
         ensures share { share.new ≡ having_seen share.old share.new.seen }
         ensures bad_range { (result ≡ Err Refusal.BadRange) ↔ (hi < lo) }
     {
-        let mut locked = self.locked.lock(rt);
-        locked.desk.show(share);
-        locked.desk.ask(lo, hi)
+        let mut desk = self.desk.lock(rt);
+        desk.show(share);
+        desk.ask(lo, hi)
     }
 
     /// The running folds of the elements from index `lo` up to `hi`, each with its own, computed from a copy by several threads once
@@ -184,26 +186,8 @@ impl<B: Body, N: WithBody<B>> Hub<B, N> {
         stretch.scan(rt, alloc, inclusive)
     }
 
-    // The same by the thread that asks, as a session has one of its own.
-    pub(crate) fn scan_alone<R: Wait>(
-        &self,
-        rt: &R,
-        alloc: Global,
-        share: &mut Share<N>,
-        lo: u32,
-        hi: u32,
-        inclusive: bool,
-    ) -> Result<Scan<B::S>, Refusal>
-        ensures told { ScanTold (B.operations self.now) N.limits share.old.seen share.new.seen lo hi inclusive result }
-        ensures share { share.new ≡ having_seen share.old share.new.seen }
-        ensures bad_range { (result ≡ Err Refusal.BadRange) ↔ (hi < lo) }
-    {
-        let stretch = self.copy_range(rt, alloc, share, lo, hi)?;
-        stretch.scan_alone(alloc, inclusive)
-    }
-
     // The elements of a range, copied under the lock.
-    fn copy_range<R: Wait>(
+    pub(crate) fn copy_range<R: Wait>(
         &self,
         rt: &R,
         alloc: Global,
@@ -214,9 +198,9 @@ impl<B: Body, N: WithBody<B>> Hub<B, N> {
         ensures told { StretchTold self.now N.limits share.old.seen share.new.seen lo hi result }
         ensures share { share.new ≡ having_seen share.old share.new.seen }
     {
-        let mut locked = self.locked.lock(rt);
-        locked.desk.show(share);
-        locked.desk.live().copy_range(alloc, lo, hi)
+        let mut desk = self.desk.lock(rt);
+        desk.show(share);
+        desk.live().copy_range(alloc, lo, hi)
     }
 
     /// Lets a prefix of this hub see all edits, and puts those from index `from` on into a buffer, in place of what it has, as many as
@@ -233,14 +217,14 @@ impl<B: Body, N: WithBody<B>> Hub<B, N> {
         ensures few { length prefix.new ≤ 16777215 }
         ensures accepted { AreAccepted greatest prefix.new }
     {
-        self.locked.lock(rt).desk.copy_edits(prefix, from, buffer);
+        self.desk.lock(rt).copy_edits(prefix, from, buffer);
     }
 
     /// A job for the least node that wants one, or none. Takes no memory.
     pub fn claim<R: Wait>(&self, rt: &R) -> Option<Job<B>>
         ensures { ClaimTold (B.operations self.now) self.now N.limits result }
     {
-        self.locked.lock(rt).desk.claim()
+        self.desk.lock(rt).claim()
     }
 
     /// Delivers an outcome. Refused with `Stranger` where its node is whole and was touched last by the edit that it names, and its
@@ -248,7 +232,7 @@ impl<B: Body, N: WithBody<B>> Hub<B, N> {
     pub fn give<R: Wait>(&self, rt: &R, outcome: Outcome<B>) -> Result<Accepted, Refusal>
         ensures { DeliveryTold B.meaning B.operations self.now N.limits outcome result }
     {
-        self.locked.lock(rt).desk.give(outcome)
+        self.desk.lock(rt).give(outcome)
     }
 
     /// The vector, once all threads are done: the share that is handed in has all parts. Its journal has as many edits as the
@@ -261,6 +245,6 @@ impl<B: Body, N: WithBody<B>> Hub<B, N> {
         ensures seen { IsPrefix share.seen result.history.journal }
         ensures accepted { AreAccepted greatest result.history.journal }
     {
-        self.locked.into_inner().desk.close(share)
+        self.desk.into_inner().close(share)
     }
 }

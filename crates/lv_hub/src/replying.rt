@@ -14,8 +14,8 @@ use lv_bodies::{Kind, Six, face};
 use lv_edits::Edit;
 use lv_geometry::Refusal;
 use lv_script::{
-    Asked, Claimed, Command, Fault, LINE, Line, ReplyBuffer, put_answer, put_bad, put_receipt,
-    put_refusal, put_scan,
+    Asked, Claimed, Command, Fault, LINE, Line, ReplyBuffer, Slice, put_answer, put_bad,
+    put_receipt, put_refusal, put_running_scan,
 };
 use std::alloc::Global;
 use std::io::Write;
@@ -191,7 +191,7 @@ fn list(answers: &mut Vec<Claimed>, most: usize, reduction: Claimed) -> Result<(
     }
 }
 
-// Scans a range, and tells the values.
+// Scans a range, and tells the values: the range is copied under the lock, and each value is put as it is computed.
 fn put_scanned<N: WithBody<Six>, T: Wait, W: Write>(
     place: &SessionPlace<'_, N, T>,
     share: &mut Share<N>,
@@ -208,17 +208,18 @@ fn put_scanned<N: WithBody<Six>, T: Wait, W: Write>(
         × PutsFront W.contents buffer.old buffer.new reply) }
     ensures share { share.new ≡ having_seen share.old share.new.seen }
 {
-    let (lo, hi) = (asked.lo, asked.hi);
-    let scan = place
+    let copied = place
         .hub
-        .scan_alone(place.rt, place.alloc, share, lo, hi, asked.inclusive);
-    match scan {
-        Ok(scan) => put_scan(
+        .copy_range(place.rt, place.alloc, share, asked.lo, asked.hi);
+    match copied {
+        Ok(stretch) => put_running_scan(
             buffer,
-            scan.edit,
+            stretch.edit().into(),
             asked.inclusive,
             asked.kind,
-            scan.values.as_slice(),
+            &Slice {
+                elements: stretch.elements(),
+            },
         ),
         Err(refusal) => {
             put_refusal(buffer.held, refusal);

@@ -10,59 +10,27 @@ ghost use Rattle.lv_hub.specs.PlainSession.{PlainSessionStep, seen_by};
 ghost use Rattle.lv_hub.specs.Replying.{TellsLine};
 ghost use Rattle.lv_hub.specs.Session.{KeepTies, SessionState, SessionStep, session_at};
 
-use crate::hubs::Hub;
 use crate::naming::WithBody;
-use crate::replying::{SessionPlace, answer_line};
+use crate::replying::SessionPlace;
+use crate::session_logs::SessionLog;
 use crate::shares::Share;
 use lv_bodies::Six;
 use lv_script::{Claimed, Fault, LINE, LineHandler, ReplyBuffer, read_line, serve_lines};
-use std::alloc::{AllocError, Global};
+use std::alloc::AllocError;
 use std::io::{Read, Write};
 use std::marker::{Brand, Model, PhantomData};
 use std::mem;
 use std::sync::Wait;
 
-/// Answers the lines of a session on a hub: pushes, pops, writes, reserves, reductions and scans, as a script's; every other
-/// line that says something is bad. Lists each reduction that was answered, in order; one whose entry finds no room is refused with `NoMemory`.
+/// Answers the lines of a session on a hub: pushes, pops, writes, reserves, swaps, truncates, reductions and scans, as a script's; every
+/// other line that says something is bad. Lists each reduction that was answered, in order, at most as many as the place says; one whose
+/// entry finds no room is refused with `NoMemory`. The log takes up what comes of each line.
 ///
-/// The share counts the edits that were accepted, and sees the hub's edits up to each answer. Ends with the faults of a script; edits accepted before a fault stay, and
-/// stay counted.
-pub fn run_session<N: WithBody<Six>, T: Wait, R: Read, W: Write>(
-    rt: &T,
-    alloc: Global,
-    hub: &Hub<Six, N>,
-    share: &mut Share<N>,
-    reader: &mut R,
-    writer: &mut W,
-) -> Result<Vec<Claimed>, Fault>
-    ensures lines_served { (last : SessionState)
-        × LinesServed (SessionStep N.limits) (session_at share.old []) last
-        (R.remaining reader.old) (R.remaining reader.new) (W.contents writer.old) (W.contents writer.new) result
-        × (share.new.count ≡ last.count)
-        × (share.new.seen ≡ last.seen)
-        × IfOk result (λ answers. answers.items ≡ last.answers) }
-    // Line by line the replies are those of the plain interpreter, each at some edits of the hub's.
-    ensures plain { LinesServed (PlainSessionStep N.limits) (seen_by share.old) (seen_by share.new)
-        (R.remaining reader.old) (R.remaining reader.new) (W.contents writer.old) (W.contents writer.new) result }
-    ensures parts { share.new.parts ≡ share.old.parts }
-    ensures more { share.old.count ≤ share.new.count }
-    ensures seen { IsPrefix share.old.seen share.new.seen }
-    // Each reduction is true of the edits that were seen.
-    ensures all_true { IfOk result (λ answers. All (IsTrueAnswer share.new.seen) answers.items) }
-    ensures order { IfOk result (λ answers. AreInOrder answers.items) }
-{
-    let place = SessionPlace {
-        rt,
-        hub,
-        alloc,
-        most: usize::MAX,
-    };
-    run_session_at(place, share, reader, writer)
-}
-
-/// The same at a place, which says how many reductions are listed at most.
-pub fn run_session_at<N: WithBody<Six>, T: Wait, R: Read, W: Write>(
+/// The share counts the edits that were accepted, and sees the hub's edits up to each answer. Ends with the faults of a script; edits
+/// accepted before a fault stay, and stay counted.
+pub fn run_session<N: WithBody<Six>, T: Wait, L: SessionLog<N>, R: Read, W: Write>(
     place: SessionPlace<'_, N, T>,
+    log: &L,
     share: &mut Share<N>,
     reader: &mut R,
     writer: &mut W,
@@ -97,7 +65,7 @@ pub fn run_session_at<N: WithBody<Six>, T: Wait, R: Read, W: Write>(
         parts: *parts,
         count: *count,
     };
-    let (back, answers, ended) = hold::<Brand, N, T, R, W>(place, lent, reader, writer);
+    let (back, answers, ended) = hold::<Brand, N, T, L, R, W>(place, log, lent, reader, writer);
     *token = back.token;
     *prefix = back.prefix;
     *count = back.count;
@@ -105,7 +73,7 @@ pub fn run_session_at<N: WithBody<Six>, T: Wait, R: Read, W: Write>(
 }
 
 // The reductions that were answered, where the session came to its end.
-pub(crate) fn listed(answers: Vec<Claimed>, ended: Result<(), Fault>) -> Result<Vec<Claimed>, Fault>
+fn listed(answers: Vec<Claimed>, ended: Result<(), Fault>) -> Result<Vec<Claimed>, Fault>
     ensures { MatchResult ended (λ _. result ≡ Ok answers) (λ fault. result ≡ Err fault) }
 {
     ended?;
@@ -126,8 +94,9 @@ impl SessionStart for Brand {
 }
 
 // Holds a session with a share, and gives the share back with the reductions that were answered.
-fn hold<K: SessionStart, N: WithBody<Six>, T: Wait, R: Read, W: Write>(
+fn hold<K: SessionStart, N: WithBody<Six>, T: Wait, L: SessionLog<N>, R: Read, W: Write>(
     place: SessionPlace<'_, N, T>,
+    log: &L,
     share: Share<N>,
     reader: &mut R,
     writer: &mut W,
@@ -141,8 +110,9 @@ fn hold<K: SessionStart, N: WithBody<Six>, T: Wait, R: Read, W: Write>(
     ensures few { vec_len result.1 ≤ place.entry.most }
 {
     let alloc = place.alloc;
-    let mut session: Session<'_, N, T, K> = Session {
+    let mut session: Session<'_, N, T, L, K> = Session {
         place,
+        log,
         share,
         answers: Vec::new(alloc),
         of: PhantomData,
@@ -154,25 +124,29 @@ fn hold<K: SessionStart, N: WithBody<Six>, T: Wait, R: Read, W: Write>(
 
 // What answers the lines of a session.
 #[derive(Drop)]
-struct Session<'a, N: WithBody<Six>, T: Wait, K: SessionStart> {
+struct Session<'a, N: WithBody<Six>, T: Wait, L: SessionLog<N>, K: SessionStart> {
     place: SessionPlace<'a, N, T>,
+    log: &'a L,
     share: Share<N>,
     answers: Vec<Claimed>,
     of: PhantomData<K>,
 }
 
-impl<'a, N: WithBody<Six>, T: Wait, K: SessionStart> Model for Session<'a, N, T, K> {
-    ghost use Rattle.std.specs.Prelude.{◌≡◌, ◌≤◌, vec_len};
+impl<'a, N: WithBody<Six>, T: Wait, L: SessionLog<N>, K: SessionStart> Model
+    for Session<'a, N, T, L, K> {
+    ghost use Rattle.std.specs.Prelude.{◌≡◌, ◌≤◌, All, vec_len};
+    ghost use Rattle.lv_transcript.specs.Transcript.{IsTrueAnswer};
     ghost use Rattle.lv_hub.specs.Session.{SessionState, session_at};
 
     ghost Value = { SessionState };
 
     ghost view = { λ s. session_at s.share s.answers.items };
 
-    ghost invariant = { λ s. (s.share.parts ≡ K.holding.parts) × (K.holding.count ≤ s.share.count) × (s.place.most ≡ K.most) × (vec_len s.answers ≤ K.most) };
+    ghost invariant = { λ s. (s.share.parts ≡ K.holding.parts) × (K.holding.count ≤ s.share.count) × All (IsTrueAnswer s.share.seen) s.answers.items × (s.place.most ≡ K.most) × (vec_len s.answers ≤ K.most) };
 }
 
-impl<'a, N: WithBody<Six>, T: Wait, K: SessionStart> LineHandler for Session<'a, N, T, K> {
+impl<'a, N: WithBody<Six>, T: Wait, L: SessionLog<N>, K: SessionStart> LineHandler
+    for Session<'a, N, T, L, K> {
     ghost State = { SessionState };
 
     ghost state = { λ s. s };
@@ -186,7 +160,7 @@ impl<'a, N: WithBody<Six>, T: Wait, K: SessionStart> LineHandler for Session<'a,
         buffer: &mut ReplyBuffer<'_, W>,
     ) -> Result<(), Fault> {
         buffer.make_room(LINE)?;
-        answer_line(
+        self.log.answer(
             &self.place,
             &mut self.share,
             &mut self.answers,

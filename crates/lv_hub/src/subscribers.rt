@@ -1,8 +1,10 @@
 //! Threads that are told of the edits that change the answers to their questions.
 ghost use Rattle.std.specs.Prelude.{◌≡◌, ◌++◌, ◌∷◌, [], None, IfErr, IfOk, OnErr, OnOk};
+ghost use Rattle.lv_edits.specs.Kept.{IsLegalInLimits};
 ghost use Rattle.lv_edits.specs.Verdict.{IsRefusal};
 ghost use Rattle.lv_standing.specs.Queries.{watch_answer};
 ghost use Rattle.lv_hub.specs.Notes.{IsToldIf, question_refusal};
+ghost use Rattle.lv_hub.specs.Told.{history_of};
 
 use crate::ended::Ended;
 use crate::hubs::Hub;
@@ -104,6 +106,8 @@ impl<N: WithBody<Six>> Subscriber<N> {
     ) -> Result<Option<Told>, Refusal>
         ensures told { IfOk result (IsToldIf N.limits self.old self.new) }
         ensures err { IfErr result (λ refusal. refusal ≡ Refusal.NoMemory) }
+        // Told or not, it has seen all edits that the hub had then.
+        ensures current { IfOk result (λ told. IsLegalInLimits (history_of N.limits self.new.share.seen)) }
         ensures unchanged { OnErr result (self.new ≡ self.old) }
     {
         let Ok(mut notes) = Vec::with_capacity(alloc, self.queries.queries().len()) else {

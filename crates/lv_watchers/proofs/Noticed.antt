@@ -9,8 +9,8 @@ use Rattle.lv_edits.specs.declared.edit.Edit.{Edit}
 use Rattle.lv_hub.specs.Counting.{ShareState}
 use Rattle.lv_standing.specs.declared.queries.Query.{Query}
 use Rattle.lv_hub.specs.declared.told.Told.{Told}
-use Rattle.lv_standing.specs.Queries.{watch_answer}
-use Rattle.lv_hub.specs.Notes.{AreNotesOf, HasTold, IsToldIf, SubscriberState}
+use Rattle.lv_standing.specs.Queries.{AreNotesOf, watch_answer}
+use Rattle.lv_hub.specs.Notes.{HasTold, IsToldIf, SubscriberState}
 use Rattle.lv_watchers.specs.Noticing.{AreTold, NoticesState, WatcherState, Watches, WritesMore, WroteOrPart, all_told_text, told_text}
 use Rattle.lv_watchers.specs.Watched.{AreToldOf, WatchState, answers_at}
 use Rattle.lv_watchers.specs.Watchers.{watcher_at}

@@ -7,8 +7,7 @@ use mathlib.Core.List.{IsPrefix}
 use Rattle.lv_geometry.specs.Bounds.{Bounds}
 use Rattle.lv_edits.specs.declared.edit.Edit.{Edit}
 use Rattle.lv_hub.specs.Counting.{AreTogether, ShareState}
-use Rattle.lv_standing.specs.Queries.{watch_answer}
-use Rattle.lv_hub.specs.Notes.{AreNotesOf}
+use Rattle.lv_standing.specs.Queries.{AreNotesOf, watch_answer}
 use Rattle.lv_watchers.specs.Noticing.{NoticesState, WatcherState, Watches, WroteOrPart, all_told_text}
 use Rattle.lv_watchers.specs.Watched.{AreWatched, IsWatched, ServedWatched, ToldOf, WatchState}
 use Rattle.lv_watchers.specs.Watchers.{AllTellLast, AreLeft, AreWatchedFrom, ClosesTelling, LeftState, TakesWatchers, TellsLast, left_by, watcher_at}

@@ -11,6 +11,7 @@ use Rattle.lv_lines.specs.declared.fault.Fault.{Fault}
 use Rattle.lv_lines.specs.Grammar.{line_of}
 use Rattle.lv_lines.specs.Replies.{LinesServed}
 use Rattle.lv_standing.specs.declared.queries.Query.{Query}
+use Rattle.lv_standing.specs.Queries.{between}
 use Rattle.lv_hub.specs.Notes.{question_refusal}
 use Rattle.lv_watchers.specs.declared.queries.Damage as damages
 use Rattle.lv_watchers.specs.declared.queries.Unasked.{Unasked}
@@ -38,7 +39,7 @@ Asks questions n q new =
 -- line n says this, where no line before it is wrong. One that says nothing changes nothing, and one that is no `watch` is wrong
 abbrev pub Takes : List Query → ℕ → Line Command → Asked → Type 0
 Takes questions n Nothing new = new ≡ record { questions = questions; damage = None }
-Takes questions n (Do (Watch name kind lo hi)) new = Asks questions n (record { name = name; kind = kind; lo = lo; hi = hi }) new
+Takes questions n (Do (Watch name kind lo hi)) new = Asks questions n (between name kind lo hi) new
 Takes questions n _ new = new ≡ damaged questions n None
 
 -- what stands behind a line that is wrong changes nothing

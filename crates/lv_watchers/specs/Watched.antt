@@ -7,8 +7,7 @@ use Rattle.lv_transcript.specs.declared.claimed.Claimed.{Claimed}
 use Rattle.lv_transcript.specs.Transcript.{transcript_text}
 use Rattle.lv_standing.specs.declared.queries.Query.{Query}
 use Rattle.lv_hub.specs.declared.told.Told.{Told}
-use Rattle.lv_standing.specs.Queries.{watch_answer}
-use Rattle.lv_hub.specs.Notes.{AreNotesOf}
+use Rattle.lv_standing.specs.Queries.{AreNotesOf, watch_answer}
 use Rattle.lv_watchers.specs.Noticing.{NoticesState, WroteOrPart, all_told_text}
 
 -- what is to be told: its questions, and what the writer of its lines has got

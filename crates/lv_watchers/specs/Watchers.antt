@@ -8,8 +8,8 @@ use Rattle.lv_transcript.specs.declared.claimed.Claimed.{Claimed}
 use Rattle.lv_transcript.specs.Transcript.{transcript_text}
 use Rattle.lv_hub.specs.declared.told.Told.{Told}
 use Rattle.lv_hub.specs.Counting.{ShareState}
-use Rattle.lv_standing.specs.Queries.{watch_answer}
-use Rattle.lv_hub.specs.Notes.{AreNotesOf, EndedState}
+use Rattle.lv_standing.specs.Queries.{AreNotesOf, watch_answer}
+use Rattle.lv_hub.specs.Notes.{EndedState}
 use Rattle.lv_watchers.specs.Noticing.{NoticesState, WatcherState, Watches, WritesMore, told_text}
 use Rattle.lv_watchers.specs.Watched.{ToldOf, WatchState}
 

@@ -1,6 +1,6 @@
 //! The lines of what a subscriber is told.
 
-ghost use Rattle.std.specs.Prelude.{◌≡◌, [], false, IfErr, IfOk, OnOk};
+ghost use Rattle.std.specs.Prelude.{◌≡◌, [], false, true, IfErr, IfOk, OnOk, vec_capacity};
 ghost use Rattle.lv_lines.specs.Output.{Puts, PutsFront, SamePlaces};
 ghost use Rattle.lv_lines.specs.Texts.{named_text};
 ghost use Rattle.lv_watchers.specs.Noticing.{WritesMore, notes_at, told_text};
@@ -58,10 +58,7 @@ impl<F: Write + Drop> Notices<F> {
         };
         match write_told(told, &mut buffer) {
             Ok(()) => {}
-            Err(_) => {
-                self.held.clear();
-                self.failed = true;
-            }
+            Err(_) => fail(&mut self.held, &mut self.failed),
         }
     }
 
@@ -71,6 +68,16 @@ impl<F: Write + Drop> Notices<F> {
     {
         self.failed
     }
+}
+
+// Drops what is held, and tells that a write has failed.
+fn fail(held: &mut Vec<u8>, failed: &mut bool)
+    ensures failed { failed.new ≡ true }
+    ensures empty { held.new.items ≡ [] }
+    ensures room { vec_capacity held.new ≡ vec_capacity held.old }
+{
+    held.clear();
+    *failed = true;
 }
 
 // Writes the lines of what was told.

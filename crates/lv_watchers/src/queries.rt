@@ -92,8 +92,7 @@ impl Asker {
     {
         match command {
             Command::Watch { name, kind, lo, hi } => {
-                let question = Query { name, kind, lo, hi };
-                self.ask(number, &question);
+                self.ask(number, &Query::between(name, kind, lo, hi));
             }
             _ => self.damage = damage_at(number, None),
         }

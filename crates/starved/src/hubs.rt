@@ -7,14 +7,14 @@ use crate::told::{Told, again, begin, end, first};
 use lv_bodies::Sum;
 use lv_edits::Edit;
 use lv_geometry::{Limits, Refusal};
-use lv_hub::{Desk, Hub, Naming, Opened, Share, WithBody};
+use lv_hub::{Desk, Hub, Opened, Share, WithBody};
 use std::alloc::Global;
 use std::marker::Brand;
 use std::sync::Wait;
 use std::sync::ledger::Blank;
 use std::thread::Threads;
 
-fn try_desk<N: Naming, R: Eprint>(
+fn try_desk<N: WithBody<Sum>, R: Eprint>(
     rt: &R,
     desk: &mut Desk<Sum, N>,
     share: &mut Share<N>,
@@ -36,12 +36,13 @@ fn try_desk<N: Naming, R: Eprint>(
     }
 }
 
-fn of_desk<N: Naming, R: Eprint>(
+fn of_desk<N: WithBody<Sum>, R: Eprint>(
     rt: &R,
     alloc: Global,
     limits: Limits,
     blank: Blank,
     opened: Opened,
+    body: Sum,
     row: Row,
 ) -> Told
     requires name { blank.name ≡ N.name }
@@ -49,9 +50,9 @@ fn of_desk<N: Naming, R: Eprint>(
     requires one { blank.parts ≡ 1 }
     requires limits { limits ≡ N.limits }
     requires history { opened ≡ N.history }
+    requires body { N.body ≡ Some body }
 {
-    let (_head, front) = opened.named::<N>();
-    let (mut desk, mut share) = Desk::<Sum, N>::new(alloc, limits, Sum, blank, 1, front);
+    let (mut desk, mut share) = Desk::<Sum, N>::new(alloc, limits, body, blank, 1, opened);
     let told = try_desk(rt, &mut desk, &mut share, row);
     drop(desk);
     told
@@ -60,7 +61,7 @@ fn of_desk<N: Naming, R: Eprint>(
 /// An edit of a desk.
 pub fn edit_desk<R: Eprint>(rt: &R, alloc: Global, row: Row) -> Told {
     let (limits, blank, opened) = (Limits::greatest(), Blank::new(1), Opened::new());
-    of_desk::<Brand, R>(rt, alloc, limits, blank, opened, row)
+    of_desk::<Brand, R>(rt, alloc, limits, blank, opened, Sum, row)
 }
 
 fn try_hub<N: WithBody<Sum>, R: Wait + Eprint>(

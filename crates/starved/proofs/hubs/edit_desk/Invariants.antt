@@ -1,4 +1,5 @@
--- The ghosts that are handed on in `edit_desk`: whose ledger and names the hub has.
+-- The ghosts that are handed on in `edit_desk`: whose ledger, names and body the desk has.
+use Rattle.std.proofs.Common.{Some}
 use Rattle.starved.proofs.hubs.edit_desk.Given as goal
 
 abbrev pub ghosts-of_desk-N-Ledger : goal.ghosts-of_desk-N-Ledger
@@ -6,3 +7,6 @@ ghosts-of_desk-N-Ledger g a = record { name = a.blank.name; parts = a.blank.part
 
 abbrev pub ghosts-of_desk-N-Naming : goal.ghosts-of_desk-N-Naming
 ghosts-of_desk-N-Naming g a = record { limits = a.limits; history = a.opened }
+
+abbrev pub ghosts-of_desk-N-WithBody : goal.ghosts-of_desk-N-WithBody
+ghosts-of_desk-N-WithBody g a = record { body = Some a.body }

@@ -8,7 +8,7 @@ use Rattle.lv_hub.proofs.hubs.Hub.ask.Goals as goal
 -- it was answered by what the lock held, which has the hub's body
 pub returns-clause-told : goal.returns-clause-told
 returns-clause-told g c =
-    let s = c.deref_mut-2.result.now.desk in
+    let s = c.deref_mut-2.result.now.live in
     let of : s.body ≡ c.args.self.now = same_Some _ _ (sym c.ask.ensures.body ∙ c.self.invariant ∙ ap Some c.self.view_is) in
     let seen : IsPrefix c.args.share.now.seen c.show.new.share.seen = search rules in
     let is : c.show.new.share.seen ≡ s.history.journal = search rules in
@@ -16,7 +16,7 @@ returns-clause-told g c =
 
 pub returns-clause-live : goal.returns-clause-live
 returns-clause-live g c =
-    let s = c.deref_mut-2.result.now.desk in
+    let s = c.deref_mut-2.result.now.live in
     let of : s.body ≡ c.args.self.now = same_Some _ _ (sym c.ask.ensures.body ∙ c.self.invariant ∙ ap Some c.self.view_is) in
     let seen : IsPrefix c.args.share.now.seen c.show.new.share.seen = search rules in
     let is : c.show.new.share.seen ≡ s.history.journal = search rules in

@@ -7,5 +7,5 @@ use Rattle.lv_hub.proofs.hubs.Hub.claim.Goals as goal
 -- it was answered by what the lock held, which has the hub's body
 pub returns : goal.returns
 returns g c =
-    let of : c.deref_mut.result.now.desk.body ≡ c.args.self.now = same_Some _ _ (sym c.claim.ensures.body ∙ c.self.invariant ∙ ap Some c.self.view_is) in
-    claim_told g.B.Body.operations _ _ c.deref_mut.result.now.desk c.claim.new.self c.claim.result c.claim.ensures.vector of c.claim.ensures.live c.claim.ensures.stays_live c.claim.ensures.next c.claim.ensures.claimed c.claim.ensures.job_body c.claim.ensures.honest
+    let of : c.deref_mut.result.now.live.body ≡ c.args.self.now = same_Some _ _ (sym c.claim.ensures.body ∙ c.self.invariant ∙ ap Some c.self.view_is) in
+    claim_told g.B.Body.operations _ _ c.deref_mut.result.now.live c.claim.new.self.live c.claim.result c.claim.ensures.vector of c.claim.ensures.live c.claim.ensures.stays_live c.claim.ensures.next c.claim.ensures.claimed c.claim.ensures.job_body c.claim.ensures.honest

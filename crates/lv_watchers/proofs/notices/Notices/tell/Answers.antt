@@ -16,4 +16,4 @@ returns-in-Ok g c =
 pub returns-in-Err : goal.returns-in-Err
 returns-in-Err g c =
     let s : NoticesState = record { contents = g.F.Write.contents c.self.inside.writer; failed = c.self.inside.failed } in
-    rw (← c.self.view_is) (wrote_part (told_text c.args.told.now) s (g.F.Write.contents c.write_told.new.buffer.writer.now) c.if-self.false (rw c.self.invariant.0 at c.in-Err.ensures.fault))
+    rw (← c.self.view_is, c.fail.ensures.failed) (wrote_part (told_text c.args.told.now) s (g.F.Write.contents c.write_told.new.buffer.writer.now) c.if-self.false (rw c.self.invariant.0 at c.in-Err.ensures.fault))

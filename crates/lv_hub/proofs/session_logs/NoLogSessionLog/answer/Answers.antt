@@ -1,7 +1,7 @@
--- Proof of `answer_true`: answers a line.
+-- Proof of `NoLogSessionLog::answer`: answers a line.
 use Rattle.lv_hub.specs.Session.{session_at}
 use Rattle.lv_hub.proofs.TruthLaws.{answered_keeps}
-use Rattle.lv_hub.proofs.recorded.answer_true.Goals as goal
+use Rattle.lv_hub.proofs.session_logs.NoLogSessionLog.answer.Goals as goal
 
 pub returns-clause-all_true : goal.returns-clause-all_true
 returns-clause-all_true g c =

@@ -1,4 +1,4 @@
--- Proof of `run_session_at`.
+-- Proof of `run_session`.
 use Rattle.std.proofs.Common.{◌≡◌, ◌≤◌, [], All, refl, rules, ap, sym, arith, vec_len}
 use Rattle.std.proofs.lemmas.List.Elements.{All-nil}
 use Rattle.std.proofs.lemmas.List.Sorted.{IsNonDecreasingBy-short}
@@ -6,7 +6,7 @@ use Rattle.lv_transcript.specs.Transcript.{AreInOrder, IsTrueAnswer}
 use Rattle.lv_hub.proofs.PlainSessionLaws.{session_plain, session_said}
 use Rattle.lv_hub.proofs.SessionLaws.{lines_served_as, given_as}
 use Rattle.lv_hub.proofs.TruthLaws.{lines_served_keeps}
-use Rattle.lv_hub.proofs.sessions.run_session_at.Goals as goal
+use Rattle.lv_hub.proofs.sessions.run_session.Goals as goal
 
 pub returns-clause-lines_served : goal.returns-clause-lines_served
 returns-clause-lines_served g c =

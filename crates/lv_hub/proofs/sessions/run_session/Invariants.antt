@@ -1,0 +1,5 @@
+-- The ghosts that are handed on in `run_session`.
+use Rattle.lv_hub.proofs.sessions.run_session.Given as goal
+
+abbrev pub ghosts-hold : goal.ghosts-hold
+ghosts-hold g a = record { holding = a.share; most = a.place.most }
