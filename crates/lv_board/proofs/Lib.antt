@@ -15,6 +15,7 @@ pub mod Walking
 pub mod Ordered
 pub mod PlainBoards
 pub mod Retries
+pub mod Moving
 pub mod Numbers
 pub mod Valued
 pub mod Sharings

@@ -1,10 +1,11 @@
 -- What the loads of a reduction and of a refresh make of the fold.
-use Rattle.std.proofs.Common.{◌≡◌, ℕ, zero, suc, ℤ, pos, ◌+◌, ◌-◌, ◌*◌, ◌/◌, ◌%◌, ◌<◌, ◌≤◌, true, false, None, List, Result, Ok, Err, length, nat_lt, slice_index, slice_set, replicate, length-set, refl, sym, ap, ◌∙◌, subst, inl, inr, arith}
+use Rattle.std.proofs.Common.{◌≡◌, ℕ, zero, suc, ℤ, pos, ◌+◌, ◌-◌, ◌*◌, ◌/◌, ◌%◌, ◌<◌, ◌≤◌, true, false, None, List, ◌++◌, append_assoc, Result, Ok, Err, length, nat_lt, slice_index, slice_set, replicate, length-set, refl, sym, ap, ◌∙◌, subst, inl, inr, arith}
 use Rattle.std.specs.Prelude.{take, drop, slice_range, All}
 use Rattle.std.specs.List.{slice_index_or}
+use Rattle.std.proofs.Math.Nat.{add-mul, one-mul}
 use Rattle.std.proofs.lemmas.Bool.{cases_lt, cases_eq, cond-false}
 use Rattle.std.proofs.lemmas.Bool.Decides.{nat_tests}
-use Rattle.std.proofs.lemmas.List.{get_or_default, get_or_past, get_or-replicate, get_or-set_other, get_or-set_same}
+use Rattle.std.proofs.lemmas.List.{get_or_default, get_or_past, get_or-replicate, get_or-set_other, get_or-set_same, replicate-append-replicate}
 use Rattle.std.proofs.lemmas.List.Elements.{All-drop, All-head, All-tail, All-take}
 use Rattle.atomic_table.specs.Seated.{TableId}
 use Rattle.lv_geometry.specs.Cells.{capacity_of}
@@ -19,6 +20,7 @@ use Rattle.lv_edits.specs.Ranges.{range_refusal}
 use Rattle.lv_reduce.proofs.PieceLaws.{slice-joined, slice-within, slices_can_join}
 use Rattle.lv_reduce.proofs.ScanLaws.{fold_of-slice-more}
 use Rattle.lv_machine.specs.declared.entries.Entry.{Entry}
+use Rattle.lv_machine.specs.declared.moves.Move.TheVariants.{Read}
 use Rattle.lv_machine.specs.History.{cell_of, edits_of, elements_of, IsLegalHistory}
 use Rattle.lv_machine.specs.Layout.{part_place}
 use Rattle.lv_machine.specs.Shows.{block, mark_of}
@@ -36,9 +38,10 @@ use Rattle.lv_board.specs.declared.seats.Seat.{Seat}
 use Rattle.lv_board.specs.Calls.{AreInstalled, HasLooked, IsRangeAnswer}
 use Rattle.lv_board.specs.Plays.{IsRead, SeesAll}
 use Rattle.lv_board.specs.Rule.{IsThere, terms_of}
-use Rattle.lv_board.specs.Tells.{actor_of, IsAt}
+use Rattle.lv_board.specs.Tells.{actor_of, IsAt, moves_of}
 use Rattle.lv_board.specs.Steps.{HasInstalled, IsCellTaken, IsHelped, IsMarkTaken, IsWordLoaded}
-use Rattle.lv_board.specs.Walks.{block_fold, block_installed, Comes, HasCome, HasRead, MayRead, Sums}
+use Rattle.lv_board.specs.Moved.{loads_of}
+use Rattle.lv_board.specs.Walks.{block_fold, block_installed, Comes, GoesOn, HasCome, HasRead, loads_in, MayRead, Sums}
 use Rattle.lv_board.proofs.Calling.{helped_quiet, looked_then, quiet_same, quiet_then}
 
 -- the first so many of four numbers are the first parts of a summary, and the others 0
@@ -48,34 +51,41 @@ pub record AreTaken {S : Type 0} (parts_of : S → List ℕ) (s : S) (number : �
   pub others : (p : ℕ) → number ≤ p → slice_index values p ≡ 0
 
 -- a seat that has loaded nothing yet
-pub read_nothing : {B : Type 0} (s : Seat B) → HasRead s s
+pub read_nothing : {B : Type 0} (s : Seat B) → HasRead 0 s s
 read_nothing s = record {
   stays = record { table = refl; terms = refl };
   look = refl;
   quiet = quiet_same (actor_of s) (actor_of s) refl refl refl;
   rest = refl;
+  moves = refl;
 }
 
 -- loads one after the other
-pub read_then : {B : Type 0} (s m u : Seat B) → HasRead s m → HasRead m u → HasRead s u
-read_then s m u first second = record {
+pub read_then : {B : Type 0} (n k : ℕ) (s m u : Seat B) → HasRead n s m → HasRead k m u → HasRead (k + n) s u
+read_then n k s m u first second = record {
   stays = record { table = second.stays.table ∙ first.stays.table; terms = second.stays.terms ∙ first.stays.terms };
   look = second.look ∙ first.look;
   quiet = quiet_then (actor_of s) (actor_of m) (actor_of u) first.quiet second.quiet;
   rest = second.rest ∙ ap (λ (a : Actor). record a { known = (actor_of u).known }) first.rest;
+  moves =
+      second.moves
+      ∙ ap (λ (a : ℕ). loads_of k a ++ moves_of m) first.quiet.number
+      ∙ ap (λ ms. loads_of k (actor_of s).number ++ ms) first.moves
+      ∙ sym (append_assoc (loads_of k (actor_of s).number) (loads_of n (actor_of s).number) (moves_of s))
+      ∙ ap (λ ms. ms ++ moves_of s) (replicate-append-replicate k n (Read (actor_of s).number));
 }
 
 -- after loads the same was seen, and more may be loaded
-pub seen_still : {B : Type 0} (s u : Seat B) → HasRead s u → (actor_of u).seen ≡ (actor_of s).seen
-seen_still s u read = ap (λ (a : Actor). a.seen) read.rest
+pub seen_still : {B : Type 0} (n : ℕ) (s u : Seat B) → HasRead n s u → (actor_of u).seen ≡ (actor_of s).seen
+seen_still n s u read = ap (λ (a : Actor). a.seen) read.rest
 
-pub at_still : {B : Type 0} (table : TableId) (z : Basis B) (s u : Seat B) → IsAt table z s → HasRead s u → IsAt table z u
-at_still table z s u is read = record { at = read.stays.table ∙ is.at; terms = read.stays.terms ∙ is.terms }
+pub at_still : {B : Type 0} (table : TableId) (z : Basis B) (n : ℕ) (s u : Seat B) → IsAt table z s → HasRead n s u → IsAt table z u
+at_still table z n s u is read = record { at = read.stays.table ∙ is.at; terms = read.stays.terms ∙ is.terms }
 
-pub may_still : {B : Type 0} (t : Terms) (s u : Seat B) → MayRead t s → HasRead s u → MayRead t u
-may_still t s u may read = record {
+pub may_still : {B : Type 0} (t : Terms) (n : ℕ) (s u : Seat B) → MayRead t s → HasRead n s u → MayRead t u
+may_still t n s u may read = record {
   terms = may.terms;
-  legal = subst (IsLegalHistory t) (sym (seen_still s u read)) may.legal;
+  legal = subst (IsLegalHistory t) (sym (seen_still n s u read)) may.legal;
   ready = record {
     helped = λ has. ap (λ (a : Actor). a.helped) read.rest ∙ may.ready.helped (subst HasPending read.look has);
     marked = λ has. ap (λ (a : Actor). a.marked) read.rest ∙ may.ready.marked (subst HasPending read.look has);
@@ -83,15 +93,15 @@ may_still t s u may read = record {
 }
 
 -- the load of a word is one
-pub word_read : {B : Type 0} (f : B → Folding) (at found : ℕ) (s u : Seat B) → IsWordLoaded f at found s u → HasRead s u
-word_read f at found s u loaded = record { stays = loaded.stays; look = loaded.look; quiet = loaded.read.quiet; rest = loaded.read.rest }
+pub word_read : {B : Type 0} (f : B → Folding) (at found : ℕ) (s u : Seat B) → IsWordLoaded f at found s u → HasRead 1 s u
+word_read f at found s u loaded = record { stays = loaded.stays; look = loaded.look; quiet = loaded.read.quiet; rest = loaded.read.rest; moves = loaded.moves }
 
 -- and so are those of a cell and of a mark
-pub cell_is_read : {B : Type 0} (t : Terms) (i : ℕ) (result : Result ℤ Refusal) (s u : Seat B) → IsCellTaken t i result s u → HasRead s u
-cell_is_read t i result s u taken = record { stays = taken.stays; look = taken.look; quiet = taken.quiet; rest = taken.rest }
+pub cell_is_read : {B : Type 0} (t : Terms) (i : ℕ) (result : Result ℤ Refusal) (s u : Seat B) → IsCellTaken t i result s u → HasRead 1 s u
+cell_is_read t i result s u taken = record { stays = taken.stays; look = taken.look; quiet = taken.quiet; rest = taken.rest; moves = taken.moves }
 
-pub mark_is_read : {B : Type 0} (t : Terms) (b : ℕ) (result : Result ℕ Refusal) (s u : Seat B) → IsMarkTaken t b result s u → HasRead s u
-mark_is_read t b result s u taken = record { stays = taken.stays; look = taken.look; quiet = taken.quiet; rest = taken.rest }
+pub mark_is_read : {B : Type 0} (t : Terms) (b : ℕ) (result : Result ℕ Refusal) (s u : Seat B) → IsMarkTaken t b result s u → HasRead 1 s u
+mark_is_read t b result s u taken = record { stays = taken.stays; look = taken.look; quiet = taken.quiet; rest = taken.rest; moves = taken.moves }
 
 -- a part of the mark's version is that of the whole block's fold
 pub part_read : (t : Terms) (x y : Actor) (at found b p : ℕ) → IsRead t x y at found → 8 * b < capacity_of t.limits.buckets → p < t.folding.parts → at ≡ part_place b p → is_whole (edits_of x.seen) (block b) ≡ true → part_version found ≡ mark_of b x.seen → part_value found ≡ t.folding.part p (elements_under (edits_of x.seen) (block b))
@@ -182,18 +192,37 @@ module _ {S : Type 0} (o : Operations S) (within : S → ℕ → Type 0) (laws :
       };
     }
 
+-- what a walk with a block counts
+pub block_counted : (parts cells summaries : ℕ) → cells + (summaries + 1) * suc parts ≡ cells + summaries * suc parts + (1 + parts)
+block_counted parts cells summaries = let more : (summaries + 1) * suc parts ≡ summaries * suc parts + suc parts = add-mul summaries 1 (suc parts) ∙ ap (λ n. summaries * suc parts + n) (one-mul (suc parts)) in omega (arith, more)
+
 -- a walk that comes to an index after some loads
-pub come_then : {B S : Type 0} (o : Operations S) (lo at : ℕ) (result : Result (BoardWalk S) Refusal) (s m u : Seat B) → HasRead s m → Comes o lo at result m u → Comes o lo at result s u
-come_then o lo at (Ok walk) s m u first next = record {
-  read = read_then s m u first next.read;
-  come = subst (λ h. HasCome o h lo at walk) (seen_still s m first) next.come;
+pub come_then : {B S : Type 0} (o : Operations S) (parts before lo at n : ℕ) (result : Result (BoardWalk S) Refusal) (s m u : Seat B) → HasRead n s m → Comes o parts before lo at result m u → Comes o parts before lo at result s u
+come_then o parts before lo at n (Ok walk) s m u first next = record {
+  loads = next.loads + n;
+  read = read_then n next.loads s m u first next.read;
+  come = subst (λ h. HasCome o h lo at walk) (seen_still n s m first) next.come;
+  counted = omega (arith, next.counted);
   overtaken = tt;
 }
-come_then o lo at (Err refusal) s m u first next = record {
-  read = read_then s m u first next.read;
+come_then o parts before lo at n (Err refusal) s m u first next = record {
+  loads = next.loads + n;
+  read = read_then n next.loads s m u first next.read;
   come = tt;
-  overtaken = next.overtaken;
+  counted = tt;
+  overtaken = (next.overtaken.0, omega (arith, next.overtaken.1));
 }
+
+-- a walk that has come further by a cell or by a block has gone on
+pub come_on : {B S : Type 0} (o : Operations S) (parts hi at : ℕ) (walk : BoardWalk S) (result : Result (BoardWalk S) Refusal) (s u : Seat B) → walk.at + 1 ≤ at → at ≤ hi → Comes o parts (loads_in parts walk) walk.lo at result s u → GoesOn o parts hi walk result s u
+come_on o parts hi at walk (Ok next) s u further most comes = record {
+  loads = comes.loads;
+  read = comes.read;
+  gone = record { from = comes.come.from; further = omega (arith, comes.come.here); most = omega (arith, comes.come.here); sums = comes.come.sums };
+  counted = comes.counted;
+  overtaken = tt;
+}
+come_on o parts hi at walk (Err refusal) s u further most comes = record { loads = comes.loads; read = comes.read; gone = tt; counted = tt; overtaken = comes.overtaken }
 
 -- a seat that looked, and completed its pending write, may load
 pub may_after : {B : Type 0} (f : B → Folding) (y z : Basis B) (m u : Seat B) (found : ℕ) → y ≡ z → SeesAll (terms_of f y) (actor_of m) found → IsHelped m u → MayRead (terms_of f z) u
@@ -204,11 +233,11 @@ may_after f y z m u found same sees helped = subst (λ w. MayRead (terms_of f w)
 }
 
 -- and after its loads it still sees what it looked at
-pub looked_and_read : {B : Type 0} (t : Terms) (x : Actor) (m u w : Seat B) → HasLooked t x (actor_of m) → IsHelped m u → HasRead u w → HasLooked t x (actor_of w)
-looked_and_read t x m u w looked helped read =
+pub looked_and_read : {B : Type 0} (t : Terms) (x : Actor) (n : ℕ) (m u w : Seat B) → HasLooked t x (actor_of m) → IsHelped m u → HasRead n u w → HasLooked t x (actor_of w)
+looked_and_read t x n m u w looked helped read =
     looked_then t x (actor_of m) (actor_of w) looked
     (quiet_then (actor_of m) (actor_of u) (actor_of w) (helped_quiet (actor_of m) (actor_of u) helped.made helped.known helped.number) read.quiet)
-    (seen_still u w read ∙ helped.seen)
+    (seen_still n u w read ∙ helped.seen)
 
 -- nor does it see anything else once it has installed parts
 pub looked_and_installed : {B : Type 0} (t : Terms) (x : Actor) (parts : List InstalledPart) (u w : Seat B) → HasLooked t x (actor_of u) → HasInstalled parts u w → HasLooked t x (actor_of w)

@@ -3,6 +3,7 @@ pub mod Answerer
 pub mod Calls
 pub mod Closing
 pub mod Ended
+pub mod Moved
 pub mod Opening
 pub mod Ordered
 pub mod PlainBoard

@@ -19,6 +19,7 @@ use Rattle.lv_board.specs.Stands.{IsReady}
 use Rattle.std.specs.List.{slice_index_or}
 use Rattle.lv_edits.specs.declared.receipt.Receipt.{Receipt}
 use Rattle.lv_board.specs.Calls.{HasLooked}
+use Rattle.lv_board.specs.Moved.{HasMovedBy, help_of, installs_of}
 
 -- an exchange found another descriptor, which the seat sees now: a try that comes next needs no look
 abbrev pub HasFound : Result Receipt Refusal → Type 0
@@ -65,6 +66,7 @@ module _ {B : Type 0} where
     pub known : (actor_of t).known ≡ (actor_of s).known
     pub made : (actor_of t).own ≡ (actor_of s).own
     pub number : (actor_of t).number ≡ (actor_of s).number
+    pub moves : HasMovedBy (help_of (actor_of s).number (actor_of s).seen) s t
     pub ready : IsReady (actor_of t) t.look
 
   module _ (f : B → Folding) where
@@ -99,6 +101,7 @@ module _ {B : Type 0} where
     pub rest : actor_of u ≡ record (actor_of s) { known = (actor_of u).known }
     pub terms : AreTerms t
     pub legal : IsLegalHistory t (actor_of s).seen
+    pub moves : HasMoved Read s u
     pub taken : IfOk result (λ x. x ≡ signed (value_of (cell_of i (actor_of s).seen)))
     pub overtaken : IfErr result (λ refusal. IsOvertaken (actor_of u) refusal)
 
@@ -110,6 +113,7 @@ module _ {B : Type 0} where
     pub rest : actor_of u ≡ record (actor_of s) { known = (actor_of u).known }
     pub terms : AreTerms t
     pub legal : IsLegalHistory t (actor_of s).seen
+    pub moves : HasMoved Read s u
     pub taken : IfOk result (λ mark. mark ≡ mark_of b (actor_of s).seen)
     pub overtaken : IfErr result (λ refusal. IsOvertaken (actor_of u) refusal)
 

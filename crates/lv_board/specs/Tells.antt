@@ -51,3 +51,4 @@ module _ {B : Type 0} where
     pub stays : Stays s t
     pub look : t.look ≡ s.look
     pub actor : actor_of t ≡ actor_of s
+    pub moves : moves_of t ≡ moves_of s

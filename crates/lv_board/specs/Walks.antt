@@ -1,5 +1,5 @@
 -- What the loads of a reduction and of a refresh tell, and how a reduction goes on by them.
-use Rattle.std.specs.Prelude.{◌≡◌, ℕ, zero, suc, ◌+◌, ◌*◌, ◌<◌, ◌≤◌, List, ◌∷◌, length, Result, IfOk, IfErr, slice_range}
+use Rattle.std.specs.Prelude.{◌≡◌, ℕ, zero, suc, ◌+◌, ◌*◌, ◌<◌, ◌≤◌, List, ◌∷◌, length, Option, IfSome, Result, IfOk, IfErr, slice_range}
 use Rattle.lv_geometry.specs.declared.refusals.Refusal.{Refusal}
 use Rattle.lv_bodies.specs.Body.{fold_of, Operations}
 use Rattle.lv_edits.specs.Touch.{elements_under}
@@ -14,6 +14,7 @@ use Rattle.lv_board.specs.declared.underway.BoardWalk.{BoardWalk}
 use Rattle.lv_board.specs.declared.seats.Seat.{Seat}
 use Rattle.lv_board.specs.Tells.{IsQuiet, actor_of, IsOvertaken, Stays}
 use Rattle.lv_board.specs.Stands.{IsReady}
+use Rattle.lv_board.specs.Moved.{HasMovedBy, loads_of}
 
 -- the fold of a block's elements
 abbrev pub block_fold : {S : Type 0} → Operations S → ℕ → List Entry → S
@@ -37,6 +38,10 @@ pub record HasCome {S : Type 0} (o : Operations S) (k : List Entry) (lo at : ℕ
   pub here : walk.at ≡ at
   pub sums : Sums o k walk
 
+-- how many loads a walk stands for, by summaries of so many parts: one for each cell, and for each summary one of its mark and one of each part
+abbrev pub loads_in : {S : Type 0} → ℕ → BoardWalk S → ℕ
+loads_in parts walk = walk.cells + walk.summaries * suc parts
+
 -- a walk has gone on from another, no further than to an index
 pub record HasGoneOn {S : Type 0} (o : Operations S) (k : List Entry) (hi : ℕ) (walk next : BoardWalk S) : Type 0 where
   pub from : next.lo ≡ walk.lo
@@ -51,28 +56,48 @@ module _ {B : Type 0} where
     pub legal : IsLegalHistory t (actor_of s).seen
     pub ready : IsReady (actor_of s) s.look
 
-  -- a seat has loaded words, and sees what it saw before
-  pub record HasRead (s u : Seat B) : Type 0 where
+  -- a seat has made so many loads, and sees what it saw before
+  pub record HasRead (n : ℕ) (s u : Seat B) : Type 0 where
     pub stays : Stays s u
     pub look : u.look ≡ s.look
     pub quiet : IsQuiet (actor_of s) (actor_of u)
     pub rest : actor_of u ≡ record (actor_of s) { known = (actor_of u).known }
+    pub moves : HasMovedBy (loads_of n (actor_of s).number) s u
 
-  module _ {S : Type 0} (o : Operations S) where
-    -- a walk from an index comes to another, or a load found a later edit
-    pub record Comes (lo at : ℕ) (result : Result (BoardWalk S) Refusal) (s u : Seat B) : Type 0 where
-      pub read : HasRead s u
+  -- a seat has loaded parts of a block: all of them, where that gives them
+  pub record HasReadParts {P : Type 0} (parts : ℕ) (result : Option P) (s u : Seat B) : Type 0 where
+    pub loads : ℕ
+    pub read : HasRead loads s u
+    pub all : IfSome result (λ given. loads ≡ parts)
+
+  module _ {S : Type 0} (o : Operations S) (parts : ℕ) where
+    -- a walk from an index comes to another, or a load found a later edit. Before it there were so many loads
+    pub record Comes (before lo at : ℕ) (result : Result (BoardWalk S) Refusal) (s u : Seat B) : Type 0 where
+      pub loads : ℕ
+      pub read : HasRead loads s u
       pub come : IfOk result (λ walk. HasCome o (actor_of s).seen lo at walk)
-      pub overtaken : IfErr result (λ refusal. IsOvertaken (actor_of u) refusal)
+      pub counted : IfOk result (λ walk. loads_in parts walk ≤ before + loads)
+      pub overtaken : IfErr result (λ refusal. IsOvertaken (actor_of u) refusal × (1 ≤ loads))
+
+    -- a walk comes to an index by cells alone, one load each
+    pub record ComesByCells (walk : BoardWalk S) (at : ℕ) (result : Result (BoardWalk S) Refusal) (s u : Seat B) : Type 0 where
+      pub comes : Comes (loads_in parts walk) walk.lo at result s u
+      pub most : walk.at + comes.loads ≤ at
+      pub each : IfOk result (λ next. at ≤ walk.at + comes.loads)
 
     -- a walk goes on, or a load found a later edit
     pub record GoesOn (hi : ℕ) (walk : BoardWalk S) (result : Result (BoardWalk S) Refusal) (s u : Seat B) : Type 0 where
-      pub read : HasRead s u
+      pub loads : ℕ
+      pub read : HasRead loads s u
       pub gone : IfOk result (λ next. HasGoneOn o (actor_of s).seen hi walk next)
-      pub overtaken : IfErr result (λ refusal. IsOvertaken (actor_of u) refusal)
+      pub counted : IfOk result (λ next. loads_in parts next ≤ loads_in parts walk + loads)
+      pub overtaken : IfErr result (λ refusal. IsOvertaken (actor_of u) refusal × (1 ≤ loads))
 
     -- the fold of a block's elements was made, or a load found a later edit
     pub record SumsBlock (b : ℕ) (result : Result S Refusal) (s u : Seat B) : Type 0 where
-      pub read : HasRead s u
+      pub loads : ℕ
+      pub read : HasRead loads s u
+      pub few : loads ≤ 8
+      pub all : IfOk result (λ sum. 8 ≤ loads)
       pub sum : IfOk result (λ sum. sum ≡ block_fold o b (actor_of s).seen)
       pub overtaken : IfErr result (λ refusal. IsOvertaken (actor_of u) refusal)

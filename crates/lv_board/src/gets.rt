@@ -5,6 +5,7 @@ ghost use Rattle.lv_machine.specs.Words.{signed, value_of};
 ghost use Rattle.lv_machine.specs.History.{cell_of};
 ghost use Rattle.lv_board.specs.Calls.{GetAnswers, HasLooked};
 ghost use Rattle.lv_board.specs.Tells.{IsQuiet, actor_of, IsAt, Stays};
+ghost use Rattle.lv_board.specs.Moved.{GetMoves};
 ghost use Rattle.lv_board.specs.Rule.{terms_of};
 ghost use Rattle.lv_board.specs.Stands.{IsReady};
 ghost use Rattle.lv_board.specs.Steps.{IsCellTaken};
@@ -35,6 +36,7 @@ impl<B: BoardBody> Board<B> {
         ensures stays { Stays seat.old seat.new }
         ensures looked { HasLooked (terms_of B.folding self.now.terms) (actor_of seat.old) (actor_of seat.new) }
         ensures answer { GetAnswers i (actor_of seat.new) result }
+        ensures moves { GetMoves seat.old seat.new result }
     {
         self.load_descriptor(seat);
         let size = size_in(seat.look);
@@ -42,7 +44,10 @@ impl<B: BoardBody> Board<B> {
             return Err(Refusal::OutOfRange { size });
         }
         self.help(seat);
-        let value = self.load_cell(seat, i)?;
+        let value = match self.load_cell(seat, i) {
+            Err(refusal) => return Err(refusal),
+            Ok(value) => value,
+        };
         Ok(Read {
             edit: edit_in(seat.look),
             value,

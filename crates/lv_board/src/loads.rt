@@ -1,7 +1,8 @@
 //! Loads of a word by a seat, each one atomic step. They need no more of a board than its table.
-ghost use Rattle.std.specs.Prelude.{◌≡◌, ◌<◌};
+ghost use Rattle.std.specs.Prelude.{◌≡◌, ◌<◌, ◌≤◌, true, false};
 ghost use Rattle.lv_geometry.specs.Cells.{capacity_of};
 ghost use Rattle.lv_machine.specs.Layout.{count_of};
+ghost use Rattle.lv_machine.specs.Words.{edit_of};
 ghost use Rattle.lv_board.specs.Rule.{terms_of, limits_of};
 ghost use Rattle.lv_board.specs.Stands.{IsReady};
 ghost use Rattle.lv_board.specs.Tells.{actor_of};
@@ -45,6 +46,14 @@ pub(crate) fn load_word<B: BoardBody>(
     table.shared.load::<LoadWord<B>>(&mut seat.token, at)
 }
 
+// Whether a version is that of a later edit than a look.
+pub(crate) fn is_later(version: u64, look: u64) -> bool
+    ensures later { result ≡ true → edit_of look < version }
+    ensures other { result ≡ false → version ≤ edit_of look }
+{
+    version > u64::from(edit_in(look))
+}
+
 // The element in a cell, as the seat looked, or the later edit that wrote there since.
 pub(crate) fn load_cell<B: BoardBody>(
     table: &Table<(), View<B>, Basis<B>, Reached<B>, Global>,
@@ -60,7 +69,7 @@ pub(crate) fn load_cell<B: BoardBody>(
 {
     let cell = load_word(table, seat, cell_place_of(i));
     let version = version_in(cell);
-    if version > u64::from(edit_in(seat.look)) {
+    if is_later(version, seat.look) {
         return Err(Refusal::Overtaken {
             edit: version as u32,
         });

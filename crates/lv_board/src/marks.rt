@@ -14,8 +14,9 @@ ghost use Rattle.lv_board.specs.Steps.{HasMovedPart, IsInstalled, IsMarkTaken};
 use crate::board::Board;
 use crate::bodies::BoardBody;
 use crate::installs::install;
+use crate::loads::is_later;
 use crate::seats::Seat;
-use crate::words::{edit_in, mark_place_of};
+use crate::words::mark_place_of;
 use lv_geometry::Refusal;
 
 impl<B: BoardBody> Board<B> {
@@ -27,7 +28,7 @@ impl<B: BoardBody> Board<B> {
         ensures { IsMarkTaken (terms_of B.folding self.now.terms) b result seat.old seat.new }
     {
         let mark = self.load_word(seat, mark_place_of(b));
-        if mark > u64::from(edit_in(seat.look)) {
+        if is_later(mark, seat.look) {
             return Err(Refusal::Overtaken { edit: mark as u32 });
         }
         Ok(mark as u32)

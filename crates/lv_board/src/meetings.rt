@@ -5,7 +5,7 @@ ghost use Rattle.lv_machine.specs.History.{Ends};
 ghost use Rattle.lv_board.specs.Calls.{HasLooked};
 ghost use Rattle.lv_board.specs.Rule.{terms_of};
 ghost use Rattle.lv_board.specs.TableRule.{note};
-ghost use Rattle.lv_board.specs.Tells.{actor_of, HasMoved, IsAt, IsSame, moves_of, Stays};
+ghost use Rattle.lv_board.specs.Tells.{actor_of, HasMoved, IsAt, IsSame, Stays};
 
 use crate::actors::View;
 use crate::board::Board;
@@ -29,7 +29,6 @@ impl<B: BoardBody> Board<B> {
         ensures same { IsSame seat.old seat.new }
         ensures table { result.table_id ≡ self.now.table.shared.table_id }
         ensures note { result.me ≡ (note seat.old.token.me.0, []) }
-        ensures moves { moves_of seat.new ≡ moves_of seat.old }
     {
         self.table.shared.split_seat::<Note>(&mut seat.token)
     }

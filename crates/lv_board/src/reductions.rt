@@ -6,9 +6,10 @@ ghost use Rattle.lv_geometry.specs.Cells.{capacity_of};
 ghost use Rattle.lv_machine.specs.History.{edits_of, elements_of};
 ghost use Rattle.lv_machine.specs.Shows.{block, mark_of};
 ghost use Rattle.lv_board.specs.Calls.{HasLooked, ReduceAnswers};
+ghost use Rattle.lv_board.specs.Moved.{ReduceMoves};
 ghost use Rattle.lv_board.specs.Rule.{terms_of};
 ghost use Rattle.lv_board.specs.Tells.{actor_of, IsAt, IsSame, Stays};
-ghost use Rattle.lv_board.specs.Walks.{block_fold, Comes, GoesOn, HasCome, HasRead, MayRead, Sums};
+ghost use Rattle.lv_board.specs.Walks.{block_fold, Comes, ComesByCells, GoesOn, HasCome, HasRead, HasReadParts, MayRead, Sums, loads_in};
 
 use crate::board::Board;
 use crate::bodies::BoardBody;
@@ -28,7 +29,7 @@ impl<B: BoardBody> Board<B> {
         requires part { part < B.PARTS }
         requires whole { is_whole (edits_of (actor_of seat.old).seen) (block b) ≡ true }
         requires mark { mark ≡ mark_of b (actor_of seat.old).seen }
-        ensures read { HasRead seat.old seat.new }
+        ensures read { HasRead 1 seat.old seat.new }
         ensures value { IfSome result (λ v. v ≡ slice_index (B.parts_of (block_fold (B.operations self.now.terms.body) b (actor_of seat.old).seen)) part) }
     {
         let word = self.load_word(seat, part_place_of(b, part));
@@ -46,7 +47,7 @@ impl<B: BoardBody> Board<B> {
         requires within { 8 * b < capacity_of self.now.terms.buckets }
         requires whole { is_whole (edits_of (actor_of seat.old).seen) (block b) ≡ true }
         requires mark { mark ≡ mark_of b (actor_of seat.old).seen }
-        ensures read { HasRead seat.old seat.new }
+        ensures read { HasReadParts B.PARTS result seat.old seat.new }
         ensures parts { IfSome result (λ parts. parts ≡ B.parts_of (block_fold (B.operations self.now.terms.body) b (actor_of seat.old).seen)) }
     {
         let mut values = [0; 4];
@@ -86,7 +87,7 @@ impl<B: BoardBody> Board<B> {
         requires sums { Sums (B.operations self.now.terms.body) (actor_of seat.old).seen walk }
         requires order { walk.at ≤ end }
         requires inside { end ≤ length (elements_of (actor_of seat.old).seen) }
-        ensures { Comes (B.operations self.now.terms.body) walk.lo end result seat.old seat.new }
+        ensures { ComesByCells (B.operations self.now.terms.body) B.PARTS walk end result seat.old seat.new }
     {
         let mut walk = walk;
         while walk.at < end {
@@ -112,7 +113,8 @@ impl<B: BoardBody> Board<B> {
         requires begins { walk.at % 8 ≡ 0 }
         requires inside { walk.at + 8 ≤ length (elements_of (actor_of seat.now).seen) }
         requires parts { parts ≡ B.parts_of (block_fold (B.operations self.now.terms.body) (walk.at / 8) (actor_of seat.now).seen) }
-        ensures { HasCome (B.operations self.now.terms.body) (actor_of seat.now).seen walk.lo (walk.at + 8) result }
+        ensures come { HasCome (B.operations self.now.terms.body) (actor_of seat.now).seen walk.lo (walk.at + 8) result }
+        ensures counted { loads_in B.PARTS result ≡ loads_in B.PARTS walk + (1 + B.PARTS) }
     {
         BoardWalk {
             lo: walk.lo,
@@ -134,7 +136,7 @@ impl<B: BoardBody> Board<B> {
         requires sums { Sums (B.operations self.now.terms.body) (actor_of seat.old).seen walk }
         requires begins { walk.at % 8 ≡ 0 }
         requires inside { walk.at + 8 ≤ length (elements_of (actor_of seat.old).seen) }
-        ensures { Comes (B.operations self.now.terms.body) walk.lo (walk.at + 8) result seat.old seat.new }
+        ensures { Comes (B.operations self.now.terms.body) B.PARTS (loads_in B.PARTS walk) walk.lo (walk.at + 8) result seat.old seat.new }
     {
         let b = walk.at / 8;
         let mark = match self.load_mark(seat, b) {
@@ -159,7 +161,7 @@ impl<B: BoardBody> Board<B> {
         requires sums { Sums (B.operations self.now.terms.body) (actor_of seat.old).seen walk }
         requires order { walk.at < hi }
         requires inside { hi ≤ length (elements_of (actor_of seat.old).seen) }
-        ensures { GoesOn (B.operations self.now.terms.body) hi walk result seat.old seat.new }
+        ensures { GoesOn (B.operations self.now.terms.body) B.PARTS hi walk result seat.old seat.new }
     {
         if walk.at % 8 == 0 && hi - walk.at >= 8 {
             self.walk_block(seat, walk)
@@ -174,7 +176,7 @@ impl<B: BoardBody> Board<B> {
         requires may { MayRead (terms_of B.folding self.now.terms) seat.old }
         requires order { lo ≤ hi }
         requires inside { hi ≤ length (elements_of (actor_of seat.old).seen) }
-        ensures { Comes (B.operations self.now.terms.body) lo hi result seat.old seat.new }
+        ensures { Comes (B.operations self.now.terms.body) B.PARTS 0 lo hi result seat.old seat.new }
     {
         let mut walk = self.start_walk(lo);
         while walk.at < hi {
@@ -194,6 +196,7 @@ impl<B: BoardBody> Board<B> {
         ensures stays { Stays seat.old seat.new }
         ensures looked { lo ≤ hi → HasLooked (terms_of B.folding self.now.terms) (actor_of seat.old) (actor_of seat.new) }
         ensures answer { lo ≤ hi → ReduceAnswers (fold_of (B.operations self.now.terms.body)) lo hi (actor_of seat.new) result }
+        ensures moves { lo ≤ hi → ReduceMoves B.PARTS seat.old seat.new result }
         ensures backwards { hi < lo → (result ≡ Err Refusal.BadRange) × IsSame seat.old seat.new }
     {
         if hi < lo {

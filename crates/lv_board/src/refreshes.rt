@@ -5,6 +5,7 @@ ghost use Rattle.lv_geometry.specs.Cells.{capacity_of};
 ghost use Rattle.lv_machine.specs.History.{edits_of, elements_of};
 ghost use Rattle.lv_machine.specs.Shows.{block, mark_of};
 ghost use Rattle.lv_board.specs.Calls.{AreInstalled, HasLooked, RefreshAnswers};
+ghost use Rattle.lv_board.specs.Moved.{HasMovedBy, RefreshMoves, installs_of};
 ghost use Rattle.lv_board.specs.Rule.{terms_of};
 ghost use Rattle.lv_board.specs.Tells.{actor_of, IsAt, Stays};
 ghost use Rattle.lv_board.specs.Steps.{HasInstalled};
@@ -23,7 +24,7 @@ impl<B: BoardBody> Board<B> {
         requires here { IsAt self.now.table.shared.table_id self.now.terms seat.old }
         requires may { MayRead (terms_of B.folding self.now.terms) seat.old }
         requires inside { 8 * b + 8 ≤ length (elements_of (actor_of seat.old).seen) }
-        ensures { SumsBlock (B.operations self.now.terms.body) b result seat.old seat.new }
+        ensures { SumsBlock (B.operations self.now.terms.body) B.PARTS b result seat.old seat.new }
     {
         let first = 8 * b;
         let start = self.start_walk(first);
@@ -40,7 +41,8 @@ impl<B: BoardBody> Board<B> {
         requires whole { is_whole (edits_of (actor_of seat.old).seen) (block b) ≡ true }
         requires mark { mark ≡ mark_of b (actor_of seat.old).seen }
         requires parts { parts ≡ B.parts_of (block_fold (B.operations self.now.terms.body) b (actor_of seat.old).seen) }
-        ensures { HasInstalled (block_installed (terms_of B.folding self.now.terms) b (actor_of seat.old).seen B.PARTS (actor_of seat.old).installed) seat.old seat.new }
+        ensures installed { HasInstalled (block_installed (terms_of B.folding self.now.terms) b (actor_of seat.old).seen B.PARTS (actor_of seat.old).installed) seat.old seat.new }
+        ensures moves { HasMovedBy (installs_of (terms_of B.folding self.now.terms) (actor_of seat.old).number b (actor_of seat.old).seen B.PARTS) seat.old seat.new }
     {
         for part in 0..B::PARTS {
             self.install(seat, b, part, pack_part(mark, parts[part as usize]));
@@ -55,6 +57,7 @@ impl<B: BoardBody> Board<B> {
         ensures stays { Stays seat.old seat.new }
         ensures looked { HasLooked (terms_of B.folding self.now.terms) (actor_of seat.old) (actor_of seat.new) }
         ensures answer { RefreshAnswers block (actor_of seat.new) result }
+        ensures moves { RefreshMoves (terms_of B.folding self.now.terms) block seat.old seat.new result }
         ensures installed { IfOk result (λ refreshed. AreInstalled (terms_of B.folding self.now.terms) block (actor_of seat.new)) }
     {
         self.load_descriptor(seat);

@@ -1,7 +1,8 @@
 //! Tries to make an edit: each makes one exchange at most.
-ghost use Rattle.std.specs.Prelude.{◌≡◌, ◌<◌, ◌≤◌, ◌-◌, ℕ, length, None, Err, IfOk, IfErr};
+ghost use Rattle.std.specs.Prelude.{◌≡◌, ◌∷◌, ◌<◌, ◌≤◌, ◌-◌, ℕ, length, None, Err, IfOk, IfErr};
 ghost use Rattle.lv_geometry.specs.declared.refusals.Refusal.{Refusal};
 ghost use Rattle.lv_bodies.specs.Parts.{IsShort};
+ghost use Rattle.lv_machine.specs.declared.moves.Move.{Move};
 ghost use Rattle.lv_machine.specs.History.{elements_of, IsShortEdit};
 ghost use Rattle.lv_machine.specs.Moves.{verdict_at};
 ghost use Rattle.lv_machine.specs.Ready.{IsIndexShort};
@@ -10,7 +11,8 @@ ghost use Rattle.lv_board.specs.Steps.{TakeAnswers, entry_of};
 ghost use Rattle.lv_board.specs.Plays.{IsAccepted, IsContended};
 ghost use Rattle.lv_board.specs.Rule.{terms_of, limits_of};
 ghost use Rattle.lv_board.specs.Stands.{IsReady};
-ghost use Rattle.lv_board.specs.Tells.{actor_of, IsAt, IsSame, Stays};
+ghost use Rattle.lv_board.specs.Moved.{HasMovedBy, IsTry, edit_moves, exchanging, help_of, refusal_in};
+ghost use Rattle.lv_board.specs.Tells.{actor_of, HasMoved, IsAt, IsSame, Stays};
 
 use crate::board::Board;
 use crate::bodies::BoardBody;
@@ -34,6 +36,7 @@ impl<B: BoardBody> Board<B> {
         ensures accepted { IfOk result (λ n. IsAccepted (terms_of B.folding seat.old.terms) (actor_of seat.old) (actor_of seat.new) (entry_of seat.old edit)) }
         ensures refusal { IfErr result (λ e. e ≡ Refusal.Contended (length (actor_of seat.new).seen)) }
         ensures contended { IfErr result (λ e. IsContended (terms_of B.folding seat.old.terms) (actor_of seat.old) (actor_of seat.new) seat.new.look) }
+        ensures moves { HasMoved (λ a. Move.Exchange a edit) seat.old seat.new }
     {
         let new = look_after(seat.look, edit);
         if exchange(&self.table, seat, edit, new) {
@@ -51,6 +54,7 @@ impl<B: BoardBody> Board<B> {
         requires short { IsShort x }
         ensures stays { Stays seat.old seat.new }
         ensures answer { LookedAnswers (terms_of B.folding self.now.terms) (actor_of seat.old) (actor_of seat.new) (Edit.Push x) result }
+        ensures moves { HasMovedBy (edit_moves (terms_of B.folding self.now.terms) (actor_of seat.old) (Edit.Push x) result) seat.old seat.new }
     {
         let edit = Edit::Push(x);
         if let Some(refusal) = verdict(&self.terms, seat.look, edit) {
@@ -70,6 +74,7 @@ impl<B: BoardBody> Board<B> {
         requires { IsAt self.now.table.shared.table_id self.now.terms seat.old }
         ensures stays { Stays seat.old seat.new }
         ensures short { IsShort x → LookedAnswers (terms_of B.folding self.now.terms) (actor_of seat.old) (actor_of seat.new) (Edit.Push x) result }
+        ensures moves { IsShort x → HasMovedBy (edit_moves (terms_of B.folding self.now.terms) (actor_of seat.old) (Edit.Push x) result) seat.old seat.new }
         ensures wide { ¬ IsShort x → (result ≡ Err Refusal.TooWide) × IsSame seat.old seat.new }
     {
         if !fits_short(x) {
@@ -84,6 +89,7 @@ impl<B: BoardBody> Board<B> {
         requires { IsAt self.now.table.shared.table_id self.now.terms seat.old }
         ensures stays { Stays seat.old seat.new }
         ensures short { IsShort x → TryAnswers (terms_of B.folding self.now.terms) (actor_of seat.old) (actor_of seat.new) (Edit.Push x) result }
+        ensures moves { IsShort x → IsTry (terms_of B.folding self.now.terms) (Edit.Push x) result seat.old seat.new }
         ensures wide { ¬ IsShort x → (result ≡ Err Refusal.TooWide) × IsSame seat.old seat.new }
     {
         if !fits_short(x) {
@@ -102,6 +108,7 @@ impl<B: BoardBody> Board<B> {
         requires within { i < length (elements_of (actor_of seat.old).seen) }
         ensures stays { Stays seat.old seat.new }
         ensures answer { TakeAnswers (terms_of B.folding self.now.terms) (actor_of seat.old) (actor_of seat.new) edit i result }
+        ensures moves { HasMovedBy (exchanging (actor_of seat.old).number edit (Move.Read (actor_of seat.old).number ∷ help_of (actor_of seat.old).number (actor_of seat.old).seen) (refusal_in result)) seat.old seat.new }
     {
         self.help(seat);
         let value = match self.load_cell(seat, i) {
@@ -121,6 +128,7 @@ impl<B: BoardBody> Board<B> {
         requires { IsAt self.now.table.shared.table_id self.now.terms seat.old }
         ensures stays { Stays seat.old seat.new }
         ensures answer { LookedAnswers (terms_of B.folding self.now.terms) (actor_of seat.old) (actor_of seat.new) Edit.Pop result }
+        ensures moves { HasMovedBy (edit_moves (terms_of B.folding self.now.terms) (actor_of seat.old) Edit.Pop result) seat.old seat.new }
     {
         if let Some(refusal) = verdict(&self.terms, seat.look, Edit::Pop) {
             return Err(refusal);
@@ -138,6 +146,7 @@ impl<B: BoardBody> Board<B> {
         requires { IsAt self.now.table.shared.table_id self.now.terms seat.old }
         ensures stays { Stays seat.old seat.new }
         ensures answer { TryAnswers (terms_of B.folding self.now.terms) (actor_of seat.old) (actor_of seat.new) Edit.Pop result }
+        ensures moves { IsTry (terms_of B.folding self.now.terms) Edit.Pop result seat.old seat.new }
     {
         self.look(seat);
         self.pop_looked(seat)
@@ -149,6 +158,7 @@ impl<B: BoardBody> Board<B> {
         requires short { IsShort value }
         ensures stays { Stays seat.old seat.new }
         ensures answer { LookedAnswers (terms_of B.folding self.now.terms) (actor_of seat.old) (actor_of seat.new) (Edit.Write index value) result }
+        ensures moves { HasMovedBy (edit_moves (terms_of B.folding self.now.terms) (actor_of seat.old) (Edit.Write index value) result) seat.old seat.new }
     {
         let edit = Edit::Write { index, value };
         if let Some(refusal) = verdict(&self.terms, seat.look, edit) {
@@ -172,6 +182,7 @@ impl<B: BoardBody> Board<B> {
         requires { IsAt self.now.table.shared.table_id self.now.terms seat.old }
         ensures stays { Stays seat.old seat.new }
         ensures short { IsShort value → LookedAnswers (terms_of B.folding self.now.terms) (actor_of seat.old) (actor_of seat.new) (Edit.Write index value) result }
+        ensures moves { IsShort value → HasMovedBy (edit_moves (terms_of B.folding self.now.terms) (actor_of seat.old) (Edit.Write index value) result) seat.old seat.new }
         ensures wide { ¬ IsShort value → (result ≡ Err Refusal.TooWide) × IsSame seat.old seat.new }
     {
         if !fits_short(value) {
@@ -186,6 +197,7 @@ impl<B: BoardBody> Board<B> {
         requires { IsAt self.now.table.shared.table_id self.now.terms seat.old }
         ensures stays { Stays seat.old seat.new }
         ensures short { IsShort value → TryAnswers (terms_of B.folding self.now.terms) (actor_of seat.old) (actor_of seat.new) (Edit.Write index value) result }
+        ensures moves { IsShort value → IsTry (terms_of B.folding self.now.terms) (Edit.Write index value) result seat.old seat.new }
         ensures wide { ¬ IsShort value → (result ≡ Err Refusal.TooWide) × IsSame seat.old seat.new }
     {
         if !fits_short(value) {

@@ -10,6 +10,6 @@ abbrev pub invariant-loop-part : goal.invariant-loop-part
 invariant-loop-part g l = record {
   here : IsAt l.self.table.shared.table_id l.self.terms l.seat;
   may : MayRead (terms_of g.B.BoardBody.folding l.self.terms) l.seat;
-  read : HasRead l.fn.seat l.seat;
+  read : HasRead l.part l.fn.seat l.seat;
   taken : AreTaken g.B.Parted.parts_of (block_fold (g.B.Body.operations l.self.terms.body) l.b (actor_of l.fn.seat).seen) l.part l.values;
 }

@@ -18,4 +18,4 @@ returns-clause-told g c =
     subst (λ h. Ends h c.hear.new.seat.token.me.0.actor.seen) (known ∙ sym all ∙ ap (λ a. a.seen) (sym c.tell-note.ensures.same.actor)) c.hear.ensures.told
 
 pub returns-clause-first_moves : goal.returns-clause-first_moves
-returns-clause-first_moves g c = c.tell-note.ensures.moves ∙ c.load_descriptor.ensures.moves
+returns-clause-first_moves g c = c.tell-note.ensures.same.moves ∙ c.load_descriptor.ensures.moves

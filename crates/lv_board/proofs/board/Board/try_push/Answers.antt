@@ -4,8 +4,10 @@ use Rattle.std.specs.Int.{w64}
 use Rattle.std.proofs.lemmas.Int.{to_z-of_z}
 use Rattle.lv_edits.specs.declared.edit.Edit.TheVariants.{Push}
 use Rattle.lv_board.specs.Calls.{LookedAnswers}
+use Rattle.lv_board.specs.Moved.{edit_moves, HasMovedBy}
 use Rattle.lv_board.specs.Rule.{terms_of}
 use Rattle.lv_board.proofs.Calling.{try_of_looked}
+use Rattle.lv_board.proofs.Moving.{is_try}
 use Rattle.lv_board.proofs.Shorts.{fits, too_wide}
 use Rattle.lv_board.proofs.board.Board.try_push.Goals as goal
 
@@ -19,7 +21,7 @@ pub returns-then-not-fits_short-clause-short : goal.returns-then-not-fits_short-
 returns-then-not-fits_short-clause-short g c = λ short. absurd (too_wide c.args.x _ c.fits_short.result (to_z-of_z w64 c.args.x c.ranges.x) c.fits_short.ensures c.if-not-fits_short.true short)
 
 pub returns-then-not-fits_short-clause-wide : goal.returns-then-not-fits_short-clause-wide
-returns-then-not-fits_short-clause-wide g c = λ _. (refl, record { stays = record { table = refl; terms = refl }; look = refl; actor = refl })
+returns-then-not-fits_short-clause-wide g c = λ _. (refl, record { stays = record { table = refl; terms = refl }; look = refl; actor = refl; moves = refl })
 
 pub push_short-requires-clause-here : goal.push_short-requires-clause-here
 push_short-requires-clause-here g c = λ _ _. record { at = c.look.ensures.stays.table ∙ c.requires.at; terms = c.look.ensures.stays.terms ∙ c.requires.terms }
@@ -29,3 +31,14 @@ push_short-requires-clause-short g c = λ _ _. fits _ _ c.fits_short.result refl
 
 pub returns-clause-wide : goal.returns-clause-wide
 returns-clause-wide g c = λ wide. absurd (wide (fits c.args.x _ c.fits_short.result (to_z-of_z w64 c.args.x c.ranges.x) c.fits_short.ensures c.if-not-fits_short.false))
+
+pub returns-clause-moves : goal.returns-clause-moves
+returns-clause-moves g c = λ _.
+    let same = to_z-of_z w64 c.args.x c.ranges.x in
+    is_try (terms_of g.B.BoardBody.folding c.args.self.now.terms) (Push c.args.x) c.push_short.result c.args.seat.now c.look.new.seat c.push_short.new.seat c.look.ensures.looked
+    (subst (λ y. LookedAnswers (terms_of g.B.BoardBody.folding c.args.self.now.terms) c.look.new.seat.token.me.0.actor c.push_short.new.seat.token.me.0.actor (Push y) c.push_short.result) same c.push_short.ensures.answer)
+    c.look.ensures.moves
+    (subst (λ y. HasMovedBy (edit_moves (terms_of g.B.BoardBody.folding c.args.self.now.terms) c.look.new.seat.token.me.0.actor (Push y) c.push_short.result) c.look.new.seat c.push_short.new.seat) same c.push_short.ensures.moves)
+
+pub returns-then-not-fits_short-clause-moves : goal.returns-then-not-fits_short-clause-moves
+returns-then-not-fits_short-clause-moves g c = λ short. absurd (too_wide c.args.x _ c.fits_short.result (to_z-of_z w64 c.args.x c.ranges.x) c.fits_short.ensures c.if-not-fits_short.true short)

@@ -1,8 +1,8 @@
 -- What the loop keeps in `Board::walk_range`: goes through a range of the elements.
-use Rattle.std.specs.Prelude.{◌≡◌, ◌-◌, ◌≤◌}
+use Rattle.std.specs.Prelude.{◌≡◌, ℕ, ◌-◌, ◌≤◌}
 use Rattle.lv_board.specs.Rule.{terms_of}
 use Rattle.lv_board.specs.Tells.{actor_of, IsAt}
-use Rattle.lv_board.specs.Walks.{HasRead, MayRead, Sums}
+use Rattle.lv_board.specs.Walks.{HasRead, loads_in, MayRead, Sums}
 use Rattle.lv_board.proofs.board.Board.walk_range.Given as goal
 
 -- the walk has come so far, and the seat sees what it saw
@@ -10,7 +10,9 @@ abbrev pub invariant-loop-walk : goal.invariant-loop-walk
 invariant-loop-walk g l = record {
   here : IsAt l.self.table.shared.table_id l.self.terms l.seat;
   may : MayRead (terms_of g.B.BoardBody.folding l.self.terms) l.seat;
-  read : HasRead l.fn.seat l.seat;
+  loads : ℕ;
+  read : HasRead loads l.fn.seat l.seat;
+  counted : loads_in g.B.Parted.PARTS l.walk ≤ loads;
   from : l.walk.lo ≡ l.lo;
   most : l.walk.at ≤ l.hi;
   sums : Sums (g.B.Body.operations l.self.terms.body) (actor_of l.fn.seat).seen l.walk;

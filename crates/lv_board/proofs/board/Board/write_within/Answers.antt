@@ -18,7 +18,7 @@ pub returns-then-not-fits_short-clause-short : goal.returns-then-not-fits_short-
 returns-then-not-fits_short-clause-short g c = λ short. absurd (too_wide c.args.value _ c.fits_short.result (to_z-of_z w64 c.args.value c.ranges.value) c.fits_short.ensures c.if-not-fits_short.true short)
 
 pub returns-then-not-fits_short-clause-wide : goal.returns-then-not-fits_short-clause-wide
-returns-then-not-fits_short-clause-wide g c = λ _. (refl, record { stays = record { table = refl; terms = refl }; look = refl; actor = refl })
+returns-then-not-fits_short-clause-wide g c = λ _. (refl, record { stays = record { table = refl; terms = refl }; look = refl; actor = refl; moves = refl })
 
 pub edit_within-requires-clause-here : goal.edit_within-requires-clause-here
 edit_within-requires-clause-here g c = λ _ _. c.requires.here
