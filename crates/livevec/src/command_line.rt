@@ -3,15 +3,15 @@
 ghost use Rattle.std.specs.Prelude.{◌≡◌};
 ghost use Rattle.lv_geometry.specs.Bounds.{AreAllowed};
 
-use crate::clashes::Clash;
+use crate::failure_text::FailureText;
 use crate::help;
 use crate::modes::{AUDIT, Argument, BOARD, KINDS, Mode, Number, RESTORE, RUN, SCHEDULE, SERVE};
-use crate::serving::Plan;
 use clap::builder::ValueParser;
 use clap::error::ErrorKind;
 use clap::{Arg, ArgAction, ArgMatches, Command, Error};
 use lv_bodies::Kind;
 use lv_geometry::Limits;
+use lv_server::{Names, Plan};
 use std::alloc::{AllocError, Global};
 
 /// The command line of the program.
@@ -126,6 +126,18 @@ pub fn plan(matches: &ArgMatches<'_>) -> Plan {
     }
 }
 
+/// What the files of a command are, by its options: those of sessions, those of subscribers behind them, and that of the transcript last.
+pub fn names<'a>(matches: &ArgMatches<'_>, all: &'a [&'a str]) -> Names<'a> {
+    let sessions = matches.get_strs("files").unwrap_or(&[]).len();
+    let watches = matches.get_strs("watch").unwrap_or(&[]).len();
+    Names {
+        all,
+        sessions,
+        clients: sessions.saturating_add(watches),
+        syncs: matches.get_flag("sync"),
+    }
+}
+
 /// Whether nothing is told where what reads standard output has ended, by the options of the command that is asked for.
 pub fn is_quiet(matches: &ArgMatches<'_>) -> bool {
     match matches.subcommand() {
@@ -151,41 +163,26 @@ pub fn kind(matches: &ArgMatches<'_>) -> Kind {
     }
 }
 
-/// That files can't be those of `serve` together.
-pub fn serve_error(alloc: Global, clash: Clash<'_>) -> Result<Error, AllocError> {
-    error_of(alloc, &SERVE, "livevec serve", clash)
-}
-
-/// That a file can't be that of `restore`.
-pub fn restore_error(alloc: Global, clash: Clash<'_>) -> Result<Error, AllocError> {
-    error_of(alloc, &RESTORE, "livevec restore", clash)
-}
-
-/// That files can't be sessions of `board` together.
-pub fn board_error(alloc: Global, clash: Clash<'_>) -> Result<Error, AllocError> {
-    error_of(alloc, &BOARD, "livevec board", clash)
-}
-
-// That files can't be sessions of a command together, told under the command's whole name.
-fn error_of(alloc: Global, mode: &Mode, name: &str, clash: Clash<'_>) -> Result<Error, AllocError> {
-    let mut command = named(alloc, mode, name)?;
-    let error = clash_error(alloc, &mut command, clash);
+/// That the files of a command can't be served together, told under the command's whole name.
+pub fn clash_error(alloc: Global, mode: &Mode, text: FailureText<'_>) -> Result<Error, AllocError> {
+    let mut command = named(alloc, mode)?;
+    let error = error_of(alloc, &mut command, text);
     drop(command);
     error
 }
 
 // A command with its whole name.
-fn named<'a>(alloc: Global, mode: &Mode, name: &str) -> Result<Command<'a>, AllocError> {
-    command_of(alloc, mode)?.bin_name(name)
+fn named<'a>(alloc: Global, mode: &Mode) -> Result<Command<'a>, AllocError> {
+    command_of(alloc, mode)?.bin_name(mode.whole_name)
 }
 
 // The same, of a command that is lent: the proof of a body that owns one is long.
-fn clash_error(
+fn error_of(
     alloc: Global,
     command: &mut Command<'_>,
-    clash: Clash<'_>,
+    text: FailureText<'_>,
 ) -> Result<Error, AllocError> {
-    let text = clash.to_string(alloc)?;
+    let text = text.to_string(alloc)?;
     command.error(ErrorKind::ValueValidation, text.as_str())
 }
 

@@ -2,49 +2,23 @@
 //! nothing else.
 #![tactic(auto)]
 
-mod asking;
-mod beginning;
-mod beside;
-mod boards;
-mod clashes;
-mod closing;
 mod command_line;
-mod emptying;
 mod escaped;
-mod failures;
-mod files;
+mod failure_text;
 mod help;
-mod holding;
-mod identities;
-mod minuted;
+mod misuse;
 mod modes;
-mod parties;
-mod piped;
-mod restoring;
-mod serve_files;
-mod serving;
-mod tasks;
-mod telling;
-mod transcript_files;
-mod usage;
-mod waited;
+mod status;
 
-use crate::failures::Failure;
-use crate::files::{Unopened, open_all};
-use crate::parties::Parties;
-use crate::piped::{Piped, null_files};
-use crate::serve_files::serve;
-use crate::telling::{
-    CUT, show, show_clash, show_misuse, status_of, status_of_front, status_told, tell,
-};
-use crate::usage::{Misuse, NAME_BYTES, misuse_in, unreadable_in, unshown_in};
-use crate::waited::Waited;
+use crate::misuse::{Misuse, NAME_BYTES, misuse_in, unreadable_in, unshown_in};
+use crate::modes::{BOARD, RESTORE, SERVE};
+use crate::status::{CUT, show, show_misuse, status_of, status_of_front, status_told, tell};
 use clap::{ArgMatches, Error};
 use lv_bodies::Sum;
 use lv_machine::Machine;
-use lv_script::{Fault, audit, audit_front, run_schedule, run_script_within};
-use lv_series_script::run_series_script;
-use std::alloc::Global;
+use lv_script::{Fault, audit, audit_front, run_schedule, run_script_within, run_series_script};
+use lv_server::{Failure, Names, Piped, Waited, hold_files, null_files, restore_file, serve_files};
+use std::alloc::{AllocError, Global};
 use std::fs::Files;
 use std::io::{Read, Write};
 use std::process::ExitCode;
@@ -206,20 +180,44 @@ fn schedule<R: Read, W: Write>(
     ended
 }
 
+// Serves the sessions and the subscribers that a command line names.
+fn serve<R: AllocGlobal + Clock + Eprint + Files + Print + Sync + Threads + Wait, W: Write>(
+    rt: &R,
+    asked: &ArgMatches<'_>,
+    writer: &mut Piped<W>,
+) -> Result<u8, Fault>
+where
+    R::File: Send,
+{
+    let alloc = rt.alloc();
+    let Ok(all) = files_of(alloc, asked) else {
+        return Err(Fault::NoMemory);
+    };
+    let names = command_line::names(asked, all.as_slice());
+    let ended = serve_files(rt, alloc, command_line::plan(asked), names, writer);
+    status_told(rt, &SERVE, all.as_slice(), writer.ends_quietly(), ended)
+}
+
+// The files of sessions, those of subscribers, and that of the transcript.
+fn files_of<'a>(alloc: Global, asked: &ArgMatches<'a>) -> Result<Vec<&'a str>, AllocError> {
+    let mut names = Vec::new(alloc);
+    names.extend_from_slice(asked.get_strs("files").unwrap_or(&[]))?;
+    names.extend_from_slice(asked.get_strs("watch").unwrap_or(&[]))?;
+    if let Some(name) = asked.get_str("transcript") {
+        names.push(name)?;
+    }
+    Ok(names)
+}
+
 // Restores a vector from the file that a command line names, and answers a script.
 fn restore<R: AllocGlobal + Clock + Eprint + Files + Input + Print, W: Write>(
     rt: &R,
     asked: &ArgMatches<'_>,
     writer: &mut Piped<W>,
 ) -> Result<u8, Fault> {
-    let alloc = rt.alloc();
     let file = asked.get_str("front").unwrap_or("");
-    match restoring::restore(rt, alloc, file, &mut lines_of(rt), writer) {
-        Err(Unopened::Clashes(clash)) => {
-            show_clash(rt, command_line::restore_error(alloc, clash))
-        }
-        ended => Ok(status_told(rt, &[file], writer.ends_quietly(), ended)),
-    }
+    let ended = restore_file(rt, rt.alloc(), file, &mut lines_of(rt), writer);
+    status_told(rt, &RESTORE, &[file], writer.ends_quietly(), ended)
 }
 
 // Holds the sessions that a command line names at a board.
@@ -230,28 +228,15 @@ fn board<R: AllocGlobal + Clock + Eprint + Files + Print + Sync + Threads>(
 where
     R::File: Send,
 {
-    let alloc = rt.alloc();
-    let files = asked.get_strs("files").unwrap_or(&[]);
-    match hold_files(rt, alloc, asked, files) {
-        Err(Unopened::Clashes(clash)) => { show_clash(rt, command_line::board_error(alloc, clash)) }
-        ended => Ok(status_told(rt, files, false, ended)),
-    }
-}
-
-// Opens the files of sessions and holds them at a board.
-fn hold_files<'a, R: Files + Sync + Threads>(
-    rt: &R,
-    alloc: Global,
-    asked: &ArgMatches<'_>,
-    files: &[&'a str],
-) -> Result<(), Unopened<'a>>
-where
-    R::File: Send,
-{
-    let (Parties { streams, .. }, _) = open_all(rt, alloc, files, files.len(), None)?;
+    let all = asked.get_strs("files").unwrap_or(&[]);
     let limits = command_line::limits(asked);
-    match boards::hold_sessions(rt, alloc, limits, command_line::kind(asked), streams) {
-        Ok(()) => Ok(()),
-        Err(failure) => Err(Unopened::Failed(failure)),
-    }
+    let kind = command_line::kind(asked);
+    let ended = hold_files(
+        rt,
+        rt.alloc(),
+        limits,
+        kind,
+        command_line::names(asked, all),
+    );
+    status_told(rt, &BOARD, all, false, ended)
 }

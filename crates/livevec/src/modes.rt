@@ -106,10 +106,11 @@ pub enum Argument {
     Front,
 }
 
-/// A command: its name, what it says, what stands at the end of its help, and what it takes, in order.
+/// A command: its name, that with the program's, what it says, what stands at the end of its help, and what it takes, in order.
 #[derive(Clone, Copy)]
 pub struct Mode {
     pub name: &'static str,
+    pub whole_name: &'static str,
     pub about: &'static str,
     pub after_help: &'static str,
     pub arguments: &'static [Argument],
@@ -118,6 +119,7 @@ pub struct Mode {
 /// `run`.
 pub const RUN: Mode = Mode {
     name: "run",
+    whole_name: "livevec run",
     about: help::RUN,
     after_help: help::LINES,
     arguments: &[
@@ -136,6 +138,7 @@ pub const RUN: Mode = Mode {
 /// `serve`.
 pub const SERVE: Mode = Mode {
     name: "serve",
+    whole_name: "livevec serve",
     about: help::SERVE,
     after_help: help::SESSIONS,
     arguments: &[
@@ -161,6 +164,7 @@ pub const SERVE: Mode = Mode {
 /// `restore`.
 pub const RESTORE: Mode = Mode {
     name: "restore",
+    whole_name: "livevec restore",
     about: help::RESTORE,
     after_help: help::RESTORED,
     arguments: &[QUIET_PIPE, Argument::Front],
@@ -169,6 +173,7 @@ pub const RESTORE: Mode = Mode {
 /// `board`.
 pub const BOARD: Mode = Mode {
     name: "board",
+    whole_name: "livevec board",
     about: help::BOARD,
     after_help: help::TRIES,
     arguments: &[
@@ -182,6 +187,7 @@ pub const BOARD: Mode = Mode {
 /// `schedule`.
 pub const SCHEDULE: Mode = Mode {
     name: "schedule",
+    whole_name: "livevec schedule",
     about: help::SCHEDULE,
     after_help: help::EVENTS,
     arguments: &[
@@ -195,6 +201,7 @@ pub const SCHEDULE: Mode = Mode {
 /// `audit`.
 pub const AUDIT: Mode = Mode {
     name: "audit",
+    whole_name: "livevec audit",
     about: help::AUDIT,
     after_help: help::VERDICTS,
     arguments: &[

@@ -1,7 +1,0 @@
--- Proof of `hold_in_place`: holds them so where they stand.
-use Rattle.livevec.proofs.ServedLaws.{are_held_again}
-use Rattle.livevec.proofs.holding.hold_in_place.Goals as goal
-
--- each that waited still was held behind the others
-pub returns : goal.returns
-returns g c = are_held_again g.N.Naming.limits _ _ _ c.hold_at_once.ensures c.hold_waiting.ensures

@@ -1,6 +1,0 @@
--- Names the files of definitions of `livevec`.
-pub mod PlainServed
-pub mod Served
-pub mod Starting
-pub mod Tasks
-pub mod Writing

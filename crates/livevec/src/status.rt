@@ -1,0 +1,103 @@
+//! By which status the program ends, and what it tells then.
+
+ghost use Rattle.std.specs.Prelude.{◌≡◌, ◌≢◌};
+
+use crate::command_line::clash_error;
+use crate::failure_text::FailureText;
+use crate::misuse::Misuse;
+use crate::modes::Mode;
+use clap::Error;
+use clap::error::ErrorKind;
+use lv_script::{Fault, FrontVerdict, Verdict};
+use lv_server::{Failure, FaultPlace, Waited};
+use std::io;
+use std::io::Write;
+use std::time::Clock;
+
+/// The status with --quiet-pipe where what reads standard output has ended.
+pub const CUT: u8 = 3;
+
+/// Tells of a failure on standard error, and gives the status that it ends with.
+pub fn tell<R: Eprint>(rt: &R, failure: Failure, files: &[&str]) -> u8
+    ensures { result ≡ 1 }
+{
+    let told = FailureText { failure, files };
+    let _ = eprintln!(rt; "livevec: {}", failure.fault);
+    let _ = eprintln!(rt; "{told}");
+    1
+}
+
+/// Tells of how a command ended that was given these files, and gives the status. Nothing is told where what reads standard output has ended and
+/// nothing is to be told of that. Files that clash are a wrong use of the command.
+pub fn status_told<R: AllocGlobal + Clock + Eprint + Print>(
+    rt: &R,
+    mode: &Mode,
+    files: &[&str],
+    is_quiet: bool,
+    ended: Result<(), Failure>,
+) -> Result<u8, Fault> {
+    let Err(failure) = ended else {
+        return Ok(0);
+    };
+    if let FaultPlace::Clashing(..) = failure.place {
+        return show_clash(rt, mode, FailureText { failure, files });
+    }
+    if is_quiet {
+        return Ok(CUT);
+    }
+    Ok(tell(rt, failure, files))
+}
+
+// Shows that files can't be served together.
+fn show_clash<R: AllocGlobal + Clock + Eprint + Print>(
+    rt: &R,
+    mode: &Mode,
+    text: FailureText<'_>,
+) -> Result<u8, Fault> {
+    let Ok(error) = clash_error(rt.alloc(), mode, text) else {
+        return Err(Fault::NoMemory);
+    };
+    show(rt, &error)
+}
+
+/// Shows help on standard output, or what is wrong with the command line on standard error.
+pub fn show<R: Clock + Eprint + Print>(rt: &R, error: &Error) -> Result<u8, Fault> {
+    if error.kind() == ErrorKind::OutOfMemory {
+        return Err(Fault::NoMemory);
+    }
+    if error.use_stderr() {
+        let _ = error.print(rt);
+        return Ok(2);
+    }
+    match write!(Waited::new(rt, io::writer(rt)), "{error}") {
+        Ok(()) => Ok(0),
+        Err(_) => Err(Fault::WriteFault),
+    }
+}
+
+/// Tells on standard error why a word of the command line is refused, and gives the status that it ends with.
+pub fn show_misuse<R: Eprint>(rt: &R, misuse: Misuse<'_>) -> u8
+    ensures { result ≡ 2 }
+{
+    let _ = eprintln!(rt; "{misuse}");
+    2
+}
+
+/// The status that tells of a verdict.
+pub fn status_of(verdict: Verdict) -> u8
+    ensures sound { verdict ≡ Verdict.Yes → result ≡ 0 }
+    ensures unsound { verdict ≢ Verdict.Yes → result ≡ 1 }
+{
+    match verdict {
+        Verdict::Yes => 0,
+        Verdict::No(_) | Verdict::Bad(_) => 1,
+    }
+}
+
+/// The status that tells of the verdict on a front.
+pub fn status_of_front(verdict: FrontVerdict) -> u8 {
+    match verdict {
+        FrontVerdict::Front { .. } => 0,
+        FrontVerdict::No(_) | FrontVerdict::Bad(_) => 1,
+    }
+}

@@ -1,0 +1,7 @@
+-- Names the files of lemmas of `lv_server`.
+mod BesideLaws
+mod PlainServedLaws
+mod RecordingLaws
+mod Seats
+mod ServedLaws
+mod WaitedStreams

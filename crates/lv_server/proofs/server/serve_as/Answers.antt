@@ -1,0 +1,28 @@
+-- Proof of `serve_as`: serves them on a hub of this name.
+use Rattle.std.proofs.Common.{◌∙◌}
+use Rattle.lv_watchers.proofs.WatchedLaws.{served_watched}
+use Rattle.lv_server.proofs.RecordingLaws.{passes_all, passes_ill, passes_well}
+use Rattle.lv_server.proofs.ServedLaws.{failed_so, served_so}
+use Rattle.lv_server.proofs.server.serve_as.Goals as goal
+
+pub returns-in-Ok-clause-served : goal.returns-in-Ok-clause-served
+returns-in-Ok-clause-served g c =
+    rw c.requires.limits (passes_well _ _ _ c.write_closed-file.result.1 c.all_or_failure.result c.all_or_failure.ensures (λ done. served_so g.N.Naming.limits _ _ _ _ c.in-Ok.ensures.held done _ _) c.write_closed-file.ensures.written)
+
+pub returns-in-Ok-clause-failed : goal.returns-in-Ok-clause-failed
+returns-in-Ok-clause-failed g c =
+    rw c.requires.limits (passes_ill _ _ _ c.write_closed-file.result.1 c.all_or_failure.result c.all_or_failure.ensures (λ failure. failed_so g.N.Naming.limits _ _ _ _ c.in-Ok.ensures.held failure.fault _ _) c.write_closed-file.ensures.failed)
+
+-- the file is given back with what was written to it
+pub returns-in-Ok-clause-back : goal.returns-in-Ok-clause-back
+returns-in-Ok-clause-back g c =
+    passes_all _ _ c.write_closed-file.result.1 c.all_or_failure.result c.all_or_failure.ensures (c.write_closed-file.ensures.back ∙ c.in-Ok.ensures.minuted)
+
+pub returns-in-Ok-clause-recorded : goal.returns-in-Ok-clause-recorded
+returns-in-Ok-clause-recorded g c =
+    passes_well _ _ _ c.write_closed-file.result.1 c.all_or_failure.result c.all_or_failure.ensures (λ done recorded. recorded) c.write_closed-file.ensures.recorded
+
+-- what subscribers were told last goes with what they have left
+pub returns-in-Ok-clause-watched : goal.returns-in-Ok-clause-watched
+returns-in-Ok-clause-watched g c =
+    passes_well _ _ _ c.write_closed-file.result.1 c.all_or_failure.result c.all_or_failure.ensures (λ done closed. served_watched _ _ _ _ _ _ c.in-Ok.ensures.left closed) c.write_closed-file.ensures.told

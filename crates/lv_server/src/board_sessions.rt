@@ -1,0 +1,123 @@
+//! Sessions at a board in threads of their own, each by its own seat.
+
+ghost use Rattle.std.specs.Prelude.{All};
+ghost use Rattle.lv_board.specs.Tells.{IsAt};
+
+use crate::clients::Client;
+use crate::failure::Failure;
+use lv_board::{Board, BoardBody, Seat, run_board_session};
+use lv_bodies::{Affine, Automaton, Best, Greatest, Kind, Least, Sum};
+use lv_geometry::Limits;
+use std::alloc::Global;
+use std::io::{Read, Write};
+use std::thread;
+use std::thread::Threads;
+
+// A session at a board, with its seat, and how it ended; it hasn't yet at first.
+#[derive(Drop)]
+struct Task<'a, B: BoardBody, F: Drop> {
+    board: &'a Board<B>,
+    seat: Seat<B>,
+    streams: Client<F>,
+    ended: Result<(), Failure>,
+    ghost here: { IsAt board.now.table.shared.table_id board.now.terms seat },
+}
+
+/// Holds a session for each pair of streams at a board of the kind, in a thread of its own where one can be made. Where sessions
+/// end with faults, the first of them is the fault.
+pub fn hold_sessions<F: Read + Write + Send + Drop, R: Threads + Sync>(
+    rt: &R,
+    alloc: Global,
+    limits: Limits,
+    kind: Kind,
+    streams: Vec<Client<F>>,
+) -> Result<(), Failure> {
+    match kind {
+        Kind::Sum => hold_at(rt, alloc, limits, Sum, streams),
+        Kind::Least => hold_at(rt, alloc, limits, Least, streams),
+        Kind::Greatest => hold_at(rt, alloc, limits, Greatest, streams),
+        Kind::Best => hold_at(rt, alloc, limits, Best, streams),
+        Kind::Affine => hold_at(rt, alloc, limits, Affine, streams),
+        Kind::Automaton => hold_at(rt, alloc, limits, Automaton::program(), streams),
+    }
+}
+
+// Holds them at a board of a body. The options keep to the limits of boards, so that only want of memory refuses one.
+fn hold_at<B: BoardBody, F: Read + Write + Send + Drop, R: Threads + Sync>(
+    rt: &R,
+    alloc: Global,
+    limits: Limits,
+    body: B,
+    streams: Vec<Client<F>>,
+) -> Result<(), Failure> {
+    let Ok(count) = u32::try_from(streams.len()) else {
+        return Err(Failure::memory());
+    };
+    let Ok((board, seats)) = Board::new(alloc, limits, count, body) else {
+        return Err(Failure::memory());
+    };
+    let ended = hold_all(rt, alloc, &board, seats, streams);
+    drop(board);
+    ended
+}
+
+// Holds them at a board, by its seats.
+fn hold_all<B: BoardBody, F: Read + Write + Send + Drop, R: Threads + Sync>(
+    rt: &R,
+    alloc: Global,
+    board: &Board<B>,
+    seats: Vec<Seat<B>>,
+    streams: Vec<Client<F>>,
+) -> Result<(), Failure>
+    requires here { All (IsAt board.now.table.shared.table_id board.now.terms) seats.items }
+{
+    let mut tasks = seat_each(alloc, board, seats, streams)?;
+    let threads = tasks.len().max(1);
+    let held = |_: usize, task: &mut Task<'_, B, F>| { hold(alloc, task) };
+    thread::for_each_mut(rt, tasks.as_mut_slice(), threads, &held);
+    for task in &tasks {
+        task.ended?;
+    }
+    Ok(())
+}
+
+// Gives each session a seat.
+fn seat_each<'a, B: BoardBody, F: Drop>(
+    alloc: Global,
+    board: &'a Board<B>,
+    seats: Vec<Seat<B>>,
+    streams: Vec<Client<F>>,
+) -> Result<Vec<Task<'a, B, F>>, Failure>
+    requires here { All (IsAt board.now.table.shared.table_id board.now.terms) seats.items }
+{
+    let mut seats = seats;
+    let mut tasks = Vec::new(alloc);
+    for streams in streams {
+        let Some(seat) = seats.pop() else {
+            return Ok(tasks);
+        };
+        let task = Task {
+            board,
+            seat,
+            streams,
+            ended: Ok(()),
+        };
+        if tasks.push(task).is_err() {
+            return Err(Failure::memory());
+        }
+    }
+    Ok(tasks)
+}
+
+// Holds a session.
+fn hold<B: BoardBody, F: Read + Write + Drop>(alloc: Global, task: &mut Task<'_, B, F>) {
+    let number = task.streams.number;
+    let ended = run_board_session(
+        alloc,
+        task.board,
+        &mut task.seat,
+        &mut task.streams.lines,
+        &mut task.streams.replies,
+    );
+    task.ended = ended.map_err(|fault| Failure::session(number, fault));
+}

@@ -1,0 +1,287 @@
+//! The clients of a server: sessions and subscribers, from when their files are open until each has left.
+
+ghost use Rattle.std.specs.Prelude.{◌≡◌, ◌+◌, ◌<◌, ◌≤◌, ℕ, All, HoldsAt, IfErr, IfOk, List, OnOk, [], false, length, map, take, true, vec_capacity, vec_len};
+ghost use Rattle.lv_transcript.specs.Joined.{in_a_row};
+ghost use Rattle.lv_watchers.specs.Watched.{WatchState};
+ghost use Rattle.lv_watchers.specs.Watchers.{watcher_at};
+ghost use Rattle.lv_server.specs.Served.{Sides};
+ghost use Rattle.lv_server.specs.Tasks.{TakesBack, begun_at};
+ghost use Rattle.lv_server.specs.Writing.{IsFreeBuffer};
+
+use crate::failure::{Failure, FaultPlace};
+use lv_bodies::Six;
+use lv_hub::{Query, Share, WithBody};
+use lv_lines::HELD;
+use lv_script::Fault;
+use lv_transcript::Queue;
+use lv_watchers::{Leaving, Watch, Watched, Watcher, subscribe_all};
+use std::alloc::{AllocError, Global};
+use std::io::{Read, Write};
+use std::marker::Model;
+
+/// A session's file, and that of its replies; or a subscriber's, and that of its notes.
+#[derive(Drop)]
+pub struct Client<F: Drop> {
+    /// Which of the files it is, counted from 0.
+    pub number: usize,
+    pub lines: F,
+    pub replies: F,
+}
+
+/// The sessions that are to be held, and the subscribers that are to be told beside them.
+#[derive(Drop)]
+pub struct Clients<F: Drop> {
+    pub streams: Vec<Client<F>>,
+    pub watches: Vec<Watch<F>>,
+}
+
+impl<F: Drop> Clients<F> {
+    /// None yet, and room for so many sessions and subscribers.
+    pub fn with_room(
+        alloc: Global,
+        sessions: usize,
+        watches: usize,
+    ) -> Result<Clients<F>, AllocError> {
+        Ok(Clients {
+            streams: Vec::with_capacity(alloc, sessions)?,
+            watches: Vec::with_capacity(alloc, watches)?,
+        })
+    }
+
+    /// Adds a session; or a subscriber, where it is known what its file asks. Says whether there was memory for it.
+    pub fn add(&mut self, streams: Client<F>, asked: Option<Vec<Query>>) -> bool {
+        match asked {
+            None => self.streams.push(streams).is_ok(),
+            Some(questions) => {
+                let Client {
+                    number,
+                    replies,
+                    ..
+                } = streams;
+                let watch = Watch {
+                    number,
+                    questions,
+                    notes: replies,
+                };
+                self.watches.push(watch).is_ok()
+            }
+        }
+    }
+}
+
+/// As much memory as a session begins with, put by for it.
+#[derive(Drop)]
+pub struct Spare {
+    read: Vec<u8>,
+    held: Vec<u8>,
+}
+
+impl Spare {
+    // Puts it by. A session reads into as much as it holds of its replies.
+    fn new(alloc: Global) -> Result<Spare, AllocError> {
+        Ok(Spare {
+            read: Vec::with_capacity(alloc, HELD)?,
+            held: Vec::with_capacity(alloc, HELD)?,
+        })
+    }
+}
+
+/// A session with its part of the hub and memory that is put by for it. It waits until it is held; then it has the reductions that it was
+/// answered, which are true of what it has seen, or its fault.
+#[derive(Drop)]
+pub struct Task<N: WithBody<Six>, F: Read + Write + Drop> {
+    pub share: Share<N>,
+    pub streams: Client<F>,
+    pub spare: Option<Spare>,
+    pub ended: Option<Result<Queue, Failure>>,
+}
+
+impl<N: WithBody<Six>, F: Read + Write + Drop> Model for Task<N, F> {
+    ghost use Rattle.std.specs.Prelude.{◌≡◌, All, IfOk, IfSome, is_none};
+    ghost use Rattle.lv_transcript.specs.Transcript.{IsTrueAnswer};
+    ghost use Rattle.lv_server.specs.Tasks.{Sitting, listed_in};
+
+    ghost Value = { Sitting };
+
+    ghost view = { λ t. record { share = t.share; sides = record { lines = F.remaining t.streams.lines; replies = F.contents t.streams.replies }; waits = is_none t.ended; answers = listed_in t.ended } };
+
+    ghost invariant = { λ t. (t.share.parts ≡ 1) × IfSome t.ended (λ ended. IfOk ended (λ answers. All (IsTrueAnswer t.share.seen) answers)) };
+}
+
+/// What sessions that were held leave: the reductions that each was answered, in order, and their streams.
+#[derive(Drop)]
+pub struct Gathered<F: Drop> {
+    pub answers: Vec<Queue>,
+    pub streams: Vec<Client<F>>,
+    /// A buffer for their transcript.
+    pub held: Vec<u8>,
+}
+
+impl<F: Drop> Gathered<F> {
+    /// Room for what so many sessions leave, so that their end needs no memory.
+    pub fn with_room(alloc: Global, sessions: usize) -> Result<Gathered<F>, Failure>
+        ensures answers { IfOk result (λ all. all.answers.items ≡ []) }
+        ensures streams { IfOk result (λ all. all.streams.items ≡ []) }
+        ensures held { IfOk result (λ all. IsFreeBuffer all.held) }
+    {
+        let (Ok(answers), Ok(streams), Ok(held)) = (
+            Vec::with_capacity(alloc, sessions),
+            Vec::with_capacity(alloc, sessions),
+            Vec::with_capacity(alloc, HELD),
+        ) else {
+            return Err(Failure::memory());
+        };
+        Ok(Gathered {
+            answers,
+            streams,
+            held,
+        })
+    }
+}
+
+/// Gives each session a part of the hub, of which nobody has seen an edit, and puts memory by for it.
+pub fn share_out<N: WithBody<Six>, F: Read + Write + Drop>(
+    alloc: Global,
+    share: &mut Share<N>,
+    streams: Vec<Client<F>>,
+) -> Result<Vec<Task<N, F>>, Failure>
+    requires parts { share.old.parts ≡ vec_len streams + 1 }
+    requires unseen { share.old.seen ≡ [] }
+    ensures parts { IfOk result (λ tasks. share.new.parts ≡ 1) }
+    ensures count { IfOk result (λ tasks. share.new.count ≡ share.old.count) }
+    ensures seen { IfOk result (λ tasks. share.new.seen ≡ []) }
+    ensures begun { IfOk result (λ tasks. tasks.items ≡ map (λ s. begun_at (record { lines = F.remaining s.lines; replies = F.contents s.replies })) streams.items) }
+{
+    let mut tasks = Vec::new(alloc);
+    for streams in streams {
+        let Ok(spare) = Spare::new(alloc) else {
+            return Err(Failure::memory());
+        };
+        let task = Task {
+            share: share.split(),
+            streams,
+            spare: Some(spare),
+            ended: None,
+        };
+        if tasks.push(task).is_err() {
+            return Err(Failure::memory());
+        }
+    }
+    Ok(tasks)
+}
+
+/// Takes the parts back, and gathers the reductions in the order of the sessions, where nothing is gathered yet. The first session's
+/// fault is the fault: `NoMemory` of one that still waits.
+pub fn take_back<N: WithBody<Six>, F: Read + Write + Drop>(
+    room: Gathered<F>,
+    share: &mut Share<N>,
+    done: Vec<Task<N, F>>,
+) -> Result<Gathered<F>, Failure>
+    requires answers { room.answers.items ≡ [] }
+    requires streams { room.streams.items ≡ [] }
+    ensures buffer { IfOk result (λ all. all.held ≡ room.held) }
+    ensures back { IfOk result (λ all. TakesBack share.old share.new done.items (in_a_row all.answers.items) (map (λ s. record { lines = F.remaining s.lines; replies = F.contents s.replies }) all.streams.items)) }
+{
+    let Gathered {
+        mut answers,
+        mut streams,
+        held,
+    } = room;
+    for session in done {
+        let Task {
+            share: part,
+            streams: its,
+            spare,
+            ended,
+        } = session;
+        drop(spare);
+        share.join(part);
+        let Some(listed) = ended else {
+            return Err(Failure::memory());
+        };
+        let listed = listed?;
+        if answers.push(listed).is_err() {
+            return Err(Failure::memory());
+        }
+        if streams.push(its).is_err() {
+            return Err(Failure::memory());
+        }
+    }
+    Ok(Gathered {
+        answers,
+        streams,
+        held,
+    })
+}
+
+/// Sessions and subscribers with their parts of the hub, and room for what subscribers leave.
+#[derive(Drop)]
+pub struct Present<N: WithBody<Six>, F: Read + Write + Drop> {
+    pub tasks: Vec<Task<N, F>>,
+    pub watchers: Vec<Watcher<N, F>>,
+    pub leaving: Leaving<F>,
+}
+
+/// Gives each session and each subscriber a part of the hub, of which nobody has seen an edit. The share keeps one. Memory that is
+/// wanting is the fault, `NoMemory`; a question that no `watch` would take is `ReadFault`, though no file brings one here.
+pub fn begin_all<N: WithBody<Six>, F: Read + Write + Drop>(
+    alloc: Global,
+    share: &mut Share<N>,
+    clients: Clients<F>,
+) -> Result<Present<N, F>, Failure>
+    requires parts { share.old.parts ≡ vec_len clients.streams + vec_len clients.watches + 1 }
+    requires unseen { share.old.seen ≡ [] }
+    ensures parts { IfOk result (λ present. share.new.parts ≡ 1) }
+    ensures count { IfOk result (λ present. share.new.count ≡ share.old.count) }
+    ensures sessions { IfOk result (λ present. present.tasks.items ≡ map (λ s. begun_at (record { lines = F.remaining s.lines; replies = F.contents s.replies })) clients.streams.items) }
+    ensures watchers { IfOk result (λ present. present.watchers.items ≡ map (λ w. watcher_at (record { questions = w.questions.items; contents = F.contents w.notes })) clients.watches.items) }
+    ensures none { IfOk result (λ present. (present.leaving.left.items ≡ []) × (present.leaving.watched.items ≡ [])) }
+    ensures left_room { IfOk result (λ present. vec_len clients.watches ≤ vec_capacity present.leaving.left) }
+    ensures room { IfOk result (λ present. vec_len clients.watches ≤ vec_capacity present.leaving.watched) }
+{
+    let Clients { streams, watches } = clients;
+    let Ok(leaving) = Leaving::with_room(alloc, watches.len()) else {
+        return Err(Failure::memory());
+    };
+    let watchers = subscribe(alloc, share, watches)?;
+    let tasks = share_out(alloc, share, streams)?;
+    Ok(Present {
+        tasks,
+        watchers,
+        leaving,
+    })
+}
+
+// Gives each subscriber a part of the hub, of which nobody has seen an edit.
+fn subscribe<N: WithBody<Six>, F: Read + Write + Drop>(
+    alloc: Global,
+    share: &mut Share<N>,
+    watches: Vec<Watch<F>>,
+) -> Result<Vec<Watcher<N, F>>, Failure>
+    requires parts { vec_len watches + 1 ≤ share.old.parts }
+    requires unseen { share.old.seen ≡ [] }
+    ensures parts { IfOk result (λ watchers. share.new.parts + vec_len watches ≡ share.old.parts) }
+    ensures count { IfOk result (λ watchers. share.new.count ≡ share.old.count) }
+    ensures seen { IfOk result (λ watchers. share.new.seen ≡ []) }
+    ensures begun { IfOk result (λ watchers. watchers.items ≡ map (λ w. watcher_at (record { questions = w.questions.items; contents = F.contents w.notes })) watches.items) }
+{
+    match subscribe_all(alloc, share, watches) {
+        Ok(watchers) => Ok(watchers),
+        Err(refusal) => Err(Failure::unwatched(refusal)),
+    }
+}
+
+/// That all that subscribers were told was written; or else the first whose output failed is the fault.
+pub fn first_unwritten<F: Write + Drop>(watched: &[Watched<F>]) -> Result<(), Failure>
+    ensures written { OnOk result (All (λ w. w.notices.failed ≡ false) watched.now) }
+    ensures fault { IfErr result (λ failure. failure.fault ≡ Fault.WriteFault) }
+    // It names one whose output failed, and none before that one did.
+    ensures first { IfErr result (λ failure. (i : ℕ) × (i < length watched.now) × HoldsAt (λ w. (w.notices.failed ≡ true) × (failure.place ≡ FaultPlace.Session w.number)) watched.now i × All (λ w. w.notices.failed ≡ false) (take i watched.now)) }
+{
+    for one in watched {
+        if one.notices.has_failed() {
+            return Err(Failure::session(one.number, Fault::WriteFault));
+        }
+    }
+    Ok(())
+}

@@ -1,0 +1,62 @@
+//! The names of files, and which of them clash.
+
+use crate::failure::{Clash, Failure};
+
+/// What ends the name of a file of replies.
+pub const REPLIES: &str = ".out";
+
+/// The files that are served, by their names.
+#[derive(Clone, Copy)]
+pub struct Names<'a> {
+    /// Those of sessions, those of subscribers behind them, and that of the transcript last, if there is one.
+    pub all: &'a [&'a str],
+    /// How many sessions there are.
+    pub sessions: usize,
+    /// How many sessions and subscribers there are.
+    pub clients: usize,
+    /// Whether what is written to the transcript's file goes to the disk at once.
+    pub syncs: bool,
+}
+
+impl<'a> Names<'a> {
+    /// The names of sessions and subscribers.
+    pub fn of_clients(&self) -> &'a [&'a str] {
+        self.all.get(..self.clients).unwrap_or(self.all)
+    }
+
+    /// The name of the transcript's file, if there is one.
+    pub fn of_transcript(&self) -> Option<&'a str> {
+        self.all.get(self.clients).copied()
+    }
+}
+
+/// The first clash among the names of files, if there is one.
+pub fn first_clash(files: &[&str]) -> Option<Failure> {
+    for (number, file) in files.iter().enumerate() {
+        if let Some(failure) = clash_between(&files[..number], number, file) {
+            return Some(failure);
+        }
+    }
+    None
+}
+
+// How the file of a number clashes with one before it, if it does.
+fn clash_between(before: &[&str], number: usize, file: &str) -> Option<Failure> {
+    for (other, name) in before.iter().enumerate() {
+        if *name == file {
+            return Some(Failure::clashing(number, Clash::Twice));
+        }
+        if is_reply_of(file, name) {
+            return Some(Failure::clashing(number, Clash::Replies));
+        }
+        if is_reply_of(name, file) {
+            return Some(Failure::clashing(other, Clash::Replies));
+        }
+    }
+    None
+}
+
+// Whether a name is that of the replies to another.
+fn is_reply_of(name: &str, file: &str) -> bool {
+    name.strip_suffix(REPLIES) == Some(file)
+}

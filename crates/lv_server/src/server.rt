@@ -1,0 +1,193 @@
+//! The server: sessions in threads of their own, with workers and subscribers beside them, and the transcript of it all.
+
+ghost use Rattle.std.specs.Prelude.{◌≡◌, ◌+◌, ◌≤◌, IfErr, IfOk, IfSome, [], Some, is_some, map, vec_capacity, vec_len};
+ghost use Rattle.lv_transcript.specs.Joined.{in_a_row};
+ghost use Rattle.lv_server.specs.PlainServed.{ServedPlainly};
+ghost use Rattle.lv_server.specs.Starting.{Records, start_of};
+ghost use Rattle.lv_server.specs.Writing.{IsFreeBuffer};
+ghost use Rattle.lv_server.specs.Served.{FailsToServe, Served, Sides};
+ghost use Rattle.lv_server.specs.Tasks.{AreAllHeld};
+ghost use Rattle.lv_watchers.specs.Watched.{ServedWatched, WatchState};
+ghost use Rattle.lv_watchers.specs.Watchers.{AreLeft};
+
+use crate::clients::{Client, Clients, Gathered, Present, begin_all, take_back};
+use crate::failure::Failure;
+use crate::threads::hold_all;
+use crate::transcript::{all_or_failure, begin_minutes, unlocked, write_closed};
+use lv_bodies::Six;
+use lv_geometry::Limits;
+use lv_hub::{Begun, Hub, Minutes, Opened, Share, WithBody};
+use lv_watchers::{Leaving, Watch, Watched, leave_all};
+use std::alloc::Global;
+use std::io::{Read, Write};
+use std::marker::Brand;
+use std::sync::Wait;
+use std::sync::ledger::Blank;
+use std::thread::Threads;
+
+/// How sessions are served.
+#[derive(Clone, Copy)]
+pub struct Plan {
+    /// The limits of the vector.
+    pub limits: Limits,
+    /// How many workers refresh it.
+    pub workers: u32,
+    /// How many turns each of them takes.
+    pub turns: u64,
+    /// At most how many answered reductions each session keeps for the transcript.
+    pub most: usize,
+}
+
+/// Holds a session for each pair of streams, in a thread of its own where one can be made, with workers beside them. Then
+/// writes the transcript: the journal, and the sessions' reductions in the order of their edits. Gives the streams back, where
+/// each session has answered all its lines. Where sessions end with faults nothing is written, and the first of them is the fault.
+///
+/// Beside the sessions each subscriber is told, as they come, of edits that change the answers to its questions. One whose output fails ends
+/// by itself, and everything else is as without it; so it is no fault here, and what becomes of its lines is given back with the others'.
+///
+/// Where there is a file for it, edits and answers are written there too, as they come, and the file is given back with all of them.
+/// That it can't be written is a fault at the end, once the transcript is written.
+///
+/// A failure gives nothing back: no clause says what the file, the replies and the outputs of subscribers have got then. What was written
+/// to the file before stays there, and is for its audit to tell.
+pub fn serve<
+    F: Read + Write + Send + Drop,
+    V: Write + Send + Drop,
+    W: Write,
+    R: Threads + Wait + Sync,
+>(
+    rt: &R,
+    alloc: Global,
+    plan: Plan,
+    streams: Vec<Client<F>>,
+    watches: Vec<Watch<F>>,
+    file: Option<V>,
+    writer: &mut W,
+) -> Result<(Vec<Client<F>>, Option<V>, Vec<Watched<F>>), Failure>
+    ensures served { IfOk result (λ done. Served plan.limits (map (λ s. record { lines = F.remaining s.lines; replies = F.contents s.replies }) streams.items) (map (λ s. record { lines = F.remaining s.lines; replies = F.contents s.replies }) done.0.items) (W.contents writer.old) (W.contents writer.new)) }
+    // Each reply is the plain interpreter's, at a beginning of one list of edits.
+    ensures plain { IfOk result (λ done. ServedPlainly plan.limits (map (λ s. record { lines = F.remaining s.lines; replies = F.contents s.replies }) streams.items) (map (λ s. record { lines = F.remaining s.lines; replies = F.contents s.replies }) done.0.items) (W.contents writer.old) (W.contents writer.new)) }
+    ensures failed { IfErr result (λ failure. FailsToServe plan.limits (W.contents writer.old) (W.contents writer.new) failure.fault) }
+    ensures back { IfOk result (λ done. is_some done.1 ≡ is_some file) }
+    // The file has got the edits of the transcript that was written, and true answers between them, in the order of time.
+    ensures recorded { IfOk result (λ done. IfSome done.1 (λ kept. Records (start_of V.contents file) (V.contents kept) (W.contents writer.old) (W.contents writer.new))) }
+    // Each subscriber's lines are plain values at edits of the transcript that was written, of which the last stand at its end.
+    ensures watched { IfOk result (λ done. ServedWatched (map (λ w. record { questions = w.questions.items; contents = F.contents w.notes }) watches.items) (map (λ w. w.notices) done.2.items) (W.contents writer.old) (W.contents writer.new)) }
+{
+    let parts = streams.len() as u64 + watches.len() as u64 + 1;
+    serve_as::<Brand, Brand, F, V, W, R>(
+        rt,
+        alloc,
+        plan,
+        Clients { streams, watches },
+        file,
+        writer,
+        Blank::new(parts),
+        parts,
+        Opened::new(),
+        Six,
+    )
+}
+
+// Serves them on a hub of this name.
+fn serve_as<
+    N: WithBody<Six> + Send + Sync,
+    K: Begun + Send + Sync,
+    F: Read + Write + Send + Drop,
+    V: Write + Send + Drop,
+    W: Write,
+    R: Threads + Wait + Sync,
+>(
+    rt: &R,
+    alloc: Global,
+    plan: Plan,
+    clients: Clients<F>,
+    file: Option<V>,
+    writer: &mut W,
+    blank: Blank,
+    parts: u64,
+    opened: Opened,
+    body: Six,
+) -> Result<(Vec<Client<F>>, Option<V>, Vec<Watched<F>>), Failure>
+    requires name { blank.name ≡ N.name }
+    requires all { blank.parts ≡ N.parts }
+    requires parts { blank.parts ≡ parts }
+    requires one_each { parts ≡ vec_len clients.streams + vec_len clients.watches + 1 }
+    requires limits { plan.limits ≡ N.limits }
+    requires history { opened ≡ N.history }
+    requires body { N.body ≡ Some body }
+    requires start { IfSome file (λ file. K.start ≡ V.contents file) }
+    ensures served { IfOk result (λ done. Served plan.limits (map (λ s. record { lines = F.remaining s.lines; replies = F.contents s.replies }) clients.streams.items) (map (λ s. record { lines = F.remaining s.lines; replies = F.contents s.replies }) done.0.items) (W.contents writer.old) (W.contents writer.new)) }
+    ensures failed { IfErr result (λ failure. FailsToServe plan.limits (W.contents writer.old) (W.contents writer.new) failure.fault) }
+    ensures back { IfOk result (λ done. is_some done.1 ≡ is_some file) }
+    ensures recorded { IfOk result (λ done. IfSome done.1 (λ kept. Records K.start (V.contents kept) (W.contents writer.old) (W.contents writer.new))) }
+    ensures watched { IfOk result (λ done. ServedWatched (map (λ w. record { questions = w.questions.items; contents = F.contents w.notes }) clients.watches.items) (map (λ w. w.notices) done.2.items) (W.contents writer.old) (W.contents writer.new)) }
+{
+    let (hub, mut share) = Hub::<Six, N>::new(alloc, plan.limits, body, blank, parts, opened);
+    match serve_all::<N, K, F, V, R>(rt, alloc, plan, &hub, &mut share, clients, file) {
+        Ok((all, minutes, leaving)) => {
+            let Gathered {
+                mut answers,
+                streams,
+                mut held,
+            } = all;
+            let (file, written, watched) = write_closed(
+                hub,
+                share,
+                &mut answers,
+                minutes,
+                leaving,
+                &mut held,
+                writer,
+            );
+            all_or_failure(written, streams, file, watched)
+        }
+        Err(failure) => {
+            drop(hub);
+            Err(failure)
+        }
+    }
+}
+
+// Serves them on a hub, and gathers what they leave: the reductions in the order of the sessions, and what subscribers were told. Its
+// share has all parts, and has them again.
+fn serve_all<
+    N: WithBody<Six> + Send + Sync,
+    K: Begun + Send + Sync,
+    F: Read + Write + Send + Drop,
+    V: Write + Send + Drop,
+    R: Threads + Wait + Sync,
+>(
+    rt: &R,
+    alloc: Global,
+    plan: Plan,
+    hub: &Hub<Six, N>,
+    share: &mut Share<N>,
+    clients: Clients<F>,
+    file: Option<V>,
+) -> Result<(Gathered<F>, Option<Minutes<N, V, K>>, Leaving<F>), Failure>
+    requires start { IfSome file (λ file. K.start ≡ V.contents file) }
+    requires parts { share.old.parts ≡ vec_len clients.streams + vec_len clients.watches + 1 }
+    requires count { share.old.count ≡ 0 }
+    requires unseen { share.old.seen ≡ [] }
+    ensures parts { IfOk result (λ all. share.new.parts ≡ share.old.parts) }
+    ensures buffer { IfOk result (λ all. IsFreeBuffer all.0.held) }
+    ensures minuted { IfOk result (λ all. is_some all.1 ≡ is_some file) }
+    ensures held { IfOk result (λ all. AreAllHeld N.limits share.new (map (λ s. record { lines = F.remaining s.lines; replies = F.contents s.replies }) clients.streams.items) (map (λ s. record { lines = F.remaining s.lines; replies = F.contents s.replies }) all.0.streams.items) (in_a_row all.0.answers.items)) }
+    ensures left { IfOk result (λ all. AreLeft share.new.seen (map (λ w. record { questions = w.questions.items; contents = F.contents w.notes }) clients.watches.items) all.2.left.items) }
+    ensures none { IfOk result (λ all. all.2.watched.items ≡ []) }
+    ensures room { IfOk result (λ all. vec_len all.2.left ≤ vec_capacity all.2.watched) }
+{
+    let minutes = begin_minutes::<N, K, V>(alloc, file, share)?;
+    let room = Gathered::with_room(alloc, clients.streams.len())?;
+    let present = begin_all(alloc, share, clients)?;
+    let Present {
+        tasks,
+        watchers,
+        leaving,
+    } = present;
+    let (held, watchers) = hold_all(rt, alloc, plan, hub, minutes.as_ref(), tasks, watchers);
+    let all = take_back(room, share, held)?;
+    let left = leave_all(leaving, share, watchers);
+    Ok((all, unlocked(minutes), left))
+}
