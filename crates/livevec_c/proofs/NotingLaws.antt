@@ -1,5 +1,5 @@
 -- The answers and the notes of questions, one after another.
-use Rattle.std.proofs.Common.{◌≡◌, ◌<◌, ◌≤◌, ◌+◌, ℕ, List, [], ◌∷◌, ◌++◌, append_assoc, length, length-append, map, take, take_all, drop, get_or, refl, ap, sym, subst, ◌∙◌, inl, inr, arith}
+use Rattle.std.proofs.Common.{◌≡◌, ◌<◌, ◌≤◌, ◌+◌, ℕ, List, [], ◌∷◌, ◌++◌, append_assoc, length, length-append, map, take, take_all, drop, get_or, refl, ap, sym, subst, ◌∙◌, inl, inr, arith, true, true≢false}
 use Rattle.std.proofs.lemmas.List.{length-take-le, take_more}
 use Rattle.std.proofs.lemmas.Slice.{drop-append-drop}
 use Rattle.std.proofs.Math.Seq.{take-append_seam}
@@ -8,6 +8,7 @@ use Rattle.lv_edits.specs.History.{list_of}
 use Rattle.livevec_c.specs.declared.queries_notes.Note.{Note}
 use Rattle.livevec_c.specs.declared.queries_notes.Noted.{Noted}
 use Rattle.lv_standing.specs.declared.queries.Query.{Query}
+use Rattle.lv_standing.specs.Queries.{is_due}
 use Rattle.livevec_c.specs.Behind.{State}
 use Rattle.livevec_c.specs.Queried.{AreNotesOf, NotesInto, NotesOne, PutsNote, Tells, answer_by, note_of}
 use Rattle.livevec_c.specs.Queries.{QueriesState}
@@ -37,13 +38,13 @@ module _ (edit size : ℕ) where
   notes_alone (q ∷ questions) [] values notes others a b = a ∙ sym b
   notes_alone (q ∷ questions) (before ∷ told) [] notes others a b = a ∙ sym b
   notes_alone (q ∷ questions) (before ∷ told) (value ∷ values) notes others (inl a) (inl b) = notes_alone questions told values notes others a.1 b.1
-  notes_alone (q ∷ questions) (before ∷ told) (value ∷ values) notes others (inl a) (inr b) = absurd (b.0 a.0)
-  notes_alone (q ∷ questions) (before ∷ told) (value ∷ values) notes others (inr a) (inl b) = absurd (a.0 b.0)
+  notes_alone (q ∷ questions) (before ∷ told) (value ∷ values) notes others (inl a) (inr b) = absurd (true≢false (sym b.0 ∙ a.0))
+  notes_alone (q ∷ questions) (before ∷ told) (value ∷ values) notes others (inr a) (inl b) = absurd (true≢false (sym a.0 ∙ b.0))
   notes_alone (q ∷ questions) (before ∷ told) (value ∷ values) notes others (inr a) (inr b) =
       a.2 ∙ ap (λ ns. note_of edit size q value ∷ ns) (notes_alone questions told values a.1 b.1 a.3 b.3) ∙ sym b.2
 
   -- a note was put behind so many others
-  pub noted_one : (q : Query) (told value : Shown) (count : ℕ) (before after : List Note) (note : Note) → (value ≡ told → ⊥) → note ≡ note_of edit size q value → PutsNote note count before after → NotesOne edit size q told value count before (count + 1) after
+  pub noted_one : (q : Query) (told value : Shown) (count : ℕ) (before after : List Note) (note : Note) → is_due q.bound told value ≡ true → note ≡ note_of edit size q value → PutsNote note count before after → NotesOne edit size q told value count before (count + 1) after
   noted_one q told value count before after note other is puts = record {
     added = note ∷ [];
     are = inr (other, [], ap (λ n. n ∷ []) is, refl);

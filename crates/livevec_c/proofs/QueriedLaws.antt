@@ -9,20 +9,20 @@ use Rattle.lv_edits.specs.Ranges.{slice_of}
 use Rattle.lv_tree.specs.declared.kinds.KindAnswer.{KindAnswer}
 use Rattle.lv_tree.specs.Asked.{IsKindAnswer}
 use Rattle.lv_tree.specs.KindSummaries.{shown_of}
-use Rattle.lv_standing.proofs.RangeLaws.{range_cut}
 use Rattle.lv_standing.specs.declared.queries.Query.{Query}
+use Rattle.lv_standing.specs.Queries.{span_of}
 use Rattle.livevec_c.specs.Behind.{State}
 use Rattle.livevec_c.specs.Queried.{answer_by}
 use Rattle.livevec_c.specs.SpreadLaws.{shown-plain}
 
--- an answer of a range that was cut at the end is that of the question
+-- an answer of the range that a question's span has is that of the question
 pub answers_question : (state : State) (q : Query) (lo hi : ℕ) (answer : KindAnswer) (shown : Shown) → IsKindAnswer (table_of state.body.automaton) state.history.journal q.kind lo hi answer → shown ≡ shown_of answer.summary
-    → hi ≡ min q.hi (length (list_of state.history.journal)) → lo ≡ min q.lo hi → shown ≡ answer_by state q
-answers_question state q lo hi answer shown is shows end start =
+    → slice_of state.history.journal lo hi ≡ span_of q.span (list_of state.history.journal) → shown ≡ answer_by state q
+answers_question state q lo hi answer shown is shows same =
     let es = state.history.journal in
     let table = table_of state.body.automaton in
     let xs = slice_of es lo hi in
     shows
     ∙ ap shown_of is.summary
     ∙ shown-plain table xs q.kind
-    ∙ ap (plain_value_with table q.kind) (range_cut (list_of es) q.lo q.hi lo hi end start)
+    ∙ ap (plain_value_with table q.kind) same

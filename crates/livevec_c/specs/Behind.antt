@@ -1,5 +1,5 @@
 -- What the calls do and answer, by what lies behind a slot.
-use Rattle.std.specs.Prelude.{◌≡◌, ℕ, ◌-◌, Option, Some, None, Result, IfOk, IfErr, length}
+use Rattle.std.specs.Prelude.{◌≡◌, ℕ, Option, Some, None, Result, IfOk, IfErr, [], ◌∷◌, length, slice_get}
 use Rattle.lv_geometry.specs.declared.refusals.Refusal.{Refusal}
 use Rattle.lv_bodies.specs.Automata.{table_of}
 use Rattle.lv_bodies.specs.Six.{SixSummary, six_operations_by}
@@ -47,6 +47,11 @@ abbrev pub Edits : Edit → Edited → Option Object → Option Object → Type 
 Edits edit answer None new = (answer ≡ unedited) × (new ≡ None)
 Edits edit answer (Some old) new = (object : Object) × (new ≡ Some object) × EditsObject edit answer old object
 
+-- the same where there is such an edit
+abbrev pub EditsBy : Option Edit → Edited → Option Object → Option Object → Type 0
+EditsBy None answer old new = (answer ≡ unedited) × (new ≡ old)
+EditsBy (Some edit) answer old new = Edits edit answer old new
+
 -- why an edit of an object would be refused, as the library judges it
 abbrev pub JudgesObject : Edit → Verdict → Object → Type 0
 JudgesObject edit answer (Vector state only) = answer ≡ judged_by (verdict_of state.history.limits state.history.journal edit)
@@ -55,6 +60,11 @@ JudgesObject edit answer other = answer ≡ unjudged
 abbrev pub Judges : Edit → Verdict → Option Object → Type 0
 Judges edit answer None = answer ≡ unjudged
 Judges edit answer (Some object) = JudgesObject edit answer object
+
+-- the same where there is such an edit
+abbrev pub JudgesBy : Option Edit → Verdict → Option Object → Type 0
+JudgesBy None answer held = answer ≡ unjudged
+JudgesBy (Some edit) answer held = Judges edit answer held
 
 -- the element of an object at an index, as the library answers it
 abbrev pub GetsObject : ℕ → Element → Object → Type 0
@@ -65,12 +75,15 @@ abbrev pub Gets : ℕ → Element → Option Object → Type 0
 Gets index answer None = answer ≡ no_element
 Gets index answer (Some object) = GetsObject index answer object
 
--- what is counted of a vector: its elements, those that fit into its memory, its edits, and how many more its limits allow
+-- what is counted of a vector: its elements, those that fit into its memory, and its edits
 abbrev pub count : Counted → State → ℕ
 count counts.Size state = length (list_of state.history.journal)
 count counts.Capacity state = capacity_after state.history.journal
 count counts.Edits state = length state.history.journal
-count counts.EditsLeft state = state.history.limits.edits - length state.history.journal
+
+-- the same by a number
+abbrev pub counted_at : ℕ → Option Counted
+counted_at number = slice_get (counts.Size ∷ counts.Capacity ∷ counts.Edits ∷ []) number
 
 -- a count where there is no vector
 abbrev pub no_count : Count
@@ -83,6 +96,11 @@ CountsObject what answer other = answer ≡ no_count
 abbrev pub Counts : Counted → Count → Option Object → Type 0
 Counts what answer None = answer ≡ no_count
 Counts what answer (Some object) = CountsObject what answer object
+
+-- the same where it is known what is counted
+abbrev pub CountsBy : Option Counted → Count → Option Object → Type 0
+CountsBy None answer held = answer ≡ no_count
+CountsBy (Some what) answer held = Counts what answer held
 
 -- a reduction of a vector by all six kinds, as the library answers it; one that is of one kind refuses it
 abbrev pub ReducesBy : Option Kind → ℕ → ℕ → Reduced → State → Type 0

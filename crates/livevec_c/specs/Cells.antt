@@ -1,5 +1,5 @@
 -- The cells of a column of the caller's: plain values by one kind, laid out for C.
-use Rattle.std.specs.Prelude.{ℕ, ℤ, pos, ◌+◌, Bool, Option, None, List, is_some, length, map, replicate, take, unwrap_or, if◌then◌else◌}
+use Rattle.std.specs.Prelude.{ℕ, ℤ, pos, ◌+◌, Bool, true, false, Option, None, List, is_some, length, map, replicate, take, unwrap_or, if◌then◌else◌}
 use Rattle.std.specs.List.{range_with_len}
 use Rattle.lv_bodies.specs.AffineMaps.{affine_operations}
 use Rattle.lv_bodies.specs.Plain.{plain_affine, plain_automaton, plain_best, plain_greatest, plain_least, plain_sum}
@@ -19,6 +19,11 @@ least_cell xs = unwrap_or (plain_least xs) (pos 0)
 
 abbrev pub greatest_cell : List ℤ → ℤ
 greatest_cell xs = unwrap_or (plain_greatest xs) (pos 0)
+
+-- the greatest or the least
+abbrev pub extreme_cell : Bool → List ℤ → ℤ
+extreme_cell true xs = greatest_cell xs
+extreme_cell false xs = least_cell xs
 
 abbrev pub total_cell : Option ℤ → TotalCell
 total_cell best = record { low = low_half (unwrap_or best (pos 0)); high = high_half (unwrap_or best (pos 0)) }

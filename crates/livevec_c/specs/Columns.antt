@@ -4,6 +4,7 @@ use Rattle.lv_geometry.specs.Numbers.{number_of}
 use Rattle.lv_geometry.specs.declared.refusals.Refusal.{Refusal}
 use Rattle.lv_bodies.specs.Automata.{table_of}
 use Rattle.lv_bodies.specs.declared.kinds.Kind.{Kind}
+use Rattle.lv_bodies.specs.declared.kinds.Kind.TheVariants as kinds
 use Rattle.lv_edits.specs.Ranges.{range_refusal, slice_of}
 use Rattle.livevec_c.specs.declared.columns.Scanned.{Scanned}
 use Rattle.livevec_c.specs.declared.objects.Object.{Object}
@@ -18,6 +19,11 @@ pub record CanGoOnLong {S : Type 0} (within : S → ℕ → Type 0) (s : S) (mor
   pub count : ℕ
   pub count_within : within s count
   pub few : count + more ≤ 2 ^ 62
+
+-- the kind of the greatest or of the least elements
+abbrev pub extreme_kind : Bool → Kind
+extreme_kind true = kinds.Greatest
+extreme_kind false = kinds.Least
 
 -- a scan that was refused
 abbrev pub unscanned : ℕ → ℕ → Scanned

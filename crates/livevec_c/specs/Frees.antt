@@ -1,35 +1,35 @@
--- What a free of one type does and answers, by what lies behind a slot.
-use Rattle.std.specs.Prelude.{ℕ, Bool, true, false, Option, Some, None, if◌then◌else◌}
-use Rattle.livevec_c.specs.declared.frees.Freed.{Freed}
-use Rattle.livevec_c.specs.declared.frees.Freed.TheVariants as freed
+-- What a free does and answers, by the sort of what lies behind a slot.
+use Rattle.std.specs.Prelude.{ℕ, Bool, false, Option, Some, None, if◌then◌else◌, nat_eq}
 use Rattle.livevec_c.specs.declared.objects.Object.{Object}
 use Rattle.livevec_c.specs.declared.objects.Object.TheVariants.{Vector, Job, Outcome, Batch, BatchOutcome, Subtree, SubtreeOutcome, Board, Seat, Closed, Series, Samples, Loader, Queries}
 
--- whether an object is what a free is of; a batch may be of a subtree and may have been run, a board may be closed, a series may have
+-- the sort of an object, by its number: a batch may be of a subtree and may have been run, a board may be closed, a series may have
 -- times, or be loaded
-abbrev pub is_of : Freed → Object → Bool
-is_of freed.Vector (Vector state only) = true
-is_of freed.Job (Job job) = true
-is_of freed.Outcome (Outcome outcome) = true
-is_of freed.Batch (Batch jobs) = true
-is_of freed.Batch (BatchOutcome jobs) = true
-is_of freed.Batch (Subtree job) = true
-is_of freed.Batch (SubtreeOutcome outcome) = true
-is_of freed.Board (Board board) = true
-is_of freed.Board (Closed ended) = true
-is_of freed.Seat (Seat seat) = true
-is_of freed.Series (Series state) = true
-is_of freed.Series (Samples state) = true
-is_of freed.Series (Loader bytes) = true
-is_of freed.Queries (Queries set) = true
-is_of _ _ = false
+abbrev pub sort_of : Object → ℕ
+sort_of (Vector state only) = 0
+sort_of (Job job) = 1
+sort_of (Outcome outcome) = 2
+sort_of (Batch jobs) = 3
+sort_of (BatchOutcome jobs) = 3
+sort_of (Subtree job) = 3
+sort_of (SubtreeOutcome outcome) = 3
+sort_of (Board board) = 4
+sort_of (Closed ended) = 4
+sort_of (Seat seat) = 5
+sort_of (Series state) = 6
+sort_of (Samples state) = 6
+sort_of (Loader bytes) = 6
+sort_of (Queries set) = 7
 
--- the answer: 0 where there was one, 101 where the slot was empty or held something else
-abbrev pub free_number : Freed → Option Object → ℕ
-free_number what None = 101
-free_number what (Some object) = if is_of what object then 0 else 101
+-- whether a slot has an object of a sort
+abbrev pub has_sort : ℕ → Option Object → Bool
+has_sort sort None = false
+has_sort sort (Some object) = nat_eq (sort_of object) sort
+
+-- the answer to a free of a sort: 0 where there was such an object, 101 where the slot was empty or held something else
+abbrev pub free_number : ℕ → Option Object → ℕ
+free_number sort held = if has_sort sort held then 0 else 101
 
 -- the slot then: empty, or as it was
-abbrev pub left_by_free : Freed → Option Object → Option Object
-left_by_free what None = None
-left_by_free what (Some object) = if is_of what object then None else Some object
+abbrev pub left_by_free : ℕ → Option Object → Option Object
+left_by_free sort held = if has_sort sort held then None else held

@@ -7,6 +7,7 @@ pub mod CellLaws
 pub mod Cells
 pub mod Claims
 pub mod Columns
+pub mod FlatEdits
 pub mod Found
 pub mod Frees
 pub mod Kept

@@ -1,6 +1,5 @@
 -- What the calls of standing queries do and answer, by what lies behind the slots.
-use Rattle.std.specs.Prelude.{◌≡◌, ◌≢◌, ◌⊎◌, ◌<◌, ◌≤◌, ℕ, ◌+◌, ◌-◌, Bool, true, false, not, nat_lt, min, Option, Some, None, Result, Ok, Err, List, [], ◌∷◌, ◌++◌, drop, length, map, position, replicate, slice_get, take}
-use Rattle.std.specs.List.{slice_range}
+use Rattle.std.specs.Prelude.{◌≡◌, ◌⊎◌, ◌<◌, ◌≤◌, ℕ, ◌+◌, ◌-◌, Bool, true, false, not, nat_lt, min, Option, Some, None, Result, Ok, Err, List, [], ◌∷◌, ◌++◌, drop, length, map, position, replicate, slice_get, take}
 use Rattle.lv_geometry.specs.Numbers.{number_of}
 use Rattle.lv_geometry.specs.declared.refusals.Refusal.{Refusal}
 use Rattle.lv_bodies.specs.Automata.{table_of}
@@ -14,6 +13,9 @@ use Rattle.livevec_c.specs.declared.objects.Object.TheVariants.{Queries, Vector}
 use Rattle.livevec_c.specs.declared.queries_notes.Note.{Note}
 use Rattle.livevec_c.specs.declared.queries_notes.Noted.{Noted}
 use Rattle.lv_standing.specs.declared.queries.Query.{Query}
+use Rattle.lv_standing.specs.declared.spans.Span.{Span}
+use Rattle.lv_standing.specs.declared.spans.Span.TheVariants.{Between, Last}
+use Rattle.lv_standing.specs.Queries.{between, is_due, span_of}
 use Rattle.livevec_c.specs.declared.results.Reduced.{Reduced}
 use Rattle.livevec_c.specs.Answers.{unreduced}
 use Rattle.livevec_c.specs.Behind.{State}
@@ -36,7 +38,7 @@ OpensQueries number None new = ((number ≡ 6) × (new ≡ None)) ⊎ ((number �
 abbrev pub question_named : Bool → List ℕ → Option Kind → ℕ → ℕ → Result Query ℕ
 question_named false name kind lo hi = Err 114
 question_named true name None lo hi = Err 113
-question_named true name (Some kind) lo hi = Ok (record { name = name; kind = kind; lo = lo; hi = hi })
+question_named true name (Some kind) lo hi = Ok (between name kind lo hi)
 
 abbrev pub question_in : List ℕ → ℕ → ℕ → ℕ → Result Query ℕ
 question_in name kind lo hi = question_named (is_name name) name (kind_at kind) lo hi
@@ -83,13 +85,18 @@ Unwatches name number old new = UnwatchesIf (is_name name) name number old new
 
 -- ---- an answer
 
--- what a question is answered by a vector: the plain value of the elements that its range has, by the vector's own table
+-- what a question is answered by a vector: the plain value of the elements in its span, by the vector's own table
 abbrev pub answer_by : State → Query → Shown
-answer_by state q = plain_value_with (table_of state.body.automaton) q.kind (slice_range (list_of state.history.journal) q.lo q.hi)
+answer_by state q = plain_value_with (table_of state.body.automaton) q.kind (span_of q.span (list_of state.history.journal))
 
--- whether a question's range has an element of a vector of this size
+-- whether a span has an element of a vector of this size
+abbrev pub is_some_in : ℕ → Span → Bool
+is_some_in size (Between lo hi) = nat_lt lo (min hi size)
+is_some_in size (Last n) = nat_lt 0 (min n size)
+
+-- whether a question's span has
 abbrev pub has_some : ℕ → Query → Bool
-has_some size q = nat_lt q.lo (min q.hi size)
+has_some size q = is_some_in size q.span
 
 -- the question of a name, or the number for why there is none: no set, then no such name
 abbrev pub found_there : Option Query → Result Query ℕ
@@ -147,16 +154,16 @@ name_for name = name ++ replicate (17 - length name) 0
 abbrev pub note_of : ℕ → ℕ → Query → Shown → Note
 note_of edit size q value = record { name = name_for q.name; kind = number_of_kind q.kind; edit = edit; values = values_for (has_some size q) value }
 
--- the notes of some values: one for each question, in order, whose value is another than it was told, with that value
+-- the notes of some values: one for each question, in order, of which a note is due, with its value
 abbrev pub AreNotesOf : ℕ → ℕ → List Query → List Shown → List Shown → List Note → Type 0
 AreNotesOf edit size [] told values notes = notes ≡ []
 AreNotesOf edit size (q ∷ questions) [] values notes = notes ≡ []
 AreNotesOf edit size (q ∷ questions) (before ∷ told) [] notes = notes ≡ []
 AreNotesOf edit size (q ∷ questions) (before ∷ told) (value ∷ values) notes =
-    ((value ≡ before) × AreNotesOf edit size questions told values notes)
-    ⊎ ((value ≢ before) × (rest : List Note) × (notes ≡ note_of edit size q value ∷ rest) × AreNotesOf edit size questions told values rest)
+    ((is_due q.bound before value ≡ false) × AreNotesOf edit size questions told values notes)
+    ⊎ ((is_due q.bound before value ≡ true) × (rest : List Note) × (notes ≡ note_of edit size q value ∷ rest) × AreNotesOf edit size questions told values rest)
 
--- the notes that there are of a set by a vector: of its questions, in order, whose answer is another than they were told
+-- the notes that there are of a set by a vector: of its questions, in order, of which a note is due
 abbrev pub AreNotes : QueriesState → State → List Note → Type 0
 AreNotes s state notes =
     AreNotesOf (length state.history.journal) (length (list_of state.history.journal)) s.questions s.told (map (answer_by state) s.questions) notes

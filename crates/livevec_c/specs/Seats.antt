@@ -78,3 +78,8 @@ Calls tries asked end (Some old) new = (object : Object) × (new ≡ Some object
 -- the same, and the answer for C
 abbrev pub Answers : {A : Type 0} → (Option (Said Shown) → A) → ℕ → Call → A → Option Object → Option Object → Type 0
 Answers answer_for tries asked answer old new = (end : Option (Said Shown)) × (answer ≡ answer_for end) × Calls tries asked end old new
+
+-- an edit by a seat, where there is such an edit
+abbrev pub EditsBySeat : ℕ → Option Call → Edited → Option Object → Option Object → Type 0
+EditsBySeat tries None answer old new = (answer ≡ unedited) × (new ≡ old)
+EditsBySeat tries (Some asked) answer old new = Answers edited_for tries asked answer old new

@@ -61,6 +61,11 @@ abbrev pub EditsBehind : LongEdit → SeriesEdited → Option Object → Option 
 EditsBehind edit answer None new = (answer ≡ unedited_by unheld) × (new ≡ None)
 EditsBehind edit answer (Some old) new = (object : Object) × (new ≡ Some object) × EditsLong edit answer old object
 
+-- the same where there is such an edit
+abbrev pub EditsBehindBy : Option LongEdit → SeriesEdited → Option Object → Option Object → Type 0
+EditsBehindBy None answer old new = (answer ≡ unedited_by unheld) × (new ≡ old)
+EditsBehindBy (Some edit) answer old new = EditsBehind edit answer old new
+
 -- the element under an index of a series, where there is one
 abbrev pub element_in : ℕ → Option Long → SeriesElement
 element_in index None = unelement unheld

@@ -2,8 +2,8 @@
 ghost use Rattle.std.specs.Prelude.{◌≡◌, None, Some, length};
 ghost use Rattle.lv_bodies.specs.Plain.{plain_sum};
 ghost use Rattle.lv_bodies.specs.declared.kinds.Kind.TheVariants as kinds;
-ghost use Rattle.livevec_c.specs.Cells.{affine_cell, automaton_cell, best_cell, greatest_cell, least_cell, values_cell};
-ghost use Rattle.livevec_c.specs.Columns.{filled_behind, scanned_behind};
+ghost use Rattle.livevec_c.specs.Cells.{affine_cell, automaton_cell, best_cell, extreme_cell, values_cell};
+ghost use Rattle.livevec_c.specs.Columns.{extreme_kind, filled_behind, scanned_behind};
 
 use crate::cells::{MapCell, StatesCell, TotalCell};
 use crate::columns::{Scanned, scan_held};
@@ -29,38 +29,26 @@ pub extern "C" fn livevec_proved_scan_sum(
     scan_held::<Sum>(alloc, slot, Some(Kind::Sum), lo, hi, inclusive, column)
 }
 
-/// The same of the least elements.
+/// The same of the least elements, or of the greatest.
 #[unsafe(no_mangle)]
-pub extern "C" fn livevec_proved_scan_least(
+pub extern "C" fn livevec_proved_scan_extreme(
     alloc: Global,
     slot: &mut Slot,
+    greatest: bool,
     lo: u32,
     hi: u32,
     inclusive: bool,
     column: &mut [i64],
 ) -> Scanned
-    ensures answer { result ≡ scanned_behind (Some kinds.Least) lo hi (length column.old) slot.old.raw.inner }
-    ensures column { column.new ≡ filled_behind (Some kinds.Least) (λ _. least_cell) inclusive lo hi column.old slot.old.raw.inner }
+    ensures answer { result ≡ scanned_behind (Some (extreme_kind greatest)) lo hi (length column.old) slot.old.raw.inner }
+    ensures column { column.new ≡ filled_behind (Some (extreme_kind greatest)) (λ _. extreme_cell greatest) inclusive lo hi column.old slot.old.raw.inner }
     ensures same { slot.new.raw.inner ≡ slot.old.raw.inner }
 {
-    scan_held::<Least>(alloc, slot, Some(Kind::Least), lo, hi, inclusive, column)
-}
-
-/// The same of the greatest elements.
-#[unsafe(no_mangle)]
-pub extern "C" fn livevec_proved_scan_greatest(
-    alloc: Global,
-    slot: &mut Slot,
-    lo: u32,
-    hi: u32,
-    inclusive: bool,
-    column: &mut [i64],
-) -> Scanned
-    ensures answer { result ≡ scanned_behind (Some kinds.Greatest) lo hi (length column.old) slot.old.raw.inner }
-    ensures column { column.new ≡ filled_behind (Some kinds.Greatest) (λ _. greatest_cell) inclusive lo hi column.old slot.old.raw.inner }
-    ensures same { slot.new.raw.inner ≡ slot.old.raw.inner }
-{
-    scan_held::<Greatest>(alloc, slot, Some(Kind::Greatest), lo, hi, inclusive, column)
+    if greatest {
+        scan_held::<Greatest>(alloc, slot, Some(Kind::Greatest), lo, hi, inclusive, column)
+    } else {
+        scan_held::<Least>(alloc, slot, Some(Kind::Least), lo, hi, inclusive, column)
+    }
 }
 
 /// The same of the greatest totals of neighbours.

@@ -13,6 +13,7 @@ mod closed;
 mod column_exports;
 mod columns;
 mod ended;
+mod flat_edits;
 mod frees;
 mod jobs;
 mod kind_boards;

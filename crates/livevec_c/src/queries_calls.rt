@@ -49,7 +49,7 @@ fn question_in(name: &[u8], kind: u32, lo: u32, hi: u32) -> Result<Query, u32>
     let Some(kind) = kind_of(kind) else {
         return Err(BAD_KIND);
     };
-    Ok(Query { name, kind, lo, hi })
+    Ok(Query::between(name, kind, lo, hi))
 }
 
 // Registers a question at an object.

@@ -6,7 +6,7 @@ use crate::only::number_of;
 use crate::said::shown_values;
 use crate::values::PlainValues;
 use lv_bodies::{Name, Shown};
-use lv_standing::Query;
+use lv_standing::{Query, Question, Span};
 
 /// That the answer of a query is another than it was told: its name, a zero behind it, its kind, after which edit, and its answer.
 #[repr(C)]
@@ -40,11 +40,14 @@ pub fn not_noted(refusal: u32, detail: u32) -> Noted
     }
 }
 
-/// Whether a question's range has an element of a vector of this size.
+/// Whether a question's span has an element of a vector of this size.
 pub fn has_some(question: &Query, size: u32) -> bool
     ensures { result ≡ has_some size question.now }
 {
-    question.lo < question.hi.min(size)
+    match question.span {
+        Span::Between { lo, hi } => lo < hi.min(size.into()),
+        Span::Last(count) => 0 < count.min(size.into()),
+    }
 }
 
 // The bytes of a name for C, which end in a zero.
@@ -78,8 +81,8 @@ fn put_note(notes: &mut [Note], place: usize, note: Note)
     }
 }
 
-// Notes a question where its value is another than it was told, behind so many notes, and tells how many there are then. Where there is
-// no room for it, it is counted only.
+// Notes a question if a note of its value is due, behind so many notes, and tells how many there are then. If there is no room for it, it
+// is counted only.
 fn note_one(
     question: &Query,
     before: &Shown,
@@ -92,15 +95,15 @@ fn note_one(
     requires { count ≤ 64 }
     ensures { NotesOne edit size question.now before.now value.now count notes.old result notes.new }
 {
-    if *value == *before {
+    if !question.is_due(before, value) {
         return count;
     }
     put_note(notes, count, note_of(question, *value, size, edit));
     count + 1
 }
 
-/// Notes each question whose value is another than it was told, at the front of the notes' places, and tells how many these are. Where
-/// there are more than places, what lies in the places is nothing to rely on.
+/// Notes each question of whose value a note is due, at the front of the notes' places, and tells how many these are. If there are more
+/// than places, what is in the places is nothing to rely on.
 pub fn note_all(
     questions: &[Query],
     told: &[Shown],

@@ -9,7 +9,7 @@ use crate::queries_notes::has_some;
 use crate::results::{BAD_KIND, Reduced, not_reduced};
 use crate::said::shown_values;
 use lv_bodies::{Kind, Shown};
-use lv_standing::{Answers, Query};
+use lv_standing::{Answers, Indices, Query};
 
 impl Answers<Query> for KindVector {
     ghost use Rattle.std.specs.Prelude.{◌≡◌, ⊤, refl};
@@ -29,11 +29,10 @@ impl Answers<Query> for KindVector {
 
     ghost answers_alike = { λ _ _ q is. ap (λ state. answer_by state q) is };
 
-    // Of the range what exists is asked, and is cheap until an edit touches it.
+    // Of the span what exists is asked, and is cheap until an edit touches it.
     fn answer(&mut self, question: &Query) -> Shown {
-        let end = question.hi.min(self.live().size());
-        let start = question.lo.min(end);
-        match self.value(question.kind, start, end) {
+        let Indices { lo, hi } = question.span.indices_in(self.live().size());
+        match self.value(question.kind, lo, hi) {
             Ok(answer) => answer.summary.shown(),
             Err(_) => unreachable!(),
         }

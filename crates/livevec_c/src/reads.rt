@@ -6,9 +6,8 @@ ghost use Rattle.lv_bodies.specs.Six.{six_operations_by};
 ghost use Rattle.lv_bodies.specs.declared.kinds.Kind.TheVariants as kinds;
 ghost use Rattle.lv_edits.specs.Ranges.{range_refusal, slice_of};
 ghost use Rattle.lv_tree.specs.KindSummaries.{summary_by};
-ghost use Rattle.livevec_c.specs.declared.results.Counted.TheVariants as counts;
 ghost use Rattle.livevec_c.specs.Answers.{no_element, spread, unreduced, with_part};
-ghost use Rattle.livevec_c.specs.Behind.{Asks, AsksBy, AsksObject, AsksVector, Counts, CountsObject, Gets, GetsObject, Reduces, ReducesBy, ReducesObject};
+ghost use Rattle.livevec_c.specs.Behind.{Asks, AsksBy, AsksObject, AsksVector, Counts, CountsBy, CountsObject, Gets, GetsObject, Reduces, ReducesBy, ReducesObject, counted_at};
 ghost use Rattle.livevec_c.specs.Plainly.{IsPlain};
 
 use crate::kind_vectors::KindVector;
@@ -89,7 +88,6 @@ fn count_of(object: &Object, what: Counted) -> Count
         Counted::Size => count_answer(vector.live().size()),
         Counted::Capacity => count_answer(vector.live().capacity()),
         Counted::Edits => count_answer(vector.live().edit()),
-        Counted::EditsLeft => count_answer(vector.edits_left()),
     }
 }
 
@@ -108,40 +106,28 @@ fn count_held(alloc: Global, slot: &mut Slot, what: Counted) -> Count
     }
 }
 
-/// How many elements there are.
-#[unsafe(no_mangle)]
-pub extern "C" fn livevec_proved_size(alloc: Global, slot: &mut Slot) -> Count
-    ensures answer { Counts counts.Size result slot.old.raw.inner }
-    ensures same { slot.new.raw.inner ≡ slot.old.raw.inner }
+// What is counted, by its number; nothing where it is no number of these.
+fn counted_by(number: u32) -> Option<Counted>
+    ensures { result ≡ counted_at number }
 {
-    count_held(alloc, slot, Counted::Size)
+    match number {
+        0 => Some(Counted::Size),
+        1 => Some(Counted::Capacity),
+        2 => Some(Counted::Edits),
+        _ => None,
+    }
 }
 
-/// How many elements fit into the memory that is held.
+/// How many there are of what a number names: elements, those that fit into the memory that is held, or edits that were accepted.
 #[unsafe(no_mangle)]
-pub extern "C" fn livevec_proved_capacity(alloc: Global, slot: &mut Slot) -> Count
-    ensures answer { Counts counts.Capacity result slot.old.raw.inner }
+pub extern "C" fn livevec_proved_count(alloc: Global, slot: &mut Slot, what: u32) -> Count
+    ensures answer { CountsBy (counted_at what) result slot.old.raw.inner }
     ensures same { slot.new.raw.inner ≡ slot.old.raw.inner }
 {
-    count_held(alloc, slot, Counted::Capacity)
-}
-
-/// How many edits were accepted.
-#[unsafe(no_mangle)]
-pub extern "C" fn livevec_proved_edits(alloc: Global, slot: &mut Slot) -> Count
-    ensures answer { Counts counts.Edits result slot.old.raw.inner }
-    ensures same { slot.new.raw.inner ≡ slot.old.raw.inner }
-{
-    count_held(alloc, slot, Counted::Edits)
-}
-
-/// How many more edits the limits allow.
-#[unsafe(no_mangle)]
-pub extern "C" fn livevec_proved_edits_left(alloc: Global, slot: &mut Slot) -> Count
-    ensures answer { Counts counts.EditsLeft result slot.old.raw.inner }
-    ensures same { slot.new.raw.inner ≡ slot.old.raw.inner }
-{
-    count_held(alloc, slot, Counted::EditsLeft)
+    match counted_by(what) {
+        None => uncounted(),
+        Some(what) => count_held(alloc, slot, what),
+    }
 }
 
 // A reduction of a vector, which is of all six kinds.

@@ -66,7 +66,6 @@ pub enum Counted {
     Size,
     Capacity,
     Edits,
-    EditsLeft,
 }
 
 /// A count.

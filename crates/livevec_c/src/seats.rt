@@ -2,9 +2,11 @@
 ghost use Rattle.std.specs.Prelude.{◌≡◌, nat_lt};
 ghost use Rattle.lv_machine.specs.declared.events.Call.TheVariants as asked;
 ghost use Rattle.lv_board.specs.Sharing.{Makes};
+ghost use Rattle.livevec_c.specs.FlatEdits.{seat_edit_at};
 ghost use Rattle.livevec_c.specs.Kinds.{sat_at};
-ghost use Rattle.livevec_c.specs.Seats.{Answers, Calls, CallsObject, count_for, edited_for, element_for, reduced_for, renewed_for};
+ghost use Rattle.livevec_c.specs.Seats.{Answers, Calls, CallsObject, EditsBySeat, count_for, edited_for, element_for, reduced_for, renewed_for};
 
+use crate::flat_edits::seat_edit_of;
 use crate::kind_seats::KindSeat;
 use crate::objects::Object;
 use crate::results::{Count, Edited, Element, Reduced, Renewed};
@@ -52,39 +54,22 @@ fn call_held(alloc: Global, slot: &mut Slot, call: Call, tries: u32) -> Option<S
     }
 }
 
-/// Puts an element at the end, by so many tries at most.
+/// Makes an edit by its number, by so many tries at most.
 #[unsafe(no_mangle)]
-pub extern "C" fn livevec_proved_seat_push(
+pub extern "C" fn livevec_proved_seat_edit(
     alloc: Global,
     slot: &mut Slot,
-    value: i64,
-    tries: u32,
-) -> Edited
-    ensures { Answers edited_for tries (asked.Push value) result slot.old.raw.inner slot.new.raw.inner }
-{
-    edit_said(call_held(alloc, slot, Call::Push(value), tries))
-}
-
-/// Drops the last element, by so many tries at most.
-#[unsafe(no_mangle)]
-pub extern "C" fn livevec_proved_seat_pop(alloc: Global, slot: &mut Slot, tries: u32) -> Edited
-    ensures { Answers edited_for tries asked.Pop result slot.old.raw.inner slot.new.raw.inner }
-{
-    edit_said(call_held(alloc, slot, Call::Pop, tries))
-}
-
-/// Overwrites the element at an index, by so many tries at most.
-#[unsafe(no_mangle)]
-pub extern "C" fn livevec_proved_seat_write(
-    alloc: Global,
-    slot: &mut Slot,
+    what: u32,
     index: u32,
     value: i64,
     tries: u32,
 ) -> Edited
-    ensures { Answers edited_for tries (asked.Write index value) result slot.old.raw.inner slot.new.raw.inner }
+    ensures { EditsBySeat tries (seat_edit_at what index value) result slot.old.raw.inner slot.new.raw.inner }
 {
-    edit_said(call_held(alloc, slot, Call::Write { index, value }, tries))
+    match seat_edit_of(what, index, value) {
+        None => edit_said(None),
+        Some(call) => edit_said(call_held(alloc, slot, call, tries)),
+    }
 }
 
 /// The element at an index, where the seat looks.

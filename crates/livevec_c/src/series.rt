@@ -2,9 +2,11 @@
 ghost use Rattle.std.specs.Prelude.{◌≡◌, IfOk};
 ghost use Rattle.lv_bodies.specs.Plain.{program_table};
 ghost use Rattle.lv_series.specs.declared.edits.LongEdit.TheVariants as asked;
-ghost use Rattle.livevec_c.specs.SeriesBehind.{EditsBehind, EditsLong, EditsSamplesBy, IsNewSeries, OpensSeries, sample_edit_of};
+ghost use Rattle.livevec_c.specs.FlatEdits.{long_edit_at};
+ghost use Rattle.livevec_c.specs.SeriesBehind.{EditsBehind, EditsBehindBy, EditsLong, EditsSamplesBy, IsNewSeries, OpensSeries, sample_edit_of};
 ghost use Rattle.livevec_c.specs.declared.objects.Object.TheVariants as objects;
 
+use crate::flat_edits::long_edit_of;
 use crate::objects::Object;
 use crate::results::{IN_USE, NO_MEMORY};
 use crate::series_results::{SeriesEdited, edit_answer, not_edited, not_held, sample_answer};
@@ -117,14 +119,6 @@ pub extern "C" fn livevec_proved_series_push(
     answer
 }
 
-/// Drops the last element.
-#[unsafe(no_mangle)]
-pub extern "C" fn livevec_proved_series_pop(alloc: Global, slot: &mut Slot) -> SeriesEdited
-    ensures { EditsBehind asked.Pop result slot.old.raw.inner slot.new.raw.inner }
-{
-    edit_held(alloc, slot, LongEdit::Pop)
-}
-
 /// Overwrites the element under an index.
 #[unsafe(no_mangle)]
 pub extern "C" fn livevec_proved_series_write(
@@ -144,39 +138,20 @@ pub extern "C" fn livevec_proved_series_write(
     answer
 }
 
-/// Exchanges the elements under two indices.
+/// Makes an edit by its number.
 #[unsafe(no_mangle)]
-pub extern "C" fn livevec_proved_series_swap(
+pub extern "C" fn livevec_proved_series_edit(
     alloc: Global,
     slot: &mut Slot,
-    first: u64,
-    second: u64,
-) -> SeriesEdited
-    ensures { EditsBehind (asked.Swap first second) result slot.old.raw.inner slot.new.raw.inner }
-{
-    edit_held(alloc, slot, LongEdit::Swap { first, second })
-}
-
-/// Drops the elements from an index on.
-#[unsafe(no_mangle)]
-pub extern "C" fn livevec_proved_series_truncate(
-    alloc: Global,
-    slot: &mut Slot,
-    size: u64,
-) -> SeriesEdited
-    ensures { EditsBehind (asked.Truncate size) result slot.old.raw.inner slot.new.raw.inner }
-{
-    edit_held(alloc, slot, LongEdit::Truncate(size))
-}
-
-/// Drops the elements before an index.
-#[unsafe(no_mangle)]
-pub extern "C" fn livevec_proved_series_expire(
-    alloc: Global,
-    slot: &mut Slot,
+    what: u32,
     index: u64,
+    second: u64,
+    value: i64,
 ) -> SeriesEdited
-    ensures { EditsBehind (asked.Expire index) result slot.old.raw.inner slot.new.raw.inner }
+    ensures { EditsBehindBy (long_edit_at what index second value) result slot.old.raw.inner slot.new.raw.inner }
 {
-    edit_held(alloc, slot, LongEdit::Expire(index))
+    match long_edit_of(what, index, second, value) {
+        None => not_edited(not_held()),
+        Some(edit) => edit_held(alloc, slot, edit),
+    }
 }

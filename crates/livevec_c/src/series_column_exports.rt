@@ -1,7 +1,7 @@
 //! The exports that scan a series: one for each kind, whose columns have a type of their own, and one for all six at once.
 ghost use Rattle.std.specs.Prelude.{◌≡◌, length};
 ghost use Rattle.lv_bodies.specs.Plain.{plain_sum};
-ghost use Rattle.livevec_c.specs.Cells.{affine_cell, automaton_cell, best_cell, greatest_cell, least_cell, values_cell};
+ghost use Rattle.livevec_c.specs.Cells.{affine_cell, automaton_cell, best_cell, extreme_cell, values_cell};
 ghost use Rattle.livevec_c.specs.SeriesHeld.{series_behind};
 ghost use Rattle.livevec_c.specs.SeriesPieces.{column_in, scanned_in};
 
@@ -31,11 +31,12 @@ pub extern "C" fn livevec_proved_series_scan_sum(
     scan_held::<Sum>(alloc, slot, lo, at, hi, inclusive, column)
 }
 
-/// The same of the least elements.
+/// The same of the least elements, or of the greatest.
 #[unsafe(no_mangle)]
-pub extern "C" fn livevec_proved_series_scan_least(
+pub extern "C" fn livevec_proved_series_scan_extreme(
     alloc: Global,
     slot: &mut Slot,
+    greatest: bool,
     lo: u64,
     at: u64,
     hi: u64,
@@ -43,28 +44,14 @@ pub extern "C" fn livevec_proved_series_scan_least(
     column: &mut [i64],
 ) -> SeriesScanned
     ensures answer { result ≡ scanned_in lo at hi (length column.old) (series_behind slot.old.raw.inner) }
-    ensures column { column.new ≡ column_in (λ _. least_cell) inclusive lo at hi column.old (series_behind slot.old.raw.inner) }
+    ensures column { column.new ≡ column_in (λ _. extreme_cell greatest) inclusive lo at hi column.old (series_behind slot.old.raw.inner) }
     ensures same { slot.new.raw.inner ≡ slot.old.raw.inner }
 {
-    scan_held::<Least>(alloc, slot, lo, at, hi, inclusive, column)
-}
-
-/// The same of the greatest elements.
-#[unsafe(no_mangle)]
-pub extern "C" fn livevec_proved_series_scan_greatest(
-    alloc: Global,
-    slot: &mut Slot,
-    lo: u64,
-    at: u64,
-    hi: u64,
-    inclusive: bool,
-    column: &mut [i64],
-) -> SeriesScanned
-    ensures answer { result ≡ scanned_in lo at hi (length column.old) (series_behind slot.old.raw.inner) }
-    ensures column { column.new ≡ column_in (λ _. greatest_cell) inclusive lo at hi column.old (series_behind slot.old.raw.inner) }
-    ensures same { slot.new.raw.inner ≡ slot.old.raw.inner }
-{
-    scan_held::<Greatest>(alloc, slot, lo, at, hi, inclusive, column)
+    if greatest {
+        scan_held::<Greatest>(alloc, slot, lo, at, hi, inclusive, column)
+    } else {
+        scan_held::<Least>(alloc, slot, lo, at, hi, inclusive, column)
+    }
 }
 
 /// The same of the greatest totals of neighbours.

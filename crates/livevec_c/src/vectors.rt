@@ -2,8 +2,10 @@
 ghost use Rattle.std.specs.Prelude.{◌≡◌};
 ghost use Rattle.lv_edits.specs.declared.edit.Edit.TheVariants as asked;
 ghost use Rattle.livevec_c.specs.Answers.{unedited};
-ghost use Rattle.livevec_c.specs.Behind.{Edits, EditsObject};
+ghost use Rattle.livevec_c.specs.Behind.{Edits, EditsBy, EditsObject};
+ghost use Rattle.livevec_c.specs.FlatEdits.{edit_at};
 
+use crate::flat_edits::edit_of;
 use crate::objects::Object;
 use crate::results::{Edited, NO_HANDLE, edit_answer};
 use crate::slots::{Slot, is_full, put, take_full};
@@ -67,14 +69,6 @@ pub extern "C" fn livevec_proved_push(alloc: Global, slot: &mut Slot, value: i64
     edit_held(alloc, slot, Edit::Push(value))
 }
 
-/// Drops the last element.
-#[unsafe(no_mangle)]
-pub extern "C" fn livevec_proved_pop(alloc: Global, slot: &mut Slot) -> Edited
-    ensures { Edits asked.Pop result slot.old.raw.inner slot.new.raw.inner }
-{
-    edit_held(alloc, slot, Edit::Pop)
-}
-
 /// Overwrites the element at an index.
 #[unsafe(no_mangle)]
 pub extern "C" fn livevec_proved_write(
@@ -94,31 +88,20 @@ pub extern "C" fn livevec_proved_write(
     answer
 }
 
-/// Makes room for so many elements in all.
+/// Makes an edit by its number.
 #[unsafe(no_mangle)]
-pub extern "C" fn livevec_proved_reserve(alloc: Global, slot: &mut Slot, elements: u32) -> Edited
-    ensures { Edits (asked.Reserve elements) result slot.old.raw.inner slot.new.raw.inner }
-{
-    edit_held(alloc, slot, Edit::Reserve(elements))
-}
-
-/// Exchanges the elements at two indices.
-#[unsafe(no_mangle)]
-pub extern "C" fn livevec_proved_swap(
+pub extern "C" fn livevec_proved_edit(
     alloc: Global,
     slot: &mut Slot,
-    first: u32,
+    what: u32,
+    index: u32,
     second: u32,
+    value: i64,
 ) -> Edited
-    ensures { Edits (asked.Swap first second) result slot.old.raw.inner slot.new.raw.inner }
+    ensures { EditsBy (edit_at what index second value) result slot.old.raw.inner slot.new.raw.inner }
 {
-    edit_held(alloc, slot, Edit::Swap { first, second })
-}
-
-/// Keeps so many elements, the first ones, and drops the others.
-#[unsafe(no_mangle)]
-pub extern "C" fn livevec_proved_truncate(alloc: Global, slot: &mut Slot, elements: u32) -> Edited
-    ensures { Edits (asked.Truncate elements) result slot.old.raw.inner slot.new.raw.inner }
-{
-    edit_held(alloc, slot, Edit::Truncate(elements))
+    match edit_of(what, index, second, value) {
+        None => not_held(),
+        Some(edit) => edit_held(alloc, slot, edit),
+    }
 }

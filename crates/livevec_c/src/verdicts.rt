@@ -1,9 +1,10 @@
 //! Why an edit would be refused, before it is made.
 ghost use Rattle.std.specs.Prelude.{◌≡◌};
-ghost use Rattle.lv_edits.specs.declared.edit.Edit.TheVariants as asked;
 ghost use Rattle.livevec_c.specs.Answers.{judged_by, unjudged};
-ghost use Rattle.livevec_c.specs.Behind.{Judges, JudgesObject};
+ghost use Rattle.livevec_c.specs.Behind.{Judges, JudgesBy, JudgesObject};
+ghost use Rattle.livevec_c.specs.FlatEdits.{edit_at};
 
+use crate::flat_edits::edit_of;
 use crate::objects::Object;
 use crate::results::{NO_HANDLE, Verdict, detail};
 use crate::slots::{Slot, put, take};
@@ -62,74 +63,21 @@ fn judge_held(alloc: Global, slot: &mut Slot, edit: Edit) -> Verdict
     }
 }
 
-/// Why a push would be refused.
+/// Why an edit would be refused, by its number.
 #[unsafe(no_mangle)]
-pub extern "C" fn livevec_proved_verdict_push(alloc: Global, slot: &mut Slot, value: i64) -> Verdict
-    ensures answer { Judges (asked.Push value) result slot.old.raw.inner }
-    ensures same { slot.new.raw.inner ≡ slot.old.raw.inner }
-{
-    judge_held(alloc, slot, Edit::Push(value))
-}
-
-/// Why a pop would be refused.
-#[unsafe(no_mangle)]
-pub extern "C" fn livevec_proved_verdict_pop(alloc: Global, slot: &mut Slot) -> Verdict
-    ensures answer { Judges asked.Pop result slot.old.raw.inner }
-    ensures same { slot.new.raw.inner ≡ slot.old.raw.inner }
-{
-    judge_held(alloc, slot, Edit::Pop)
-}
-
-/// Why a write would be refused.
-#[unsafe(no_mangle)]
-pub extern "C" fn livevec_proved_verdict_write(
+pub extern "C" fn livevec_proved_verdict(
     alloc: Global,
     slot: &mut Slot,
+    what: u32,
     index: u32,
+    second: u32,
     value: i64,
 ) -> Verdict
-    ensures answer { Judges (asked.Write index value) result slot.old.raw.inner }
+    ensures answer { JudgesBy (edit_at what index second value) result slot.old.raw.inner }
     ensures same { slot.new.raw.inner ≡ slot.old.raw.inner }
 {
-    judge_held(alloc, slot, Edit::Write { index, value })
-}
-
-/// Why room for so many elements would be refused.
-#[unsafe(no_mangle)]
-pub extern "C" fn livevec_proved_verdict_reserve(
-    alloc: Global,
-    slot: &mut Slot,
-    elements: u32,
-) -> Verdict
-    ensures answer { Judges (asked.Reserve elements) result slot.old.raw.inner }
-    ensures same { slot.new.raw.inner ≡ slot.old.raw.inner }
-{
-    judge_held(alloc, slot, Edit::Reserve(elements))
-}
-
-/// Why a swap would be refused.
-#[unsafe(no_mangle)]
-pub extern "C" fn livevec_proved_verdict_swap(
-    alloc: Global,
-    slot: &mut Slot,
-    first: u32,
-    second: u32,
-) -> Verdict
-    ensures answer { Judges (asked.Swap first second) result slot.old.raw.inner }
-    ensures same { slot.new.raw.inner ≡ slot.old.raw.inner }
-{
-    judge_held(alloc, slot, Edit::Swap { first, second })
-}
-
-/// Why a truncate would be refused.
-#[unsafe(no_mangle)]
-pub extern "C" fn livevec_proved_verdict_truncate(
-    alloc: Global,
-    slot: &mut Slot,
-    elements: u32,
-) -> Verdict
-    ensures answer { Judges (asked.Truncate elements) result slot.old.raw.inner }
-    ensures same { slot.new.raw.inner ≡ slot.old.raw.inner }
-{
-    judge_held(alloc, slot, Edit::Truncate(elements))
+    match edit_of(what, index, second, value) {
+        None => not_judged(),
+        Some(edit) => judge_held(alloc, slot, edit),
+    }
 }

@@ -1,0 +1,22 @@
+-- Edits by their numbers in C, a `livevec_edit_kind` or 7 of an expiry: an index or how many elements, a second index, and a value.
+use Rattle.std.specs.Prelude.{ℕ, ℤ, Option, Some, None, [], ◌∷◌, slice_get, unwrap_or}
+use Rattle.lv_edits.specs.declared.edit.Edit.{Edit}
+use Rattle.lv_edits.specs.declared.edit.Edit.TheVariants as edits
+use Rattle.lv_machine.specs.declared.events.Call.{Call}
+use Rattle.lv_machine.specs.declared.events.Call.TheVariants as calls
+use Rattle.lv_series.specs.declared.edits.LongEdit.{LongEdit}
+use Rattle.lv_series.specs.declared.edits.LongEdit.TheVariants as longs
+
+-- an edit of a vector, nothing of a number that is none's
+abbrev pub edit_at : ℕ → ℕ → ℕ → ℤ → Option Edit
+edit_at what i j x =
+    unwrap_or (slice_get (None ∷ Some (edits.Push x) ∷ Some edits.Pop ∷ Some (edits.Write i x) ∷ Some (edits.Reserve i) ∷ Some (edits.Swap i j) ∷ Some (edits.Truncate i) ∷ []) what) None
+
+-- the same of a series, which has nothing to reserve
+abbrev pub long_edit_at : ℕ → ℕ → ℕ → ℤ → Option LongEdit
+long_edit_at what i j x =
+    unwrap_or (slice_get (None ∷ Some (longs.Push x) ∷ Some longs.Pop ∷ Some (longs.Write i x) ∷ None ∷ Some (longs.Swap i j) ∷ Some (longs.Truncate i) ∷ Some (longs.Expire i) ∷ []) what) None
+
+-- the same by a seat
+abbrev pub seat_edit_at : ℕ → ℕ → ℤ → Option Call
+seat_edit_at what i x = unwrap_or (slice_get (None ∷ Some (calls.Push x) ∷ Some calls.Pop ∷ Some (calls.Write i x) ∷ []) what) None
