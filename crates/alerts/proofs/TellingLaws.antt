@@ -1,27 +1,62 @@
 -- What a subscriber is told, one look after another, and at the end.
-use Rattle.std.proofs.Common.{◌≡◌, ◌⊎◌, ℕ, ◌<◌, ◌≤◌, false, if◌then◌else◌, List, [], ◌∷◌, ◌++◌, All, Contains, length, map, get_or, refl, ap, sym, subst, ◌∙◌, inl, inr, arith}
+use Rattle.std.proofs.Common.{◌≡◌, ◌⊎◌, ℕ, ℤ, ◌<◌, ◌≤◌, Bool, true, false, true≢false, not, ◌&&◌, Option, Some, None, if◌then◌else◌, List, [], ◌∷◌, ◌++◌, All, Contains, length, map, get_or, refl, ap, sym, subst, ◌∙◌, ap₂, ◌==◌, inl, inr, arith}
 use Rattle.std.specs.List.{AllByRecursion, IsDistinct}
 use Rattle.std.specs.List.Sorted.{IsStrictlyIncreasing}
 use Rattle.std.specs.Str.{bytes_eq}
 use Rattle.std.specs.Cmp.Lexicographic.{nat_list_eq_equiv}
-use Rattle.std.proofs.lemmas.Bool.{cases_lt}
+use Rattle.std.specs.Option.{option_eq}
+use Rattle.std.specs.Ordering.{int_eq}
+use Rattle.std.proofs.lemmas.Bool.{cases_Bool, cases_lt}
+use Rattle.std.proofs.lemmas.Bool.Decides.{Decides-eqb, Decides-int_eq}
+use Rattle.std.proofs.lemmas.Slice.Eq.{bytes_eq-Decides}
 use Rattle.std.proofs.lemmas.List.{map_push}
 use Rattle.std.proofs.lemmas.List.Elements.{All-from_recursion, All-map, All-push, All-weaker, Contains-get_or, recursion_from_All}
 use mathlib.Core.List.{IsPrefix}
 use Rattle.lv_vector.specs.Bounds.{Bounds}
 use Rattle.lv_vector.specs.Shown.{Shown}
+use Rattle.lv_vector.specs.Shown.TheVariants.{Sum, Least, Greatest, Best, Affine, Automaton}
 use Rattle.lv_vector.specs.Edit.{Edit}
 use Rattle.lv_vector.specs.History.{History}
 use Rattle.lv_vector.specs.Note.{Note}
 use Rattle.lv_vector.specs.Query.{Query}
 use Rattle.lv_vector.specs.ToldType.{Told}
-use Rattle.lv_vector.specs.Queries.{watch_answer}
-use Rattle.lv_vector.specs.Notes.{AreNotesOf, HasTold, SubscriberState}
+use Rattle.lv_vector.specs.Queries.{AreNotesOf, is_due, same_value, watch_answer}
+use Rattle.lv_vector.specs.QueryLaws.{never_due}
+use Rattle.lv_vector.specs.Notes.{HasTold, SubscriberState}
 use Rattle.lv_vector.specs.Hub.{IsVector}
 use Rattle.alerts.specs.declared.running.Report.{Report}
 use Rattle.alerts.specs.Alerts.{IsNoteOf, IsTrueOf, TellsOf, edits_of, told_by, told_from, told_last}
-use Rattle.alerts.specs.Followed.{Follows, KeepsFollowing}
+use Rattle.alerts.specs.Followed.{AreUnbounded, Follows, KeepsFollowing}
 use Rattle.alerts.proofs.Beginnings.{prefix_length, prefix_self, prefix_trans, prefix_whole, rising_push}
+
+-- an answer of which no note is due, where there is no bound, is as it was before
+same_number : (a b : Option ℤ) → option_eq int_eq a b ≡ true → a ≡ b
+same_number None None same = refl
+same_number (Some a) (Some b) same = ap Some ((Decides-int_eq a b).0 same)
+same_number _ _ same = absurd (true≢false (sym same))
+
+both_same : (a b : Bool) → (a && b) ≡ true → (a ≡ true) × (b ≡ true)
+both_same true true same = (refl, refl)
+both_same true false same = absurd (true≢false (sym same))
+both_same false b same = absurd (true≢false (sym same))
+
+same_answer : (a b : Shown) → same_value a b ≡ true → a ≡ b
+same_answer (Sum a) (Sum b) same = ap Sum ((Decides-eqb a b).0 same)
+same_answer (Least a) (Least b) same = ap Least (same_number a b same)
+same_answer (Greatest a) (Greatest b) same = ap Greatest (same_number a b same)
+same_answer (Best a) (Best b) same = ap Best (same_number a b same)
+same_answer (Affine a b) (Affine c d) same =
+    let both = both_same (a == c) (b == d) same in
+    ap₂ Affine ((Decides-eqb a c).0 both.0) ((Decides-eqb b d).0 both.1)
+same_answer (Automaton a) (Automaton b) same = ap Automaton ((bytes_eq-Decides a b).0 same)
+same_answer _ _ same = absurd (true≢false (sym same))
+
+stays : (before now : Shown) → is_due None before now ≡ false → now ≡ before
+stays before now idle =
+    elim (cases_Bool (same_value now before)) [
+      | inl same ↦ same_answer now before same
+      | inr other ↦ absurd (true≢false (ap not (sym other) ∙ idle))
+    ]
 
 -- the names of questions
 abbrev pub names : List Query → List (List ℕ)
@@ -53,17 +88,17 @@ behind p v rest f g (q ∷ qs) apart told = (
 )
 
 -- by the notes of values each question is told its value
-notes_tell : (f g : Query → Shown) (qs : List Query) (notes : List Note) → IsDistinct bytes_eq (names qs) → AreNotesOf qs (map f qs) (map g qs) notes → AllByRecursion (λ q. told_by notes q (f q) ≡ g q) qs
+notes_tell : (f g : Query → Shown) (qs : List Query) (notes : List Note) → AllByRecursion (λ q. q.bound ≡ None) qs → IsDistinct bytes_eq (names qs) → AreNotesOf qs (map f qs) (map g qs) notes → AllByRecursion (λ q. told_by notes q (f q) ≡ g q) qs
 unfolding IsDistinct
-notes_tell f g [] notes apart none = tt
-notes_tell f g (p ∷ qs) notes apart (inl same) = (
-  elsewhere p (f p) qs (map f qs) (map g qs) notes apart.0 same.1 ∙ sym same.0,
-  notes_tell f g qs notes apart.1 same.1,
+notes_tell f g [] notes unbounded apart none = tt
+notes_tell f g (p ∷ qs) notes unbounded apart (inl same) = (
+  elsewhere p (f p) qs (map f qs) (map g qs) notes apart.0 same.1 ∙ sym (stays (f p) (g p) (subst (λ bound. is_due bound (f p) (g p) ≡ false) unbounded.0 same.0)),
+  notes_tell f g qs notes unbounded.1 apart.1 same.1,
 )
-notes_tell f g (p ∷ qs) notes apart (inr note) =
+notes_tell f g (p ∷ qs) notes unbounded apart (inr note) =
     subst (λ ns. AllByRecursion (λ q. told_by ns q (f q) ≡ g q) (p ∷ qs)) (sym note.2) (
       ap (λ c. if c then g p else told_by note.1 p (f p)) (nat_list_eq_equiv.refl p.name),
-      behind p (g p) note.1 f g qs apart.0 (notes_tell f g qs note.1 apart.1 note.3),
+      behind p (g p) note.1 f g qs apart.0 (notes_tell f g qs note.1 unbounded.1 apart.1 note.3),
     )
 
 -- they are notes of the questions
@@ -80,7 +115,7 @@ notes_true edits all f (p ∷ qs) notes asked (inr note) =
 none_new : (f : Query → Shown) (qs : List Query) (notes : List Note) → AreNotesOf qs (map f qs) (map f qs) notes → notes ≡ []
 none_new f [] notes none = none
 none_new f (p ∷ qs) notes (inl same) = none_new f qs notes same.1
-none_new f (p ∷ qs) notes (inr note) = absurd (note.0 refl)
+none_new f (p ∷ qs) notes (inr note) = absurd (true≢false (sym note.0 ∙ never_due p.bound (f p)))
 
 -- a telling of the edits that there are now, after some
 module _ (qs : List Query) (at now : List Edit) (begins : IsPrefix at now) (told : List Told) (t : Told) (edit : t.edit ≡ length now) (notes : AreNotesOf qs (map (watch_answer at) qs) (map (watch_answer now) qs) t.notes.items) where
@@ -98,12 +133,12 @@ module _ (qs : List Query) (at now : List Edit) (begins : IsPrefix at now) (told
       All-push (IsTrueOf now qs) told t (All-weaker (IsTrueOf at qs) (IsTrueOf now qs) (λ u is. record { first = is.first; begins = prefix_trans is.first at now is.begins begins; edit = is.edit; notes = is.notes }) told before) true_now
 
   -- each question was told its answer
-  answers_more : IsDistinct bytes_eq (names qs) → All (λ q. told_last told q ≡ watch_answer at q) qs → All (λ q. told_last (told ++ t ∷ []) q ≡ watch_answer now q) qs
-  answers_more apart answers k d inside =
+  answers_more : AreUnbounded qs → IsDistinct bytes_eq (names qs) → All (λ q. told_last told q ≡ watch_answer at q) qs → All (λ q. told_last (told ++ t ∷ []) q ≡ watch_answer now q) qs
+  answers_more unbounded apart answers k d inside =
       let q = get_or qs k d in
       told_more told t q (watch_answer [] q)
       ∙ ap (told_by t.notes.items q) (answers k d inside)
-      ∙ All-from_recursion (λ p. told_by t.notes.items p (watch_answer at p) ≡ watch_answer now p) qs (notes_tell (watch_answer at) (watch_answer now) qs t.notes.items apart notes) k d inside
+      ∙ All-from_recursion (λ p. told_by t.notes.items p (watch_answer at p) ≡ watch_answer now p) qs (notes_tell (watch_answer at) (watch_answer now) qs t.notes.items (recursion_from_All (λ p. p.bound ≡ None) qs unbounded) apart notes) k d inside
 
   -- the edits rise yet, where this one is later
   rising_more : length at < t.edit → All (IsTrueOf at qs) told → IsStrictlyIncreasing (edits_of told) → IsStrictlyIncreasing (edits_of (told ++ t ∷ []))
@@ -123,11 +158,12 @@ tells_more qs limits old new told t has is =
       at = now;
       begins = prefix_self now;
       watched_are = has.questions ∙ is.watched_are;
+      unbounded = is.unbounded;
       apart = is.apart;
       values_are = values;
       true_told = true_more qs is.at now begins told t has.edit notes is.true_told;
       rising = rising_more qs is.at now begins told t has.edit notes (omega (arith, has.later, prefix_length is.at old.share.seen is.begins)) is.true_told is.rising;
-      answers = answers_more qs is.at now begins told t has.edit notes is.apart is.answers;
+      answers = answers_more qs is.at now begins told t has.edit notes is.unbounded is.apart is.answers;
     }
 
 pub keeps_more : (limits : Bounds) (old new : SubscriberState) (told all : List Told) (t : Told) → all ≡ told ++ t ∷ [] → HasTold limits old new t → KeepsFollowing old new told all
@@ -156,6 +192,7 @@ follows_so qs s told seen watched values all longer watched_are values_are all_a
       at = is.at;
       begins = prefix_trans is.at s.share.seen seen is.begins longer;
       watched_are = watched_are ∙ is.watched_are;
+      unbounded = is.unbounded;
       apart = is.apart;
       values_are = values_are ∙ is.values_are;
       true_told = is.true_told;
@@ -177,7 +214,7 @@ tells_last qs limits seen watched values history r is vector seen_so edit last c
       rising = is.rising;
       later = later_or_none begins notes (cases_lt (length is.at) (length now));
       end = edit;
-      answers = answers_more qs is.at now begins r.told.items r.last edit notes is.apart is.answers;
+      answers = answers_more qs is.at now begins r.told.items r.last edit notes is.unbounded is.apart is.answers;
       counted = counted;
     }
   where

@@ -9,11 +9,11 @@ use Rattle.std.proofs.lemmas.Map.Keys.{IsDistinct-push}
 use Rattle.lv_vector.specs.Edit.{Edit}
 use Rattle.lv_vector.specs.Query.{Query}
 use Rattle.lv_vector.specs.ToldType.{Told}
-use Rattle.lv_vector.specs.Refusal.TheVariants.{BadRange}
-use Rattle.lv_vector.specs.Queries.{name_refusal, query_of, watch_answer}
+use Rattle.lv_vector.specs.Queries.{query_of, watch_answer}
+use Rattle.lv_vector.specs.QueryLaws.{new_name}
 use Rattle.lv_vector.specs.Notes.{SubscriberState, question_refusal}
 use Rattle.alerts.specs.Alerts.{IsTrueOf}
-use Rattle.alerts.specs.Followed.{Follows, IsWatching}
+use Rattle.alerts.specs.Followed.{AreUnbounded, Follows, IsWatching}
 use Rattle.alerts.proofs.Beginnings.{prefix_none}
 use Rattle.alerts.proofs.TellingLaws.{names}
 
@@ -29,11 +29,6 @@ unnamed (p ∷ qs) name none =
     let so = not_first (bytes_eq p.name name) p (query_of qs name) none in
     ap (λ b. b || list_any (bytes_eq name) (names qs)) (nat_list_eq_equiv.symm name p.name ∙ so.0) ∙ unnamed qs name so.1
 
-not_found : (late : Bool) (all : List Query) (found : Option Query) → (if late then Some BadRange else name_refusal 64 all found) ≡ None → found ≡ None
-not_found true all found none = absurd (cc none)
-not_found false all (Some q) none = absurd (cc none)
-not_found false all None none = refl
-
 pub watches_none : (s : SubscriberState) → s.questions ≡ [] → s.told ≡ [] → IsWatching [] s
 unfolding IsDistinct
 watches_none s questions told = record { questions_are = questions; answers = told; apart = tt }
@@ -41,7 +36,7 @@ watches_none s questions told = record { questions_are = questions; answers = to
 -- one question more, which wasn't refused
 pub watches_more : (qs : List Query) (q : Query) (old new : SubscriberState) → IsWatching qs old → question_refusal old.questions q ≡ None → new.questions ≡ old.questions ++ q ∷ [] → new.told ≡ old.told ++ watch_answer [] q ∷ [] → IsWatching (qs ++ q ∷ []) new
 watches_more qs q old new is granted questions told =
-    let found = not_found _ qs (query_of qs q.name) (subst (λ ps. question_refusal ps q ≡ None) is.questions_are granted) in record {
+    let found = new_name 64 qs q.name q.span (subst (λ ps. question_refusal ps q ≡ None) is.questions_are granted) in record {
       questions_are = questions ∙ ap (λ ps. ps ++ q ∷ []) is.questions_are;
       answers = told ∙ ap (λ vs. vs ++ watch_answer [] q ∷ []) is.answers ∙ sym (map_push (watch_answer []) qs q);
       apart = subst (IsDistinct bytes_eq) (sym (map_push (λ p. p.name) qs q)) (IsDistinct-push nat_list_eq_equiv (names qs) q.name is.apart (unnamed qs q.name found));
@@ -53,12 +48,13 @@ watches_next qs i q old new inside is watching granted questions told =
     subst (λ ps. IsWatching ps new) (sym (take_more qs i q inside ∙ ap (λ x. take i qs ++ x ∷ []) (sym is))) (watches_more (take i qs) q old new watching granted questions told)
 
 -- a subscriber that was told nothing follows
-pub follows_new : (qs : List Query) (seen : List Edit) (s : SubscriberState) (told : List Told) → told ≡ [] → IsWatching qs s → Follows qs seen s.questions s.told told
-follows_new qs seen s told none is =
+pub follows_new : (qs : List Query) (seen : List Edit) (s : SubscriberState) (told : List Told) → told ≡ [] → AreUnbounded qs → IsWatching qs s → Follows qs seen s.questions s.told told
+follows_new qs seen s told none unbounded is =
     subst (Follows qs seen s.questions s.told) (sym none) record {
       at = [];
       begins = prefix_none seen;
       watched_are = is.questions_are;
+      unbounded = unbounded;
       apart = is.apart;
       values_are = is.answers;
       true_told = All-nil (IsTrueOf [] qs);

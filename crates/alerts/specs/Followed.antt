@@ -1,5 +1,5 @@
 -- What a subscriber and the sensors are at, and what they keep.
-use Rattle.std.specs.Prelude.{◌≡◌, ℕ, ◌+◌, List, [], All, map}
+use Rattle.std.specs.Prelude.{◌≡◌, ℕ, ◌+◌, None, List, [], All, map}
 use Rattle.std.specs.List.{IsDistinct}
 use Rattle.std.specs.List.Sorted.{IsStrictlyIncreasing}
 use Rattle.std.specs.Str.{bytes_eq}
@@ -13,6 +13,10 @@ use Rattle.lv_vector.specs.Queries.{watch_answer}
 use Rattle.lv_vector.specs.Notes.{SubscriberState}
 use Rattle.alerts.specs.Alerts.{IsTrueOf, edits_of, told_last}
 
+-- no question has a bound, so each change of an answer is told
+abbrev pub AreUnbounded : List Query → Type 0
+AreUnbounded questions = All (λ q. q.bound ≡ None) questions
+
 -- questions with names of their own, of which nothing was told yet
 pub record IsWatching (questions : List Query) (s : SubscriberState) : Type 0 where
   pub questions_are : s.questions ≡ questions
@@ -24,6 +28,7 @@ pub record Follows (questions : List Query) (seen : List Edit) (watched : List Q
   pub at : List Edit
   pub begins : IsPrefix at seen
   pub watched_are : watched ≡ questions
+  pub unbounded : AreUnbounded questions
   pub apart : IsDistinct bytes_eq (map (λ q. q.name) questions)
   pub values_are : values ≡ map (watch_answer at) questions
   pub true_told : All (IsTrueOf at questions) told

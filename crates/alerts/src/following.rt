@@ -1,6 +1,6 @@
 //! A subscriber that keeps what it is told.
 ghost use Rattle.std.specs.Prelude.{◌≡◌, [], IfOk, OnOk};
-ghost use Rattle.alerts.specs.Followed.{Follows, IsWatching, KeepsFollowing};
+ghost use Rattle.alerts.specs.Followed.{AreUnbounded, Follows, IsWatching, KeepsFollowing};
 
 use lv_vector::hub::{Hub, Query, Share, Subscriber, Told, WithBody};
 use lv_vector::{Refusal, Six};
@@ -25,6 +25,7 @@ pub fn begin<N: WithBody<Six>>(
     share: Share<N>,
     questions: &[Query],
 ) -> Result<Follower<N>, Refusal>
+    requires { AreUnbounded questions.now }
     ensures follows { IfOk result (λ f. Follows questions.now f.subscriber.share.seen f.subscriber.questions f.subscriber.told f.told.items) }
     ensures share { IfOk result (λ f. f.subscriber.share ≡ share) }
 {

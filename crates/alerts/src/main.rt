@@ -5,6 +5,8 @@
 //! what each question was told last is its answer at the end; and the edits are as many as the readings that count as accepted.
 #![tactic(auto)]
 
+ghost use Rattle.std.specs.Prelude.{◌≡◌, IfOk, None};
+
 mod feeding;
 mod following;
 mod running;
@@ -49,14 +51,11 @@ fn main(rt: HostRuntime) -> Result<(), Failure> {
 }
 
 // A question about all readings.
-fn ask(name: &[u8], kind: Kind) -> Result<Query, Failure> {
+fn ask(name: &[u8], kind: Kind) -> Result<Query, Failure>
+    ensures { IfOk result (λ question. question.bound ≡ None) }
+{
     match Name::new(name) {
-        Some(name) => Ok(Query {
-            name,
-            kind,
-            lo: 0,
-            hi: u32::MAX,
-        }),
+        Some(name) => Ok(Query::between(name, kind, 0, u32::MAX)),
         None => Err(Failure::BadName),
     }
 }

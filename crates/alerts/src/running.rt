@@ -3,7 +3,7 @@ ghost use Rattle.std.specs.Prelude.{◌≡◌, ◌+◌, IfOk, List, Some};
 ghost use mathlib.Core.List.{IsPrefix};
 ghost use Rattle.lv_vector.specs.Query.{Query};
 ghost use Rattle.alerts.specs.Alerts.{TellsOf};
-ghost use Rattle.alerts.specs.Followed.{Follows, HasFed, KeepsFollowing};
+ghost use Rattle.alerts.specs.Followed.{AreUnbounded, Follows, HasFed, KeepsFollowing};
 
 use crate::feeding::{Fed, READINGS, feed};
 use crate::following::{Follower, begin, follow};
@@ -60,6 +60,7 @@ pub fn run<R: Threads + Wait + Sync>(
     limits: Limits,
     questions: &[Query],
 ) -> Result<Report, Refusal>
+    requires { AreUnbounded questions.now }
     ensures told { IfOk result (TellsOf limits questions.now) }
     ensures offered { IfOk result (λ report. report.accepted + report.refused ≡ READINGS + READINGS) }
 {
@@ -90,6 +91,7 @@ fn run_as<N: WithBody<Six> + Send + Sync, R: Threads + Wait + Sync>(
     requires limits { limits ≡ N.limits }
     requires history { opened ≡ N.history }
     requires body { N.body ≡ Some body }
+    requires unbounded { AreUnbounded questions.now }
     ensures told { IfOk result (TellsOf limits questions.now) }
     ensures offered { IfOk result (λ report. report.accepted + report.refused ≡ READINGS + READINGS) }
 {
@@ -113,6 +115,7 @@ fn gather<N: WithBody<Six> + Send + Sync, R: Threads + Wait + Sync>(
 ) -> Result<Gathered<N>, Refusal>
     requires parts { share.parts ≡ PARTS }
     requires count { share.count ≡ 0 }
+    requires unbounded { AreUnbounded questions.now }
     ensures parts { IfOk result (λ g. g.share.parts ≡ PARTS) }
     ensures count { IfOk result (λ g. g.share.count ≡ g.accepted) }
     ensures offered { IfOk result (λ g. g.accepted + g.refused ≡ READINGS + READINGS) }

@@ -8,6 +8,7 @@ use crate::boards_of_two::{open, seats_of};
 use crate::same::assert_same;
 use lv_board::{Board, Seat};
 use lv_bodies::Sum;
+use lv_edits::Receipt;
 use lv_geometry::Refusal;
 use lv_machine::Refreshed;
 use lv_reduce::Answer;
@@ -16,76 +17,109 @@ use std::test::Fail;
 use std::thread;
 use std::thread::Threads;
 
-// The sum of the first eight elements after an edit: 1 to 8 are pushed first, and of the tries after them each third one,
-// from the second, overwrites one of them.
-fn sum_after(edit: u32) -> u64
-    requires { edit ≤ 408 }
-{
-    let mut first: [u64; 8] = [1, 2, 3, 4, 5, 6, 7, 8];
-    for k in 0..edit.saturating_sub(8) {
-        if k % 3 == 1 {
-            first[(k % 8) as usize] = u64::from(k);
+// An edit that was accepted: what it was answered, where it wrote if it is a write, and what it put there.
+#[derive(Clone, Copy)]
+struct Made {
+    receipt: Receipt,
+    index: u32,
+    value: i64,
+}
+
+// The first eight elements after an edit, by the receipts of all edits that were accepted after the pushes of 1 to 8.
+fn first_after(made: &[Made], edit: u32) -> [i64; 8] {
+    let mut first: [i64; 8] = [1, 2, 3, 4, 5, 6, 7, 8];
+    for one in made {
+        match one.receipt {
+            Receipt::Pushed {
+                edit: number,
+                index,
+            } if number <= edit && index < 8 => {
+                first[index as usize] = one.value;
+            }
+            Receipt::Written { edit: number, .. } if number <= edit && one.index < 8 => {
+                first[one.index as usize] = one.value;
+            }
+            _ => {}
         }
     }
+    first
+}
+
+// Their sum.
+fn sum_after(made: &[Made], edit: u32) -> u64 {
     let mut sum: u64 = 0;
-    for x in first {
-        sum = sum.wrapping_add(x);
+    for x in first_after(made, edit) {
+        sum = sum.wrapping_add(x.cast_unsigned());
     }
     sum
 }
 
-// A try of a number: a push, a write and a pop by turns. Whether it was accepted.
-fn try_edit(board: &Board<Sum>, seat: &mut Seat<Sum>, k: u32) -> bool
+// A try of a number: a push, a write and a pop by turns.
+fn try_edit(board: &Board<Sum>, seat: &mut Seat<Sum>, k: u32) -> Result<Receipt, Refusal>
     requires at { IsAt board.now.table.shared.table_id board.now.terms seat.old }
     requires short { k < 400 }
     ensures { IsStill seat.old seat.new }
 {
     match k % 3 {
-        0 => board.try_push(seat, i64::from(k)).is_ok(),
-        1 => board.try_write(seat, k % 8, i64::from(k)).is_ok(),
-        _ => board.try_pop(seat).is_ok(),
+        0 => board.try_push(seat, i64::from(k)),
+        1 => board.try_write(seat, k % 8, i64::from(k)),
+        _ => board.try_pop(seat),
     }
 }
 
-// Makes 400 tries. How many were accepted.
-fn edit_400(board: &Board<Sum>, seat: Seat<Sum>) -> u32
+// Makes 400 tries. What was accepted, behind what is given.
+fn edit_400(board: &Board<Sum>, seat: Seat<Sum>, made: Vec<Made>) -> Vec<Made>
     requires { IsAt board.now.table.shared.table_id board.now.terms seat }
 {
     let mut mine = seat;
-    let mut accepted: u32 = 0;
+    let mut made = made;
     for k in 0..400 {
-        if try_edit(board, &mut mine, k) {
-            accepted = accepted.wrapping_add(1);
+        if let Ok(receipt) = try_edit(board, &mut mine, k) {
+            let one = Made {
+                receipt,
+                index: k % 8,
+                value: i64::from(k),
+            };
+            let _noted = made.push(one);
         }
     }
     drop(mine);
-    accepted
+    made
 }
 
-// Refreshes the first block, and sums it. Whether an answer, if there is one, is the sum after its edit.
-fn refresh_and_sum(board: &Board<Sum>, seat: &mut Seat<Sum>) -> bool
+// What the second thread was answered: its reductions, and how often it was refused because a later edit had written there.
+#[derive(Drop)]
+struct Summed {
+    answers: Vec<Answer<u64>>,
+    overtaken: usize,
+}
+
+// Refreshes the first block and sums it, and notes the answer.
+fn refresh_and_sum(board: &Board<Sum>, seat: &mut Seat<Sum>, summed: &mut Summed)
     requires { IsAt board.now.table.shared.table_id board.now.terms seat.old }
     ensures { IsStill seat.old seat.new }
 {
     let _refreshed = board.refresh(seat, 0);
     match board.reduce(seat, 0, 8) {
-        Ok(answer) => answer.edit <= 408 && answer.value == sum_after(answer.edit),
-        Err(_) => true,
+        Ok(answer) => {
+            let _noted = summed.answers.push(answer);
+        }
+        Err(Refusal::Overtaken { .. }) => summed.overtaken = summed.overtaken.wrapping_add(1),
+        Err(_) => {}
     }
 }
 
-// Does so 400 times. Whether all answers were right.
-fn sum_400(board: &Board<Sum>, seat: Seat<Sum>) -> (Seat<Sum>, bool)
+// Does so 400 times.
+fn sum_400(board: &Board<Sum>, seat: Seat<Sum>, summed: Summed) -> (Seat<Sum>, Summed)
     requires { IsAt board.now.table.shared.table_id board.now.terms seat }
     ensures { IsStill seat result.0 }
 {
     let mut mine = seat;
-    let mut right = true;
+    let mut summed = summed;
     for _ in 0..400_usize {
-        let is_right = refresh_and_sum(board, &mut mine);
-        right = right && is_right;
+        refresh_and_sum(board, &mut mine, &mut summed);
     }
-    (mine, right)
+    (mine, summed)
 }
 
 // Pushes 1 to 8.
@@ -105,37 +139,52 @@ fn edit_beside_sums<R: Threads + Sync>(
     board: &Board<Sum>,
     a: Seat<Sum>,
     b: Seat<Sum>,
-) -> (u32, (Seat<Sum>, bool))
+    made: Vec<Made>,
+    summed: Summed,
+) -> (Vec<Made>, (Seat<Sum>, Summed))
     requires a { IsAt board.now.table.shared.table_id board.now.terms a }
     requires b { IsAt board.now.table.shared.table_id board.now.terms b }
     ensures { IsStill b result.1.0 }
 {
     thread::join(
         rt,
-        move || -> u32
+        move || -> Vec<Made>
             requires { IsAt board.now.table.shared.table_id board.now.terms a }
-        { edit_400(board, a) },
-        move || -> (Seat<Sum>, bool)
+        { edit_400(board, a, made) },
+        move || -> (Seat<Sum>, Summed)
             requires { IsAt board.now.table.shared.table_id board.now.terms b }
             ensures { IsStill b result.0 }
-        { sum_400(board, b) },
+        { sum_400(board, b, summed) },
     )
 }
 
+// Each answer is the sum after its edit, by the receipts, and every other reduction was overtaken.
+fn assert_sums(rt: &impl Abort, made: &[Made], summed: &Summed) {
+    for answer in summed.answers.as_slice() {
+        assert_same(
+            rt,
+            &(answer.edit, answer.value),
+            &(answer.edit, sum_after(made, answer.edit)),
+        );
+    }
+    let answered = summed.answers.len();
+    assert_same(rt, &answered.wrapping_add(summed.overtaken), &400);
+}
+
 // Once nobody edits, a refresh tells the last write, and a sum reads one summary.
-fn assert_fresh(rt: &impl Abort, board: &Board<Sum>, seat: &mut Seat<Sum>)
+fn assert_fresh(rt: &impl Abort, board: &Board<Sum>, seat: &mut Seat<Sum>, made: &[Made])
     requires { IsAt board.now.table.shared.table_id board.now.terms seat.old }
 {
     let refreshed = board.refresh(seat, 0);
-    let made = Refreshed {
+    let told = Refreshed {
         edit: 408,
         version: 406,
     };
-    assert_same(rt, &refreshed, &Ok(made));
+    assert_same(rt, &refreshed, &Ok(told));
     let summed = board.reduce(seat, 0, 8);
     let whole = Answer {
         edit: 408,
-        value: sum_after(408),
+        value: sum_after(made, 408),
         cells_read: 0,
         summaries_read: 1,
     };
@@ -145,23 +194,38 @@ fn assert_fresh(rt: &impl Abort, board: &Board<Sum>, seat: &mut Seat<Sum>)
 }
 
 // A board whose seats do all that.
-fn edits_and_sums<R: Threads + Abort + Sync>(rt: &R, board: &Board<Sum>, seats: Vec<Seat<Sum>>)
+fn edits_and_sums<R: Threads + Abort + Sync>(
+    rt: &R,
+    board: &Board<Sum>,
+    seats: Vec<Seat<Sum>>,
+    made: Vec<Made>,
+    summed: Summed,
+)
     requires two { length seats.items ≡ 2 }
     requires dealt { AreDealt board.now.table.shared.table_id board.now.terms seats.items }
 {
     let (mut a, b, none) = seats_of(board, seats);
     push_eight(rt, board, &mut a);
-    let (accepted, (mut b, right)) = edit_beside_sums(rt, board, a, b);
-    assert_same(rt, &(accepted, right), &(400, true));
-    assert_fresh(rt, board, &mut b);
+    let (made, (mut b, summed)) = edit_beside_sums(rt, board, a, b, made, summed);
+    assert_same(rt, &made.len(), &400);
+    assert_sums(rt, &made, &summed);
+    assert_fresh(rt, board, &mut b, &made);
     drop(b);
+    drop(summed);
+    drop(made);
     drop(none);
 }
 
 #[test]
 fn refresh_beside_edits(rt: HostRuntime) -> Result<(), Fail> {
+    let made = Vec::with_capacity(rt.alloc(), 400)?;
+    let answers = Vec::with_capacity(rt.alloc(), 400)?;
     let (board, seats) = open(rt.alloc())?;
-    edits_and_sums(&rt, &board, seats);
+    let summed = Summed {
+        answers,
+        overtaken: 0,
+    };
+    edits_and_sums(&rt, &board, seats, made, summed);
     drop(board);
     Ok(())
 }

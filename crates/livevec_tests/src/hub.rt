@@ -9,4 +9,5 @@ mod sessions;
 mod sleepers;
 mod strangers;
 mod strangers_above;
+mod thresholds;
 mod totals;

@@ -1,16 +1,16 @@
 //! Tests of the loop of lines over readers and writers that fail, that give or take little, and that give too much.
-ghost use Rattle.std.specs.Prelude.{◌≡◌, ◌<◌, ℕ, [], ◌∷◌, ◌++◌, length};
+ghost use Rattle.std.specs.Prelude.{◌≡◌, ◌<◌, ◌≤◌, ◌^◌, ℕ, [], ◌∷◌, ◌++◌, length};
 ghost use Rattle.std.specs.Fmt.{decimal};
 ghost use Rattle.lv_lines.specs.Output.{HasRoom, KeepsRoom};
 
 use crate::same::assert_same;
 use crate::takers::{Takes, all, writer};
-use lv_bodies::{Kind, Six, SixSummary, fold_slice};
+use lv_bodies::{Kind, Sum, fold_slice};
 use lv_geometry::Limits;
 use lv_script::devices::{FailingReader, Failure};
 use lv_script::{
-    Fault, HELD, Line, LineHandler, ReplyBuffer, print_command, put, put_element, put_number,
-    put_scan, put_wide, read_line, run_script, serve_lines,
+    Fault, HELD, Line, LineHandler, ReplyBuffer, Slice, print_command, put, put_element,
+    put_number, put_running_scan, put_wide, read_line, run_script, serve_lines,
 };
 use std::alloc::{AllocError, Global};
 use std::io;
@@ -253,21 +253,25 @@ fn commands_are_printed(rt: HostRuntime) -> Result<(), Fail> {
     Ok(())
 }
 
-// Has a scan of 5,000 values put where the writer fails, and sees what it took.
+// Has a scan of 20,000 zeros put where the writer fails, and sees what it took.
 fn check_scan(
     rt: &impl Abort,
     alloc: Global,
     failure: Failure,
-    values: &[SixSummary],
-) -> Result<(), AllocError> {
+    zeros: &[i64],
+) -> Result<(), AllocError>
+    requires { length zeros.now ≤ 2 ^ 20 }
+{
+    // The elements are of 64 bits.
+    let _sum = fold_slice(&Sum, zeros);
     let mut held = Vec::with_capacity(alloc, HELD)?;
     let mut writer = writer(alloc, (50, 60, failure))?;
     let mut buffer = ReplyBuffer {
         writer: &mut writer,
         held: &mut held,
     };
-    let ended = put_scan(&mut buffer, 9, true, Kind::Automaton, values);
-    let text = b"at 9 inc automaton 5000\n= 0 1 2 3 4 5 6 7\n= 0 1 2 3 4 5 6 7\n";
+    let ended = put_running_scan(&mut buffer, 9, true, Kind::Sum, &Slice { elements: zeros });
+    let text = b"at 9 inc sum 20000\n= 0\n= 0\n= 0\n= 0\n= 0\n= 0\n= 0\n= 0\n= 0\n= 0\n=";
     assert_same(
         rt,
         &(ended, writer.taken.as_slice()),
@@ -280,10 +284,9 @@ fn check_scan(
 
 #[test]
 fn scans_that_are_not_written(rt: HostRuntime) -> Result<(), Fail> {
-    let none = fold_slice(&Six, &[]);
-    let values = Vec::from_elem(rt.alloc(), none, 5_000)?;
+    let zeros = [0; 20_000];
     for failure in [Failure::Refuses, Failure::Stalls] {
-        check_scan(&rt, rt.alloc(), failure, &values)?;
+        check_scan(&rt, rt.alloc(), failure, &zeros)?;
     }
     Ok(())
 }

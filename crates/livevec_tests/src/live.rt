@@ -4,7 +4,7 @@ use lv_bodies::{Body, Sum};
 use lv_edits::Edit;
 use lv_geometry::{Limits, Node, Refusal};
 use lv_live::Live;
-use lv_refresh::Outcome;
+use lv_refresh::{Claims, Outcome};
 use lv_summary::Accepted;
 use std::alloc::Global;
 use std::process::Abort;
@@ -89,4 +89,18 @@ fn outcomes_of_another_vector(rt: HostRuntime) -> Result<(), Fail> {
     let seen = check_outcomes(&rt, &mut live, outcome);
     drop(live);
     Ok(seen?)
+}
+
+// Claims make room for the first block, of which none is claimed yet.
+fn check_claims(rt: &impl Abort, claims: &mut Claims) {
+    assert_same(rt, &claims.blocks(), &0);
+    assert_same(rt, &claims.grow(1), &Ok(()));
+    assert_same(rt, &claims.blocks(), &1);
+}
+
+#[test]
+fn claims_grow_by_a_block(rt: HostRuntime) {
+    let mut claims = Claims::new(rt.alloc());
+    check_claims(&rt, &mut claims);
+    drop(claims);
 }

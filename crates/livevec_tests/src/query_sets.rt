@@ -20,12 +20,7 @@ fn name_of(number: u32) -> Option<Name> {
 // The query of a number: the sum of the one element with that index.
 fn query_of(number: u32) -> Option<Query> {
     let name = name_of(number)?;
-    Some(Query {
-        name,
-        kind: Kind::Sum,
-        lo: number,
-        hi: number.saturating_add(1),
-    })
+    Some(Query::between(name, Kind::Sum, number, number.saturating_add(1)))
 }
 
 fn watch(set: &mut QuerySet<Query>, number: u32) -> Result<(), Refusal> {

@@ -8,7 +8,7 @@ use lv_live::{
     Event, Live, Reply, World, answers_are_plain, refresh_changes_no_answer,
     refusals_change_nothing, run,
 };
-use lv_reduce::{Answer, Scan};
+use lv_reduce::{Answer, Scan, reduce};
 use lv_summary::Accepted;
 use std::alloc::Global;
 use std::process::Abort;
@@ -170,6 +170,44 @@ fn a_vector_refreshes_itself(rt: HostRuntime) -> Result<(), Refusal> {
     seen
 }
 
+// Claims a job of a version, and delivers its outcome. Whether there was such a job, and its summary was installed.
+fn refresh_block(rt: &impl Abort, live: &mut Live<Sum>, version: u32) -> bool {
+    match live.claim() {
+        None => false,
+        Some(job) => {
+            assert_same(rt, &(job.node().level, job.version()), &(1, version));
+            give(live, job.run()) == Some(Accepted::Installed)
+        }
+    }
+}
+
+// Three fresh blocks of ones, read through a view: of all but the first and the last the middle block alone is read as a summary.
+fn check_view(rt: &impl Abort, live: &mut Live<Sum>) -> Result<(), Refusal> {
+    push_all(live, 24, 1)?;
+    for version in [8, 16, 24] {
+        let installed = refresh_block(rt, live, version);
+        assert_same(rt, &(version, installed), &(version, true));
+    }
+    live.keeps();
+    let middle = reduce(live.view(), &Sum, 1, 23)?;
+    let wanted = Answer {
+        edit: 24,
+        value: 22,
+        cells_read: 14,
+        summaries_read: 1,
+    };
+    assert_same(rt, &middle, &wanted);
+    Ok(())
+}
+
+#[test]
+fn a_view_of_three_fresh_blocks(rt: HostRuntime) -> Result<(), Refusal> {
+    let mut live = Live::new(rt.alloc(), Limits::greatest(), Sum);
+    let seen = check_view(&rt, &mut live);
+    drop(live);
+    seen
+}
+
 // A reply, as a value that can be compared. Of a scan the edit, and whether the values are 1, 3 and 6.
 #[derive(Clone, Copy, Debug, PartialEq, Eq)]
 enum Told {
@@ -202,29 +240,6 @@ fn tell(reply: &Reply<u64>) -> Told {
 
 fn is_1_3_6(scan: &Scan<u64>) -> bool {
     scan.values.as_slice() == [1, 3, 6].as_slice()
-}
-
-// What an event is answered.
-fn answer_to(alloc: Global, world: &mut World<Sum>, event: Event) -> Result<Option<Told>, Refusal> {
-    let replies = run(alloc, world, &[event])?;
-    let told = replies.get(0).map(tell);
-    drop(replies);
-    Ok(told)
-}
-
-// Sees that events are answered like this.
-fn check_events(rt: &impl Abort, alloc: Global, world: &mut World<Sum>, table: &[(Event, Told)]) {
-    for (event, wanted) in table {
-        let answer = answer_to(alloc, world, *event);
-        assert_same(rt, &(*event, answer), &(*event, Ok(Some(*wanted))));
-    }
-}
-
-fn push_1_to_8(alloc: Global, world: &mut World<Sum>) -> Result<(), Refusal> {
-    for x in 1..9 {
-        run(alloc, world, &[Event::Edit(Edit::Push(x))])?;
-    }
-    Ok(())
 }
 
 fn sum(value: u64, cells_read: u32, summaries_read: u32) -> Told {
@@ -277,9 +292,41 @@ fn events_of_each_kind() -> [(Event, Told); 16] {
     ]
 }
 
+// Pushes of 1 to 8, and then the events of a table: all in one list.
+fn events_of(table: &[(Event, Told); 16]) -> [Event; 24] {
+    let mut events = [Event::Settle; 24];
+    for k in 0..8_u32 {
+        events[k as usize] = Event::Edit(Edit::Push(i64::from(k) + 1));
+    }
+    for k in 0..16_usize {
+        events[8 + k] = table[k].0;
+    }
+    events
+}
+
+// Sees what each of such events was answered.
+fn check_replies(rt: &impl Abort, replies: &[Reply<u64>], table: &[(Event, Told); 16]) {
+    assert_same(rt, &replies.len(), &24);
+    for index in 0..8_u32 {
+        let pushed = Receipt::Pushed {
+            edit: index + 1,
+            index,
+        };
+        let told = replies.get(index as usize).map(tell);
+        assert_same(rt, &told, &Some(Told::Did(pushed)));
+    }
+    for k in 0..16_usize {
+        let (event, wanted) = table[k];
+        let told = replies.get(8 + k).map(tell);
+        assert_same(rt, &(event, told), &(event, Some(wanted)));
+    }
+}
+
 fn check_each_kind(rt: &impl Abort, alloc: Global, world: &mut World<Sum>) -> Result<(), Refusal> {
-    push_1_to_8(alloc, world)?;
-    check_events(rt, alloc, world, &events_of_each_kind());
+    let table = events_of_each_kind();
+    let replies = run(alloc, world, &events_of(&table))?;
+    check_replies(rt, &replies, &table);
+    drop(replies);
     Ok(())
 }
 

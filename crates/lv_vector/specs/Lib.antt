@@ -16,6 +16,7 @@ pub use Rattle.lv_edits.specs.Ranges
 pub use Rattle.lv_standing.specs.declared.notes.Note
 pub use Rattle.lv_standing.specs.Queries
 pub use Rattle.lv_standing.specs.declared.queries.Query
+pub use Rattle.lv_standing.proofs.QueryLaws
 pub use Rattle.lv_hub.specs.declared.told.Told as ToldType
 pub use Rattle.lv_hub.specs.Counting
 pub use Rattle.lv_hub.specs.Notes

@@ -1,5 +1,5 @@
 //! Tests a desk with no hub around it, and shares that are split and joined.
-ghost use Rattle.std.specs.Prelude.{◌≡◌};
+ghost use Rattle.std.specs.Prelude.{◌≡◌, Some};
 
 use crate::same::assert_same;
 use lv_bodies::Sum;
@@ -26,14 +26,14 @@ fn split_and_join<N: Naming>(share: &mut Share<N>) -> [(u64, u64); 3]
 }
 
 // Pushes an element 1.
-fn push_one<N: Naming>(desk: &mut Desk<Sum, N>, share: &mut Share<N>) -> Option<Refusal>
+fn push_one<N: WithBody<Sum>>(desk: &mut Desk<Sum, N>, share: &mut Share<N>) -> Option<Refusal>
     ensures { share.new.parts ≡ share.old.parts }
 {
     desk.edit(share, Edit::Push(1)).err()
 }
 
 // Pushes eight elements 1.
-fn push_eight<N: Naming>(rt: &impl Abort, desk: &mut Desk<Sum, N>, share: &mut Share<N>)
+fn push_eight<N: WithBody<Sum>>(rt: &impl Abort, desk: &mut Desk<Sum, N>, share: &mut Share<N>)
     ensures { share.new.parts ≡ share.old.parts }
 {
     for _ in 0..8 {
@@ -43,7 +43,7 @@ fn push_eight<N: Naming>(rt: &impl Abort, desk: &mut Desk<Sum, N>, share: &mut S
 }
 
 // The outcome of a desk's next job.
-fn next_of<N: Naming>(desk: &mut Desk<Sum, N>) -> Result<Outcome<Sum>, Fail> {
+fn next_of<N: WithBody<Sum>>(desk: &mut Desk<Sum, N>) -> Result<Outcome<Sum>, Fail> {
     match desk.claim() {
         Some(job) => Ok(job.run()),
         None => Err(Fail::new("a job is wanted")),
@@ -51,7 +51,10 @@ fn next_of<N: Naming>(desk: &mut Desk<Sum, N>) -> Result<Outcome<Sum>, Fail> {
 }
 
 // Refreshes a desk of eight elements, and sees that nothing more is wanted.
-fn assert_refreshed<N: Naming>(rt: &impl Abort, desk: &mut Desk<Sum, N>) -> Result<(), Fail> {
+fn assert_refreshed<N: WithBody<Sum>>(
+    rt: &impl Abort,
+    desk: &mut Desk<Sum, N>,
+) -> Result<(), Fail> {
     let outcome = next_of(desk)?;
     assert_same(rt, &desk.give(outcome), &Ok(Accepted::Installed));
     assert_same(rt, &desk.claim().is_none(), &true);
@@ -59,14 +62,14 @@ fn assert_refreshed<N: Naming>(rt: &impl Abort, desk: &mut Desk<Sum, N>) -> Resu
 }
 
 // Sees what a refreshed desk of eight elements 1 reads for their sum.
-fn assert_read<N: Naming>(rt: &impl Abort, desk: &Desk<Sum, N>) -> Result<(), Fail> {
+fn assert_read<N: WithBody<Sum>>(rt: &impl Abort, desk: &Desk<Sum, N>) -> Result<(), Fail> {
     let answer = desk.live().reduce(0, 8)?;
     assert_same(rt, &(answer.value, answer.summaries_read), &(8, 1));
     Ok(())
 }
 
 // Makes a new desk one of eight elements 1, which is refreshed; its share has three parts.
-fn assert_desk<N: Naming>(
+fn assert_desk<N: WithBody<Sum>>(
     rt: &impl Abort,
     desk: &mut Desk<Sum, N>,
     share: &mut Share<N>,
@@ -81,10 +84,11 @@ fn assert_desk<N: Naming>(
 }
 
 // A desk with no hub around it, and a share of three parts.
-fn desk_alone<N: Naming>(
+fn desk_alone<N: WithBody<Sum>>(
     rt: &impl Abort,
     alloc: Global,
     limits: Limits,
+    body: Sum,
     blank: Blank,
     opened: Opened,
 ) -> Result<(), Fail>
@@ -93,9 +97,9 @@ fn desk_alone<N: Naming>(
     requires three { blank.parts ≡ 3 }
     requires limits { limits ≡ N.limits }
     requires history { opened ≡ N.history }
+    requires body { N.body ≡ Some body }
 {
-    let (_head, prefix) = opened.named::<N>();
-    let (mut desk, mut share) = Desk::<Sum, N>::new(alloc, limits, Sum, blank, 3, prefix);
+    let (mut desk, mut share) = Desk::<Sum, N>::new(alloc, limits, body, blank, 3, opened);
     let seen = assert_desk(rt, &mut desk, &mut share);
     drop(desk);
     seen
@@ -107,6 +111,7 @@ fn a_desk_without_threads(rt: HostRuntime) -> Result<(), Fail> {
         &rt,
         rt.alloc(),
         Limits::greatest(),
+        Sum,
         Blank::new(3),
         Opened::new(),
     )

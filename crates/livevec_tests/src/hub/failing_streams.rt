@@ -55,10 +55,15 @@ fn hold_alone<N: WithBody<Six>, R: Wait>(
     requires body { N.body ≡ Some body }
 {
     let (hub, mut share) = Hub::<Six, N>::new(alloc, limits, body, blank, 1, opened);
-    let answers = run_session(
+    let place = SessionPlace {
         rt,
+        hub: &hub,
         alloc,
-        &hub,
+        most: usize::MAX,
+    };
+    let answers = run_session(
+        place,
+        &NoLog,
         &mut share,
         &mut streams.reader,
         &mut streams.writer,

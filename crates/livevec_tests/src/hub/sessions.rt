@@ -49,7 +49,13 @@ fn hold<N: WithBody<Six>, R: Wait>(
     let mut share = share;
     let mut replies = Vec::new(alloc);
     let mut reader = lines.as_bytes();
-    let answers = run_session(rt, alloc, hub, &mut share, &mut reader, &mut replies);
+    let place = SessionPlace {
+        rt,
+        hub,
+        alloc,
+        most: usize::MAX,
+    };
+    let answers = run_session(place, &NoLog, &mut share, &mut reader, &mut replies);
     (share, Heard { answers, replies })
 }
 

@@ -1,4 +1,5 @@
--- The ghosts that are handed on in `a_desk_without_threads`: whose ledger and names the hub has.
+-- The ghosts that are handed on in `a_desk_without_threads`: whose ledger, names and body the desk has.
+use Rattle.std.proofs.Common.{Some}
 use Rattle.livevec_tests.proofs.hub.desks.a_desk_without_threads.Given as goal
 
 abbrev pub ghosts-desk_alone-N-Ledger : goal.ghosts-desk_alone-N-Ledger
@@ -6,3 +7,6 @@ ghosts-desk_alone-N-Ledger g a = record { name = a.blank.name; parts = a.blank.p
 
 abbrev pub ghosts-desk_alone-N-Naming : goal.ghosts-desk_alone-N-Naming
 ghosts-desk_alone-N-Naming g a = record { limits = a.limits; history = a.opened }
+
+abbrev pub ghosts-desk_alone-N-WithBody : goal.ghosts-desk_alone-N-WithBody
+ghosts-desk_alone-N-WithBody g a = record { body = Some a.body }
