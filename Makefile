@@ -9,6 +9,10 @@ LIBDIR = $(PREFIX)/lib
 CC = cc
 LIB = build
 SO = $(LIB)
+# what an embedder's program calls its malloc, realloc and free
+MALLOC =
+REALLOC =
+FREE =
 # what livevec.h includes
 C_PARTS = $(addprefix include/livevec_,refusals.h records.h vectors.h reductions.h queries.h summaries.h jobs.h boards.h series.h series_kinds.h samples.h transcripts.h)
 # what livevec.hpp includes
@@ -18,9 +22,12 @@ SONAME = liblivevec.so.1
 # tells the system's loader what was installed, where that is allowed and nothing is only staged
 LDCONFIG = ldconfig
 
+# the prefix as a path from a file below LIBDIR: its folder's name there, then the folder; whole where LIBDIR isn't below the prefix
+from_here = $(shell lib="$(LIBDIR)"; if [ "$${lib#"$(PREFIX)/"}" != "$$lib" ]; then echo '$(1)/'"$$(realpath -m -s --relative-to="$$lib/$(2)" "$(PREFIX)")"; else echo "$(PREFIX)"; fi)
+
 # one target after the other: two would prove the same crates
 .NOTPARALLEL:
-.PHONY: help try build run test check lib so test-c test-bindings dist install install-program install-lib whole-paths uninstall wrong plant soak bench bench-board bench-bindings bench-engines dashboard fmt clean
+.PHONY: help try build run test check lib so embed test-c test-bindings docs dist install install-program install-lib whole-paths uninstall wrong plant soak bench bench-board bench-bindings bench-engines dashboard fmt clean
 
 help: ## lists what can be made
 	@sed -n 's/^\([a-z-]*\):.*## \(.*\)/\1|\2/p' Makefile | awk -F '|' '{ printf "make %-15s %s\n", $$1, $$2 }'
@@ -67,6 +74,11 @@ $(SO)/liblivevec.so: $(LIB)/liblivevec.a bindings/exports.map bindings/c/threads
 	@$(CC) -shared -fPIC -o $@ bindings/c/threads_unknown.c -Wl,--whole-archive $< -Wl,--no-whole-archive -Wl,--version-script=bindings/exports.map -Wl,-soname,$(SONAME) -Wl,-z,defs
 	@ln -f $(SO)/liblivevec.so $(SO)/$(SONAME)
 
+embed: $(LIB)/liblivevec.a ## makes build/embed/liblivevec.a, whose memory comes from MALLOC=.. REALLOC=.. FREE=.., functions of yours
+	@[ -n "$(MALLOC)" ] && [ -n "$(REALLOC)" ] && [ -n "$(FREE)" ] || { echo "usage: make embed MALLOC=my_malloc REALLOC=my_realloc FREE=my_free" >&2; exit 2; }
+	@mkdir -p $(LIB)/embed
+	@objcopy --redefine-sym malloc=$(MALLOC) --redefine-sym realloc=$(REALLOC) --redefine-sym free=$(FREE) $(LIB)/liblivevec.a $(LIB)/embed/liblivevec.a
+
 test-c: build/liblivevec.a ## tests the library for C, also under sanitizers and valgrind
 	@tools/timed test-c "tests the library for C, plainly, under sanitizers and under valgrind" "some 2 min" env CC="$(CC)" bindings/c/check
 
@@ -78,7 +90,10 @@ dashboard: so ## serves live charts of FEED=.., or of this machine, in a browser
 test-bindings: ## tests C++, Rust, Python, MPI, Dask and what was installed
 	@tools/timed test-bindings "tests C++, Rust, Python, MPI, Dask and what is installed" "some 4 min" bindings/check
 
-dist: build lib so ## packs what was proved and built into build/livevec-VERSION-PLATFORM.tar.gz
+docs: ## makes build/docs of the sources, without proofs: pages of C, C++, Rust, Python and the program
+	@tools/docs $(LIB)
+
+dist: build lib so ## packs what was proved and built into build/livevec-VERSION-PLATFORM.tar.gz, and the sources
 	@tools/dist
 
 install: install-program install-lib ## installs program, library and header below PREFIX, as they were built
@@ -86,9 +101,10 @@ install: install-program install-lib ## installs program, library and header bel
 whole-paths:
 	@case "$(PREFIX) $(LIBDIR)" in /*\ /*) ;; *) echo "PREFIX and LIBDIR are whole paths, from / on" >&2; exit 1;; esac
 
-install-program: whole-paths $(PROGRAM) ## installs the program alone
-	@install -d "$(DESTDIR)$(PREFIX)/bin"
+install-program: whole-paths $(PROGRAM) ## installs only the program and its manual page
+	@install -d "$(DESTDIR)$(PREFIX)/bin" "$(DESTDIR)$(PREFIX)/share/man/man1"
 	@install -m 755 $(PROGRAM) "$(DESTDIR)$(PREFIX)/bin/livevec"
+	@install -m 644 docs/livevec.1 "$(DESTDIR)$(PREFIX)/share/man/man1/livevec.1"
 
 install-lib: whole-paths $(LIB)/liblivevec.a $(SO)/liblivevec.so ## installs all but the program
 	@install -d "$(DESTDIR)$(PREFIX)/include" "$(DESTDIR)$(LIBDIR)/pkgconfig" "$(DESTDIR)$(LIBDIR)/cmake/livevec"
@@ -97,18 +113,21 @@ install-lib: whole-paths $(LIB)/liblivevec.a $(SO)/liblivevec.so ## installs all
 	@install -m 644 $(C_PARTS) $(CPP_PARTS) "$(DESTDIR)$(PREFIX)/include"
 	@install -m 755 $(SO)/liblivevec.so "$(DESTDIR)$(LIBDIR)/$(SONAME)"
 	@ln -sf $(SONAME) "$(DESTDIR)$(LIBDIR)/liblivevec.so"
-	@sed 's|@VERSION@|$(VERSION)|; s|@PREFIX@|$(PREFIX)|; s|@LIBDIR@|$(LIBDIR)|; s|^libdir=$(PREFIX)/|libdir=$${prefix}/|' bindings/c/livevec.pc.in > "$(DESTDIR)$(LIBDIR)/pkgconfig/livevec.pc"
-	@sed 's|@VERSION@|$(VERSION)|; s|@PREFIX@|$(PREFIX)|; s|@LIBDIR@|$(LIBDIR)|' bindings/c/livevecConfig.cmake.in > "$(DESTDIR)$(LIBDIR)/cmake/livevec/livevecConfig.cmake"
-	@chmod 644 "$(DESTDIR)$(LIBDIR)/pkgconfig/livevec.pc" "$(DESTDIR)$(LIBDIR)/cmake/livevec/livevecConfig.cmake"
+	@sed 's|@VERSION@|$(VERSION)|; s|@PREFIX@|$(call from_here,$${pcfiledir},pkgconfig)|; s|@LIBDIR@|$${pcfiledir}/..|' bindings/c/livevec.pc.in > "$(DESTDIR)$(LIBDIR)/pkgconfig/livevec.pc"
+	@sed 's|@VERSION@|$(VERSION)|; s|@PREFIX@|$(call from_here,$${_livevec_here},cmake/livevec)|' bindings/c/livevecConfig.cmake.in > "$(DESTDIR)$(LIBDIR)/cmake/livevec/livevecConfig.cmake"
+	@sed 's|@VERSION@|$(VERSION)|' bindings/c/livevecConfigVersion.cmake.in > "$(DESTDIR)$(LIBDIR)/cmake/livevec/livevecConfigVersion.cmake"
+	@chmod 644 "$(DESTDIR)$(LIBDIR)/pkgconfig/livevec.pc" "$(DESTDIR)$(LIBDIR)/cmake/livevec/livevecConfig.cmake" "$(DESTDIR)$(LIBDIR)/cmake/livevec/livevecConfigVersion.cmake"
 	@[ -n "$(DESTDIR)" ] || $(LDCONFIG) 2> /dev/null || true
 
 # its folders go too where they have nothing else: the place was livevec's own then
 uninstall: whole-paths ## takes away what was installed below PREFIX
 	@rm -f "$(DESTDIR)$(PREFIX)/bin/livevec" "$(DESTDIR)$(PREFIX)/include/livevec.h" "$(DESTDIR)$(PREFIX)/include/livevec.hpp" "$(DESTDIR)$(PREFIX)/include/livevec_mpi.h" "$(DESTDIR)$(PREFIX)/include/livevec_mpi_refusals.h" "$(DESTDIR)$(LIBDIR)/liblivevec.a"
 	@rm -f "$(DESTDIR)$(LIBDIR)/$(SONAME)" "$(DESTDIR)$(LIBDIR)/liblivevec.so" "$(DESTDIR)$(LIBDIR)/pkgconfig/livevec.pc"
-	@rm -f "$(DESTDIR)$(LIBDIR)/cmake/livevec/livevecConfig.cmake"
+	@rm -f "$(DESTDIR)$(LIBDIR)/cmake/livevec/livevecConfig.cmake" "$(DESTDIR)$(LIBDIR)/cmake/livevec/livevecConfigVersion.cmake"
+	@rm -f "$(DESTDIR)$(PREFIX)/share/man/man1/livevec.1"
 	@rm -f $(patsubst include/%,"$(DESTDIR)$(PREFIX)/include/%",$(C_PARTS) $(CPP_PARTS))
 	@rmdir "$(DESTDIR)$(LIBDIR)/cmake/livevec" "$(DESTDIR)$(LIBDIR)/cmake" 2> /dev/null || true
+	@rmdir "$(DESTDIR)$(PREFIX)/share/man/man1" "$(DESTDIR)$(PREFIX)/share/man" "$(DESTDIR)$(PREFIX)/share" 2> /dev/null || true
 	@[ -n "$(DESTDIR)" ] || $(LDCONFIG) 2> /dev/null || true
 	@top="$(DESTDIR)$(PREFIX)" lib="$(DESTDIR)$(LIBDIR)"; \
 	if [ -d "$$top" ] && [ -z "$$(find "$$top" -mindepth 1 ! -path "$$top/bin" ! -path "$$top/include" ! -path "$$lib" ! -path "$$lib/pkgconfig")" ]; then \

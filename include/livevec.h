@@ -1,26 +1,42 @@
-/* livevec: a growable vector of 64-bit numbers whose ranges are reduced at once, and a board of 16-bit numbers that threads
- * edit and reduce together without a lock. For C11 and C++17.
+/** @file
+ * livevec: a growable vector of 64-bit integers that answers queries of any range at once, and a board of 16-bit integers that threads edit and
+ * query together without a lock. For C11 and C++17.
  *
- * Slots. A vector, a series, samples, a set of queries, a job, an outcome, a board and a seat each lie behind a slot. Who calls owes three
- * things, which nobody checks:
- *   - a slot starts as zeros (`livevec_vector v = {0};`), which is 'empty';
- *   - a slot is never copied, and nothing but these functions writes it;
- *   - a slot is freed, or its memory given back, only when no call at it is under way or to come.
- * A slot serves one call at a time. A call beside another at the same slot is answered LIVEVEC_BUSY, and nothing has happened:
- * call again, or put a lock round the slot. So is a call at a series whose elements are lent. Calls at different slots run side by side.
- * A function never follows an empty slot: it answers LIVEVEC_NO_HANDLE. Freeing a slot makes it empty.
- * No slot is passed by a pointer to const, also where a call changes nothing: a call enters its slot by writing its byte `busy_`, by an
- * atomic exchange where the program has more than one thread, and leaves it by a store. Arrays and tables that are only read are const.
+ * @par Threads
+ * Calls at different handles may run at the same time. At one handle, reads never fail because of other reads: a read waits until the other one
+ * ends. An edit at the same time as any other call is refused with LIVEVEC_BUSY, and so is a read at the same time as an edit. Nothing has
+ * happened then: call again, or put a lock round the handle. So is every call at a series whose elements are lent. The comment of each function
+ * says "Reads" if the function is a read; every other function counts as an edit. A read may store what it computes, so it takes no pointer to const.
  *
- * Refusals. Each call tells why it was refused, 0 where it was not. A refused call changes nothing.
- * Each function names its refusals in the order in which they are tried. NULL is for a null pointer, NO_HANDLE for a slot that
- * should hold something and is empty, or holds something else. Every function may answer BUSY, right after NULL.
- * Compilers warn where an answer is dropped (LIVEVEC_MUST_USE), but not of what frees, and not of what only saves reads.
+ * @par Handles
+ * A vector, a series, samples, a set of queries, a job, an outcome, a batch, a board and a seat are each behind a handle (*slot*), a small struct
+ * of the caller's. The caller owes three things, which nothing checks:
+ *   - a handle starts as zeros (`livevec_vector v = {0};`), which means "empty";
+ *   - a handle is never copied, and only these functions write it;
+ *   - a handle is freed, or its memory given back, only if no call at it is running or will come.
  *
- * Memory. It comes from malloc, realloc and free. Want of it is an answer, LIVEVEC_NO_MEMORY, after which nothing has changed.
- * No function waits, prints, ends the process or starts a thread. Call none from a signal handler, as malloc may not be called there.
+ * No function follows an empty handle: it answers LIVEVEC_NO_HANDLE. Freeing a handle makes it empty. A call enters its handle by writing the
+ * byte `busy_`, with an atomic exchange if the program has more than one thread, and leaves it with a store.
  *
- * Ranges are of indices from `lo` up to `hi`, `hi` excluded. Edits are numbered 1, 2, 3 and so on; an answer names the last one. */
+ * @par Refusals
+ * Each answer has a `refusal`, a ::livevec_refusal: why the call was refused, or 0. A refused call changes nothing. The comment of each function lists
+ * its refusals in the order in which they are tried. NULL is for a null pointer. TOO_LONG, right after it, is for an array whose length no array can
+ * have (more than PTRDIFF_MAX bytes): it isn't read. BUSY comes next, for every function that takes a handle. NO_HANDLE is for a handle that
+ * should hold something and is empty, or holds something else. Compilers warn if an answer is dropped (LIVEVEC_MUST_USE), but not for functions
+ * that free, or that only save reads.
+ *
+ * @par Memory
+ * It comes from malloc, realloc and free, or from functions that the embedder names (`make embed`). If there is none, the answer is
+ * LIVEVEC_NO_MEMORY, and nothing has changed. No function prints, ends the process or starts a thread. Call none from a signal handler: malloc
+ * may not be called there, and a read would wait for a read that it interrupts.
+ *
+ * @par Ranges and numbers of edits
+ * A range is the indices from `lo` up to `hi`, `hi` excluded. Edits are numbered 1, 2, 3 and so on; an answer names the last one.
+ *
+ * @par Costs
+ * n is the number of elements (or, of a read, those of its range where the comment says "of the range"), and a join combines two partial
+ * aggregates. "O(1) amortised" means that a single call may be O(n), when memory is moved. A tree of a kind is built by the first query of that
+ * kind, which is O(n); after it each query of the kind is O(log n). */
 #ifndef LIVEVEC_H
 #define LIVEVEC_H
 
@@ -32,11 +48,11 @@
 extern "C" {
 #endif
 
-/* The version of the library that this header is of. */
+/** The version of the library to which this header belongs. */
 #define LIVEVEC_VERSION "0.3.0"
 
-/* Has a compiler warn where an answer is dropped; gcc does so in C also behind a cast to void. A program that means to drop
- * answers defines it as nothing before it includes this header. */
+/** Makes a compiler warn if an answer is dropped; gcc does so in C even behind a cast to void. A program that means to drop answers defines it
+ * as nothing before it includes this header. */
 #ifndef LIVEVEC_MUST_USE
 #if defined(__cplusplus) ? __cplusplus >= 201703L : defined(__STDC_VERSION__) && __STDC_VERSION__ >= 202311L
 #define LIVEVEC_MUST_USE [[nodiscard]]
@@ -50,10 +66,10 @@ extern "C" {
 #include "livevec_refusals.h"
 #include "livevec_records.h"
 
-/* The version of the library that is linked, as LIVEVEC_VERSION spells that of this header. */
+/** The version of the library that is linked, spelt as #LIVEVEC_VERSION spells that of this header. O(1). */
 LIVEVEC_MUST_USE const char *livevec_version(void);
 
-/* A refusal in words, as "the limit of edits is reached". Never null: of any other number it is "unknown". */
+/** A refusal in words, for example "the limit of edits is reached". Never null: for any other number it is "unknown". O(1). */
 LIVEVEC_MUST_USE const char *livevec_refusal_text(uint32_t refusal);
 
 #include "livevec_vectors.h"

@@ -1,19 +1,26 @@
-/* livevec for C++17: livevec.h by move-only classes that free what they own. What a call refuses is thrown as livevec::refused, and nothing
- * has changed then. Header only; link what livevec.h links. The board and its seats stand in livevec_board.hpp, summaries that travel in
- * livevec_summary.hpp, cells of columns in livevec_columns.hpp, refresh and jobs in livevec_jobs.hpp, the series in livevec_series.hpp, samples in
- * livevec_samples.hpp, how both are loaded in livevec_loading.hpp, standing queries in livevec_queries.hpp, a vector that threads share in livevec_shared.hpp, transcripts in livevec_transcripts.hpp, and what all
- * classes share in livevec_base.hpp; this header brings them all.
+/** @file
+ * livevec for C++17: livevec.h as move-only classes that free what they own. Programs include this header; it brings the others in. It is header
+ * only; link what livevec.h links.
  *
- * An object serves one call at a time: a call beside another at the same object is refused with LIVEVEC_BUSY. Put a mutex round it where
- * threads share one, or take a shared_vector. A job may be run by any thread, beside any call at its vector. A call at an object that was moved from is
- * refused with LIVEVEC_NULL. Ranges are of indices from `lo` up to `hi`, `hi` excluded.
+ * @par Threads
+ * Calls that are const may run at the same time at one object, and never fail because of each other: one waits until the other ends. Any other call
+ * needs the object for itself, as in the standard library. Unlike there, a call that overlaps with one that isn't const is refused with
+ * LIVEVEC_BUSY, and nothing has happened: put a mutex round the object, or take a livevec::shared_vector. A job may be run by any thread, at the
+ * same time as any call at its vector.
  *
- * A call that is const changes no element and no later answer. It isn't one that threads may make side by side.
+ * @par Exceptions
+ * A call that is refused throws what is a livevec::refused, and changes nothing. If an index or a range is wrong, it is a std::out_of_range too, and
+ * what() tells the index and the size; else it is a std::runtime_error. A call at an object that was moved from is refused with LIVEVEC_NULL.
  *
- * Elements go in by a view: whatever has data() and size() of std::int64_t makes one, as std::vector, std::array, an array and
- * std::span do, and so do a list in braces and two iterators. They come out as a copy, in a std::vector or in a buffer that is handed
- * in. begin() makes one copy, and the iterators go through it: later edits change nothing of what they show, and no reference leads
- * into the vector itself. */
+ * @par Elements
+ * They go in as integers (livevec::element), as a list in braces, as two iterators, as any range of integers, or as a view of an array of
+ * std::int64_t. They come out as a copy: in a std::vector, or in a buffer of the caller's. begin() makes one copy, and the iterators go through it:
+ * later edits change nothing of what they show, and no reference leads into the vector itself. Ranges are of indices from `lo` up to `hi`, `hi`
+ * excluded.
+ *
+ * @par Costs
+ * n is the number of elements. "After edits" a query of a kind costs at most O(log n) more for each edit since the last query of that kind, and the
+ * first one after n pushes O(n). Memory that is moved is shared among the edits before ("amortised"). A call whose comment gives no cost is O(1). */
 #ifndef LIVEVEC_HPP
 #define LIVEVEC_HPP
 
@@ -36,263 +43,350 @@
 
 namespace livevec {
 
-/* A growable vector of 64-bit numbers that answers reductions of any range. */
+/** A growable vector of 64-bit integers that answers reductions of any range. */
 class vector : public inner::with_jobs {
   public:
-    using value_type = std::int64_t;
-    using size_type = std::uint32_t;
-    using iterator = element_iterator;
-    using const_iterator = element_iterator;
+    using value_type = std::int64_t;         /**< an element */
+    using size_type = std::uint32_t;         /**< an index, or a count */
+    using iterator = element_iterator;       /**< goes through a copy */
+    using const_iterator = element_iterator; /**< goes through a copy */
 
-    /* An empty one: of 1 to 17 buckets (k hold 8 * (2^k - 1) elements) and 1 to 16,777,215 edits. */
-    explicit vector(std::uint32_t buckets = 17, std::uint32_t edits = 16777215) : limits_{buckets, edits}
+    /** An empty one. O(1). */
+    explicit vector(limits most = {}) : limits_(most) { inner::check(livevec_new(slot(), most.buckets, most.edits)); }
+
+    /** An empty one with an automaton of this table. O(1). */
+    explicit vector(const livevec_table &table, limits most = {}) : limits_(most), table_(table)
     {
-        inner::check(livevec_new(slot(), buckets, edits));
+        inner::check(livevec_new_with_table(slot(), most.buckets, most.edits, &table));
     }
 
-    /* One with an automaton of this table. */
-    explicit vector(const livevec_table &table, std::uint32_t buckets = 17, std::uint32_t edits = 16777215) : limits_{buckets, edits}, table_(table)
+    /** An empty one of one kind, if no other will be asked: it answers `value`, `value_many`, the value and the scans of that kind, and the searches
+     * that use it. Other queries, and those of all six kinds, are refused with LIVEVEC_BAD_KIND. O(1). */
+    explicit vector(livevec::kind only, limits most = {}) : limits_(most), only_(only)
     {
-        inner::check(livevec_new_with_table(slot(), buckets, edits, &table));
+        inner::check(livevec_new_of(slot(), inner::number(only), most.buckets, most.edits));
     }
+    /** Elements are written in braces, `vector{10, 20}`, limits by their type, `vector(livevec::limits{10, 20})`. */
+    vector(std::uint32_t, std::uint32_t) = delete;
+    /** As above. */
+    explicit vector(std::uint32_t) = delete;
+    /** A kind is a livevec::kind. */
+    template <class... More> explicit vector(livevec_kind, More...) = delete;
 
-    /* One of one kind alone, where no other is wanted: it answers `value`, `value_many`, the one value and the scans of that kind, and the
-     * searches that go by it. Other questions, and those by all six kinds, are refused with LIVEVEC_BAD_KIND. */
-    explicit vector(livevec_kind only, std::uint32_t buckets = 17, std::uint32_t edits = 16777215) : limits_{buckets, edits}, only_(only)
+    /** The kind, if it is of one. O(1). */
+    [[nodiscard]] std::optional<livevec::kind> kind() const noexcept { return only_; }
+
+    /** One with these elements, which are pushed. If one is refused nothing is left. O(n). */
+    vector(std::initializer_list<element> elements) : vector() { push_many(elements); }
+    /** One with the elements of an array. O(n). */
+    explicit vector(array_view elements, limits most = {}) : vector(most) { push_many(elements); }
+    /** One with the elements of any range of integers. O(n). */
+    template <class Row, class = std::enable_if_t<inner::is_row<Row>::value && !std::is_same_v<std::decay_t<Row>, vector>>>
+    explicit vector(Row &&row, limits most = {}) : vector(most)
     {
-        inner::check(livevec_new_of(slot(), only, buckets, edits));
+        push_many(row);
     }
-    /* The kind that it is of, if it is of one. */
-    [[nodiscard]] std::optional<livevec_kind> kind() const noexcept { return only_; }
-
-    /* One with elements, which are pushed. Where one is refused nothing is left. */
-    vector(std::initializer_list<std::int64_t> elements) : vector() { push_many(elements); }
-    explicit vector(array_view elements, std::uint32_t buckets = 17, std::uint32_t edits = 16777215) : vector(buckets, edits) { push_many(elements); }
+    /** One with the elements that two iterators enclose. O(n). */
     template <class Iterator, class = typename std::iterator_traits<Iterator>::iterator_category> vector(Iterator first, Iterator last) : vector()
     {
         push_many(first, last);
     }
 
-    /* One of its own with the same elements, limits, table and kind. Its edits are the pushes of its elements, so that their numbers begin
-     * anew. */
+    /** One of its own with the same elements, limits, table and kind. Its edits are the pushes of its elements, so their numbers begin anew. O(n). */
     [[nodiscard]] vector clone() const
     {
-        vector made = table_  ? vector(*table_, limits_.buckets, limits_.edits)
-                      : only_ ? vector(*only_, limits_.buckets, limits_.edits)
-                              : vector(limits_.buckets, limits_.edits);
+        vector made = table_ ? vector(*table_, limits_) : only_ ? vector(*only_, limits_) : vector(limits_);
         made.push_many(elements());
         return made;
     }
 
-    /* Edits. Each that is accepted has the next number, and `edits` is the last one. `clear` drops all elements by one edit. */
-    std::uint32_t push(std::int64_t value) { return inner::checked(livevec_push(slot(), value)).place; }
-    void push_back(std::int64_t value) { push(value); }
+    /** Puts an element at the end, and gives its index. Each edit that is accepted has the next number. O(log n) amortised. */
+    std::uint32_t push(element value) { return inner::checked(livevec_push(slot(), value)).place; }
+    /** The same. O(log n) amortised. */
+    void push_back(element value) { push(value); }
+    /** Drops the last element, and gives it. O(log n). */
     std::int64_t pop() { return inner::checked(livevec_pop(slot())).value; }
-    std::int64_t write(std::uint32_t index, std::int64_t value) { return inner::checked(livevec_write(slot(), index, value)).value; }
-    void swap_elements(std::uint32_t first, std::uint32_t second) { inner::checked(livevec_swap(slot(), first, second)); }
-    std::uint32_t truncate(std::uint32_t elements) { return inner::checked(livevec_truncate(slot(), elements)).place; }
+    /** Drops the last element. O(log n). */
+    void pop_back() { pop(); }
+    /** Overwrites the element at an index, and gives the one before. O(log n) amortised. */
+    std::int64_t write(std::uint32_t index, element value) { return inner::checked(livevec_write(slot(), index, value), index).value; }
+    /** Exchanges the elements at two indices. O(log n) amortised. */
+    void swap_elements(std::uint32_t first, std::uint32_t second)
+    {
+        const livevec_edited did = livevec_swap(slot(), first, second);
+        inner::checked(did, first < did.detail ? second : first);
+    }
+    /** Keeps so many elements, the first ones, and gives how many were dropped. O(log n) amortised. */
+    std::uint32_t truncate(std::uint32_t elements) { return inner::checked(livevec_truncate(slot(), elements), elements).place; }
+    /** Drops all elements by one edit. O(log n) amortised. */
     void clear() { truncate(0); }
+    /** Makes room for so many elements in all, and gives how many now fit. O(1), and the memory that is asked for. */
     std::uint32_t reserve(std::uint32_t elements) { return inner::checked(livevec_reserve(slot(), elements)).place; }
 
-    /* Pushes in order: all are pushed, or `stopped` is thrown and none is. Iterators are gone through before anything is pushed. */
+    /** Pushes an array in order: all are pushed, or `stopped` is thrown and none is. O(length) amortised. */
     void push_many(const std::int64_t *values, std::size_t length)
     {
         livevec_pushed pushed = livevec_push_many(slot(), values, length);
         if (pushed.refusal)
-            throw stopped(pushed);
+            inner::raise(stopped(pushed));
     }
+    /** The same of a view. O(length) amortised. */
     void push_many(array_view values) { push_many(values.data(), values.size()); }
-    void push_many(std::initializer_list<std::int64_t> values) { push_many(values.begin(), values.size()); }
+    /** The same of a list in braces. O(length) amortised. */
+    void push_many(std::initializer_list<element> values) { push_many(array_view(inner::copied(values))); }
+    /** The same of any range of integers, which is gone through before anything is pushed. O(length) amortised. */
+    template <class Row, class = std::enable_if_t<inner::is_row<Row>::value>> void push_many(Row &&row)
+    {
+        const std::vector<std::int64_t> values = inner::elements_of_row(row);
+        push_many(values.data(), values.size());
+    }
+    /** The same of what two iterators enclose. O(length) amortised. */
     template <class Iterator, class = typename std::iterator_traits<Iterator>::iterator_category> void push_many(Iterator first, Iterator last)
     {
-        static_assert(inner::gives_elements<Iterator>, "elements are whole numbers that fit 64 bits with a sign");
+        static_assert(inner::gives_elements<Iterator>, "elements are integers");
         std::vector<std::int64_t> values(first, last);
         push_many(values.data(), values.size());
     }
 
-    /* Writes each value at the index of the same place, in order, and tells the last edit. All are made, or `refused_at` is thrown and none
-     * is. As many values as indices are wanted, else it is refused with LIVEVEC_SHORT_BUFFER. */
+    /** Writes each value at the index of the same place, in order, and gives the last edit. All are made, or `refused_at` is thrown and none is. There
+     * must be as many values as indices, else it is refused with LIVEVEC_SHORT_BUFFER. O(length * log n) amortised. */
     std::uint32_t write_many(index_view indices, array_view values)
     {
         if (indices.size() != values.size())
-            throw refused(LIVEVEC_SHORT_BUFFER, static_cast<std::uint32_t>(indices.size()));
+            inner::raise(refused(LIVEVEC_SHORT_BUFFER, static_cast<std::uint32_t>(indices.size())));
         return inner::each(livevec_write_many(slot(), indices.data(), values.data(), indices.size()));
     }
-    std::uint32_t write_many(std::initializer_list<std::uint32_t> indices, std::initializer_list<std::int64_t> values)
+    /** The same of two lists in braces. O(length * log n) amortised. */
+    std::uint32_t write_many(std::initializer_list<std::uint32_t> indices, std::initializer_list<element> values)
     {
-        return write_many(index_view(indices.begin(), indices.size()), array_view(values.begin(), values.size()));
+        return write_many(index_view(indices.begin(), indices.size()), array_view(inner::copied(values)));
     }
 
-    /* Why that very edit would be refused, want of memory apart: a livevec_refusal, 0 where it would be accepted, with its detail. */
-    [[nodiscard]] livevec_verdict verdict_push(std::int64_t value) const { return inner::judged(livevec_verdict_push(slot(), value)); }
+    /** Why that push would be refused, out of memory apart: a ::livevec_refusal, 0 if it would be accepted, with its detail. O(1). */
+    [[nodiscard]] livevec_verdict verdict_push(element value) const { return inner::judged(livevec_verdict_push(slot(), value)); }
+    /** The same of a pop. O(1). */
     [[nodiscard]] livevec_verdict verdict_pop() const { return inner::judged(livevec_verdict_pop(slot())); }
-    [[nodiscard]] livevec_verdict verdict_write(std::uint32_t index, std::int64_t value) const
+    /** The same of a write. O(1). */
+    [[nodiscard]] livevec_verdict verdict_write(std::uint32_t index, element value) const
     {
         return inner::judged(livevec_verdict_write(slot(), index, value));
     }
+    /** The same of a reserve. O(1). */
     [[nodiscard]] livevec_verdict verdict_reserve(std::uint32_t elements) const { return inner::judged(livevec_verdict_reserve(slot(), elements)); }
+    /** The same of a swap. O(1). */
     [[nodiscard]] livevec_verdict verdict_swap(std::uint32_t first, std::uint32_t second) const
     {
         return inner::judged(livevec_verdict_swap(slot(), first, second));
     }
+    /** The same of a truncate. O(1). */
     [[nodiscard]] livevec_verdict verdict_truncate(std::uint32_t elements) const { return inner::judged(livevec_verdict_truncate(slot(), elements)); }
 
-    [[nodiscard]] std::int64_t operator[](std::uint32_t index) const { return inner::checked(livevec_get(slot(), index)).value; }
+    /** The element at an index; the index is checked. O(1). */
+    [[nodiscard]] std::int64_t operator[](std::uint32_t index) const { return inner::checked(livevec_get(slot(), index), index).value; }
+    /** The same. O(1). */
+    [[nodiscard]] std::int64_t at(std::uint32_t index) const { return (*this)[index]; }
+    /** The first element; std::out_of_range is thrown if there is none. O(1). */
+    [[nodiscard]] std::int64_t front() const { return (*this)[0]; }
+    /** The last element; std::out_of_range is thrown if there is none. O(1). */
+    [[nodiscard]] std::int64_t back() const
+    {
+        const std::uint32_t size = this->size();
+        return (*this)[size ? size - 1 : 0];
+    }
+    /** How many elements there are. O(1). */
     [[nodiscard]] std::uint32_t size() const { return inner::counted(livevec_size(slot())); }
+    /** How many elements fit into the memory that is held. O(1). */
     [[nodiscard]] std::uint32_t capacity() const { return inner::counted(livevec_capacity(slot())); }
+    /** The number of the last edit. O(1). */
     [[nodiscard]] std::uint32_t edits() const { return inner::counted(livevec_edits(slot())); }
+    /** Whether there is no element. O(1). */
     [[nodiscard]] bool empty() const { return size() == 0; }
 
-    /* The elements of a range; all of them; those of a range into the front of a buffer, and how many they are. */
+    /** The elements of a range. O(length). */
     [[nodiscard]] std::vector<std::int64_t> read(std::uint32_t lo, std::uint32_t hi) const
     {
         std::vector<std::int64_t> elements(lo < hi && hi <= size() ? hi - lo : 0);
-        inner::checked(livevec_read(slot(), lo, hi, elements.data(), elements.size()));
+        inner::checked(livevec_read(slot(), lo, hi, elements.data(), elements.size()), lo, hi);
         return elements;
     }
+    /** All elements. O(n). */
     [[nodiscard]] std::vector<std::int64_t> elements() const { return read(0, size()); }
+    /** The elements of a range into the front of a buffer, and how many they are. O(length). */
     std::uint32_t read_into(std::uint32_t lo, std::uint32_t hi, buffer_view buffer) const
     {
-        return inner::checked(livevec_read(slot(), lo, hi, buffer.data(), buffer.size())).length;
+        return inner::checked(livevec_read(slot(), lo, hi, buffer.data(), buffer.size()), lo, hi).length;
     }
 
-    /* Through a copy of the elements as they are now. */
+    /** Through a copy of the elements as they are now. O(n). */
     [[nodiscard]] const_iterator begin() const { return const_iterator(elements()); }
+    /** The end of each copy. O(1). */
     [[nodiscard]] const_iterator end() const noexcept { return const_iterator(); }
+    /** As begin(). O(n). */
+    [[nodiscard]] const_iterator cbegin() const { return begin(); }
+    /** As end(). O(1). */
+    [[nodiscard]] const_iterator cend() const noexcept { return end(); }
 
-    /* Whether two vectors have the same elements. */
+    /** Whether two vectors have the same elements. O(n). */
     friend bool operator==(const vector &a, const vector &b) { return a.size() == b.size() && a.elements() == b.elements(); }
+    /** Whether they haven't. O(n). */
     friend bool operator!=(const vector &a, const vector &b) { return !(a == b); }
 
-    /* The values of a range by all six kinds, and the edit after which they are so. `ask` keeps what it computes. */
-    [[nodiscard]] livevec_reduced reduce(std::uint32_t lo, std::uint32_t hi) const { return inner::checked(livevec_reduce(slot(), lo, hi)); }
-    livevec_reduced ask(std::uint32_t lo, std::uint32_t hi) const { return inner::checked(livevec_ask(slot(), lo, hi)); }
-
-    /* The value of a range by one kind, which alone is computed, and kept. Of the values only those of that kind are told, and `any`. */
-    [[nodiscard]] livevec_reduced value(livevec_kind kind, std::uint32_t lo, std::uint32_t hi) const
+    /** The value of a range by one kind, and the edit at which it holds. Only this kind is computed, and what is computed is kept. Of the values only
+     * those of the kind are told, and `any`. O(log n), and more after edits. */
+    [[nodiscard]] livevec_reduced value(livevec::kind kind, std::uint32_t lo, std::uint32_t hi) const
     {
-        return inner::checked(livevec_value(slot(), kind, lo, hi));
+        return inner::checked(livevec_value(slot(), inner::number(kind), lo, hi), lo, hi);
     }
+    /** The values of a range by all six kinds, as `value` computes each. O(log n), and more after edits. */
+    livevec_reduced ask(std::uint32_t lo, std::uint32_t hi) const { return inner::checked(livevec_ask(slot(), lo, hi), lo, hi); }
+    /** The values of a range by all six kinds, from the summaries that `refresh` and jobs computed, and keeps nothing. **Linear in the range if nothing
+     * was refreshed**, O(log n) if all was: use `value` or `ask` unless you refresh. */
+    [[nodiscard]] livevec_reduced reduce(std::uint32_t lo, std::uint32_t hi) const { return inner::checked(livevec_reduce(slot(), lo, hi), lo, hi); }
 
-    /* The same of many ranges, all after one edit. Where a range is refused, `refused_at` is thrown. */
-    [[nodiscard]] std::vector<livevec_values> value_many(livevec_kind kind, range_view ranges) const
+    /** The values of many ranges by one kind, all after one edit. If a range is refused, `refused_at` is thrown. As `value` for each. */
+    [[nodiscard]] std::vector<livevec_values> value_many(livevec::kind kind, range_view ranges) const
     {
         std::vector<livevec_values> values(ranges.size());
-        inner::each(livevec_value_many(slot(), kind, ranges.data(), values.data(), ranges.size()));
+        inner::each(livevec_value_many(slot(), inner::number(kind), ranges.data(), values.data(), ranges.size()));
         return values;
     }
-    [[nodiscard]] std::vector<livevec_values> value_many(livevec_kind kind, std::initializer_list<livevec_range> ranges) const
+    /** The same of a list in braces. */
+    [[nodiscard]] std::vector<livevec_values> value_many(livevec::kind kind, std::initializer_list<livevec_range> ranges) const
     {
         return value_many(kind, range_view(ranges.begin(), ranges.size()));
     }
 
-    /* One value of a range, by `value`. The sum is modulo 2^64; a best run's total is exact. Of an empty range there is none but a sum. */
-    [[nodiscard]] std::uint64_t sum(std::uint32_t lo, std::uint32_t hi) const { return value(LIVEVEC_SUM, lo, hi).values.sum; }
+    /** The sum of a range modulo 2^64, as a signed number: exact if it fits. O(log n), and more after edits. */
+    [[nodiscard]] std::int64_t sum(std::uint32_t lo, std::uint32_t hi) const { return static_cast<std::int64_t>(unsigned_sum(lo, hi)); }
+    /** The sum of a range modulo 2^64, from 0 up. O(log n), and more after edits. */
+    [[nodiscard]] std::uint64_t unsigned_sum(std::uint32_t lo, std::uint32_t hi) const { return value(livevec::kind::sum, lo, hi).values.sum; }
+    /** The exact sum of a range. It follows from the sum modulo 2^64 and the bounds that the minimum and the maximum give, if these leave one number:
+     * if the length times their difference is below 2^64. O(log n) then, and more after edits; else as `summarise`. A vector of one kind refuses it. */
+    [[nodiscard]] int128 total(std::uint32_t lo, std::uint32_t hi) const
+    {
+        const livevec_values least = value(livevec::kind::least, lo, hi).values;
+        if (!least.any)
+            return 0;
+        const int128 count = int128(hi) - lo, lowest = count * least.least, highest = count * value(livevec::kind::greatest, lo, hi).values.greatest;
+        if (highest - lowest >= int128(1) << 64)
+            return summarise(lo, hi).total();
+        return lowest + (unsigned_sum(lo, hi) - static_cast<std::uint64_t>(lowest));
+    }
+    /** The minimum of a range, if it isn't empty. O(log n), and more after edits. */
     [[nodiscard]] std::optional<std::int64_t> least(std::uint32_t lo, std::uint32_t hi) const
     {
-        return inner::some(value(LIVEVEC_LEAST, lo, hi).values, &livevec_values::least);
+        return inner::some(value(livevec::kind::least, lo, hi).values, &livevec_values::least);
     }
+    /** The maximum of a range, if it isn't empty. O(log n), and more after edits. */
     [[nodiscard]] std::optional<std::int64_t> greatest(std::uint32_t lo, std::uint32_t hi) const
     {
-        return inner::some(value(LIVEVEC_GREATEST, lo, hi).values, &livevec_values::greatest);
+        return inner::some(value(livevec::kind::greatest, lo, hi).values, &livevec_values::greatest);
     }
+    /** The best run of a range, the maximum subarray sum, if it isn't empty; exact. O(log n), and more after edits. */
     [[nodiscard]] std::optional<int128> best(std::uint32_t lo, std::uint32_t hi) const
     {
-        const livevec_values values = value(LIVEVEC_BEST, lo, hi).values;
-        return values.any ? std::optional<int128>(int128(values.best_high) * (int128(1) << 64) + values.best_low) : std::nullopt;
+        const livevec_values values = value(livevec::kind::best, lo, hi).values;
+        return values.any ? std::optional<int128>(inner::joined(values.best_high, values.best_low)) : std::nullopt;
     }
 
-    /* Where in a range the first of the least elements stands, and the first of the greatest. */
+    /** The position of the first minimum of a range. O(log n), and more after edits. */
     [[nodiscard]] std::optional<placed> where_least(std::uint32_t lo, std::uint32_t hi) const
     {
-        return inner::element<placed>(inner::checked(livevec_where_least(slot(), lo, hi)));
+        return inner::element_at<placed>(inner::checked(livevec_where_least(slot(), lo, hi), lo, hi));
     }
+    /** The position of the first maximum of a range. O(log n), and more after edits. */
     [[nodiscard]] std::optional<placed> where_greatest(std::uint32_t lo, std::uint32_t hi) const
     {
-        return inner::element<placed>(inner::checked(livevec_where_greatest(slot(), lo, hi)));
+        return inner::element_at<placed>(inner::checked(livevec_where_greatest(slot(), lo, hi), lo, hi));
     }
 
-    /* Where the best run stands: of several the one that ends first, and of those the shortest. */
+    /** The position of the best run: of several the one that ends first, and of those the shortest. O(log n), and more after edits. */
     [[nodiscard]] std::optional<best_run> where_best(std::uint32_t lo, std::uint32_t hi) const
     {
-        return inner::run<best_run>(inner::checked(livevec_where_best(slot(), lo, hi)));
+        return inner::run<best_run>(inner::checked(livevec_where_best(slot(), lo, hi), lo, hi));
     }
 
-    /* The least end, from lo to hi, up to which the elements from lo on add up to `sum` or more; the greatest start from which on those up
-     * to hi do. No sum wraps. */
-    [[nodiscard]] std::optional<std::uint32_t> where_reaches(std::uint32_t lo, std::uint32_t hi, std::int64_t sum) const
+    /** The least end, from lo to hi, such that the elements from lo up to it add up to `sum` or more. No sum wraps. O(log n), and more after edits. */
+    [[nodiscard]] std::optional<std::uint32_t> where_reaches(std::uint32_t lo, std::uint32_t hi, element sum) const
     {
-        return inner::one_end(inner::checked(livevec_where_reaches(slot(), lo, hi, sum)), &livevec_found::hi);
+        return inner::one_end(inner::checked(livevec_where_reaches(slot(), lo, hi, sum), lo, hi), &livevec_found::hi);
     }
-    [[nodiscard]] std::optional<std::uint32_t> where_reaches_back(std::uint32_t lo, std::uint32_t hi, std::int64_t sum) const
+    /** The greatest start, from hi down to lo, such that the elements from it up to hi add up to `sum` or more. O(log n), and more after edits. */
+    [[nodiscard]] std::optional<std::uint32_t> where_reaches_back(std::uint32_t lo, std::uint32_t hi, element sum) const
     {
-        return inner::one_end(inner::checked(livevec_where_reaches_back(slot(), lo, hi, sum)), &livevec_found::lo);
-    }
-
-    /* The index of the first element of a range, and of the last, that is at least, or at most, a bound. */
-    [[nodiscard]] std::optional<std::uint32_t> where_first_at_least(std::uint32_t lo, std::uint32_t hi, std::int64_t bound) const
-    {
-        return inner::one_end(inner::checked(livevec_where_first_at_least(slot(), lo, hi, bound)), &livevec_found::lo);
-    }
-    [[nodiscard]] std::optional<std::uint32_t> where_first_at_most(std::uint32_t lo, std::uint32_t hi, std::int64_t bound) const
-    {
-        return inner::one_end(inner::checked(livevec_where_first_at_most(slot(), lo, hi, bound)), &livevec_found::lo);
-    }
-    [[nodiscard]] std::optional<std::uint32_t> where_last_at_least(std::uint32_t lo, std::uint32_t hi, std::int64_t bound) const
-    {
-        return inner::one_end(inner::checked(livevec_where_last_at_least(slot(), lo, hi, bound)), &livevec_found::lo);
-    }
-    [[nodiscard]] std::optional<std::uint32_t> where_last_at_most(std::uint32_t lo, std::uint32_t hi, std::int64_t bound) const
-    {
-        return inner::one_end(inner::checked(livevec_where_last_at_most(slot(), lo, hi, bound)), &livevec_found::lo);
+        return inner::one_end(inner::checked(livevec_where_reaches_back(slot(), lo, hi, sum), lo, hi), &livevec_found::lo);
     }
 
-    /* The summary of a range, which holds nothing of the vector and may travel. */
-    summary summarise(std::uint32_t lo, std::uint32_t hi) const { return summary(summary::made(livevec_summary_of(slot(), lo, hi))); }
+    /** The index of the first element of a range that is at least a bound. O(log n), and more after edits. */
+    [[nodiscard]] std::optional<std::uint32_t> where_first_at_least(std::uint32_t lo, std::uint32_t hi, element bound) const
+    {
+        return inner::one_end(inner::checked(livevec_where_first_at_least(slot(), lo, hi, bound), lo, hi), &livevec_found::lo);
+    }
+    /** The index of the first element that is at most a bound. O(log n), and more after edits. */
+    [[nodiscard]] std::optional<std::uint32_t> where_first_at_most(std::uint32_t lo, std::uint32_t hi, element bound) const
+    {
+        return inner::one_end(inner::checked(livevec_where_first_at_most(slot(), lo, hi, bound), lo, hi), &livevec_found::lo);
+    }
+    /** The index of the last element that is at least a bound. O(log n), and more after edits. */
+    [[nodiscard]] std::optional<std::uint32_t> where_last_at_least(std::uint32_t lo, std::uint32_t hi, element bound) const
+    {
+        return inner::one_end(inner::checked(livevec_where_last_at_least(slot(), lo, hi, bound), lo, hi), &livevec_found::lo);
+    }
+    /** The index of the last element that is at most a bound. O(log n), and more after edits. */
+    [[nodiscard]] std::optional<std::uint32_t> where_last_at_most(std::uint32_t lo, std::uint32_t hi, element bound) const
+    {
+        return inner::one_end(inner::checked(livevec_where_last_at_most(slot(), lo, hi, bound), lo, hi), &livevec_found::lo);
+    }
 
-    /* The values of each beginning of a range, the element itself included, or excluded. */
+    /** The summary of a range, which holds nothing of the vector and may travel. **Linear in the range if nothing was refreshed**, O(log n) if all
+     * was. */
+    summary summarise(std::uint32_t lo, std::uint32_t hi) const { return summary(inner::checked(livevec_summary_of(slot(), lo, hi), lo, hi).summary); }
+
+    /** The values of each prefix of a range by all six kinds, with its last element. O(length). */
     [[nodiscard]] std::vector<livevec_values> scan_inclusive(std::uint32_t lo, std::uint32_t hi) const { return column<livevec_values>(livevec_scan_inclusive, lo, hi); }
+    /** The same without its last element. O(length). */
     [[nodiscard]] std::vector<livevec_values> scan_exclusive(std::uint32_t lo, std::uint32_t hi) const { return column<livevec_values>(livevec_scan_exclusive, lo, hi); }
 
-    /* The running values of a range by one kind, as scan_inclusive<LIVEVEC_SUM>(0, n): in a column of its own; into the front of a column of the
-     * caller's, and how many they are. They are those after the last edit. Of no elements the least, the greatest and the best are 0. */
-    template <livevec_kind Kind> [[nodiscard]] std::vector<cell<Kind>> scan_inclusive(std::uint32_t lo, std::uint32_t hi) const
+    /** The running values of a range by one kind, as scan_inclusive<livevec::kind::sum>(0, n), in a column of its own. Of no elements the minimum, the
+     * maximum and the best run are 0. O(length). */
+    template <livevec::kind Kind> [[nodiscard]] std::vector<cell<Kind>> scan_inclusive(std::uint32_t lo, std::uint32_t hi) const
     {
         return column<cell<Kind>>(inner::by<Kind>::inclusive, lo, hi);
     }
-    template <livevec_kind Kind> [[nodiscard]] std::vector<cell<Kind>> scan_exclusive(std::uint32_t lo, std::uint32_t hi) const
+    /** The same, each without the element at its place. O(length). */
+    template <livevec::kind Kind> [[nodiscard]] std::vector<cell<Kind>> scan_exclusive(std::uint32_t lo, std::uint32_t hi) const
     {
         return column<cell<Kind>>(inner::by<Kind>::exclusive, lo, hi);
     }
-    template <livevec_kind Kind> std::uint32_t scan_inclusive_into(std::uint32_t lo, std::uint32_t hi, view<cell<Kind>> column) const
+    /** The same as scan_inclusive into the front of a column of the caller's, and how many they are. O(length). */
+    template <livevec::kind Kind> std::uint32_t scan_inclusive_into(std::uint32_t lo, std::uint32_t hi, view<cell<Kind>> column) const
     {
-        return inner::checked(inner::by<Kind>::inclusive(slot(), lo, hi, column.data(), column.size())).length;
+        return inner::checked(inner::by<Kind>::inclusive(slot(), lo, hi, column.data(), column.size()), lo, hi).length;
     }
-    template <livevec_kind Kind> std::uint32_t scan_exclusive_into(std::uint32_t lo, std::uint32_t hi, view<cell<Kind>> column) const
+    /** The same as scan_exclusive into the front of a column of the caller's, and how many they are. O(length). */
+    template <livevec::kind Kind> std::uint32_t scan_exclusive_into(std::uint32_t lo, std::uint32_t hi, view<cell<Kind>> column) const
     {
-        return inner::checked(inner::by<Kind>::exclusive(slot(), lo, hi, column.data(), column.size())).length;
+        return inner::checked(inner::by<Kind>::exclusive(slot(), lo, hi, column.data(), column.size()), lo, hi).length;
     }
 
   private:
-    /* One whose slot is still empty, for `transcript` to fill. */
+    /* One whose handle is still empty, for `transcript` to fill. */
     friend class transcript;
     struct unmade {};
-    vector(unmade, std::uint32_t buckets, std::uint32_t edits, std::optional<livevec_kind> only) : limits_{buckets, edits}, only_(only) {}
+    vector(unmade, limits most, std::optional<livevec::kind> only) : limits_(most), only_(only) {}
 
     /* A column of its own, that a call of C fills. */
     template <class Cell, class Call> std::vector<Cell> column(Call call, std::uint32_t lo, std::uint32_t hi) const
     {
         std::vector<Cell> cells(lo < hi && hi <= size() ? hi - lo : 0);
-        inner::checked(call(slot(), lo, hi, cells.data(), cells.size()));
+        inner::checked(call(slot(), lo, hi, cells.data(), cells.size()), lo, hi);
         return cells;
     }
 
     /* What a clone is made by. */
-    struct {
-        std::uint32_t buckets, edits;
-    } limits_;
+    limits limits_;
     std::optional<livevec_table> table_;
-    std::optional<livevec_kind> only_;
+    std::optional<livevec::kind> only_;
 };
 
 } // namespace livevec

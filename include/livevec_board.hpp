@@ -1,5 +1,6 @@
-/* The board of livevec.h for C++17: one vector of 16-bit numbers that up to eight threads edit and reduce at once, without a lock. Include
- * livevec.hpp, which says what holds for all its classes.
+/** @file
+ * Part of livevec.hpp, which is what programs include: the board, one vector of 16-bit integers that up to eight threads edit and query together,
+ * without a lock.
  *
  * One thread makes the board and a seat for each thread. A seat serves one thread at a time, and no call at it waits for another seat.
  * What another seat's edit outran is refused with LIVEVEC_CONTENDED or LIVEVEC_OVERTAKEN (`is_outrun`), and has not happened: call again.
@@ -20,22 +21,24 @@ namespace livevec {
 
 namespace inner {
 
+/** Owns a seat of C. */
 using held_seat = std::unique_ptr<livevec_seat, freed<livevec_seat, livevec_free_seat>>;
 
-/* The seats of a board that were let go, on whatever thread. The board takes them back at its next call, for its slot serves one
+/** The seats of a board that were let go, on whatever thread. The board takes them back at its next call, for its slot serves one
  * call at a time. Those that it never took back are freed with the last of them. */
 class lobby {
   public:
-    /* Room for all seats, so that none that is let go takes memory. */
+    /** Room for all seats, so that none that is let go takes memory. */
     explicit lobby(std::uint32_t seats) { waiting_.reserve(std::min(seats, 8u)); }
 
+    /** Takes one that was let go. */
     void enter(livevec_seat *seat) noexcept
     {
         std::lock_guard<std::mutex> held(lock_);
         waiting_.emplace_back(seat);
     }
 
-    /* Each goes back, but where a call beside this one is at the board. */
+    /** Each goes back, unless another call is at the board. */
     void go_back(livevec_board *board)
     {
         std::lock_guard<std::mutex> held(lock_);
@@ -48,74 +51,87 @@ class lobby {
     std::vector<held_seat> waiting_;
 };
 
-/* Lets a seat go. */
+/** Lets a seat go. */
 struct let_go {
-    std::shared_ptr<lobby> at;
+    std::shared_ptr<lobby> at; /**< where to */
+    /** Lets it go. */
     void operator()(livevec_seat *seat) const noexcept { at->enter(seat); }
 };
 
 } // namespace inner
 
-/* A thread's place at a board, made by `board::sit`. Its end gives the seat back. It stays good where the board ends first. An edit is
- * tried at most `tries` times, and once at least; the other calls make one try. */
+/** A thread's place at a board, made by `board::sit`. Its end gives the seat back. It stays valid if the board ends first. An edit is tried at most
+ * `tries` times, and once at least; the other calls make one try. */
 class [[nodiscard]] seat {
   public:
+    /** The handle, for calls of livevec.h; null once it is closed. */
     livevec_seat *slot() const noexcept { return slot_.get(); }
-    livevec_kind kind() const noexcept { return kind_; }
+    /** The board's kind. O(1). */
+    livevec::kind kind() const noexcept { return kind_; }
 
-    std::uint32_t push(std::int64_t value, std::uint32_t tries = 1000) { return inner::checked(livevec_seat_push(slot(), value, tries)).place; }
+    /** Puts an element from -32768 to 32767 at the end, and gives its index. O(1) a try. */
+    std::uint32_t push(element value, std::uint32_t tries = 1000) { return inner::checked(livevec_seat_push(slot(), value, tries)).place; }
+    /** Drops the last element, and gives it. O(1) a try. */
     std::int64_t pop(std::uint32_t tries = 1000) { return inner::checked(livevec_seat_pop(slot(), tries)).value; }
-    std::int64_t write(std::uint32_t index, std::int64_t value, std::uint32_t tries = 1000)
+    /** Overwrites the element at an index, and gives the one before. O(1) a try. */
+    std::int64_t write(std::uint32_t index, element value, std::uint32_t tries = 1000)
     {
-        return inner::checked(livevec_seat_write(slot(), index, value, tries)).value;
+        return inner::checked(livevec_seat_write(slot(), index, value, tries), index).value;
     }
 
-    [[nodiscard]] std::int64_t operator[](std::uint32_t index) const { return inner::checked(livevec_seat_get(slot(), index)).value; }
-    /* How many elements there are. Another seat may change it at once. */
+    /** The element at an index; the index is checked. O(1). */
+    [[nodiscard]] std::int64_t operator[](std::uint32_t index) const { return inner::checked(livevec_seat_get(slot(), index), index).value; }
+    /** How many elements there are. Another seat may change it at once. O(1). */
     [[nodiscard]] std::uint32_t size() const { return inner::counted(livevec_seat_size(slot())); }
 
-    /* The value of a range by the board's kind, all as it was after one edit. Of the values only those of that kind are told, and `any`. */
-    [[nodiscard]] livevec_reduced reduce(std::uint32_t lo, std::uint32_t hi) const { return inner::checked(livevec_seat_reduce(slot(), lo, hi)); }
+    /** The value of a range by the board's kind, all as it was after one edit. Of the values only those of that kind are told, and `any`. O(length / 8) if
+     * the blocks were refreshed, else O(length). */
+    [[nodiscard]] livevec_reduced reduce(std::uint32_t lo, std::uint32_t hi) const { return inner::checked(livevec_seat_reduce(slot(), lo, hi), lo, hi); }
 
-    /* Computes the summary of a block, the eight elements from index 8 * block on, so that reductions read less. */
+    /** Computes the summary of a block, the eight elements from index 8 * block on, so that reductions read less. O(1). */
     livevec_renewed refresh(std::uint32_t block) { return inner::checked(livevec_seat_refresh(slot(), block)); }
 
-    /* Gives the seat back now. Every later call is refused with LIVEVEC_NULL. */
+    /** Gives the seat back now. Every later call is refused with LIVEVEC_NULL. O(1). */
     void close() noexcept { slot_.reset(); }
 
   private:
     friend class board;
-    seat(inner::held_seat held, std::shared_ptr<inner::lobby> lobby, livevec_kind kind)
+    seat(inner::held_seat held, std::shared_ptr<inner::lobby> lobby, livevec::kind kind)
         : slot_(held.release(), inner::let_go{std::move(lobby)}), kind_(kind)
     {
     }
 
     std::unique_ptr<livevec_seat, inner::let_go> slot_;
-    livevec_kind kind_;
+    livevec::kind kind_;
 };
 
-/* What a closed board came to. */
+/** The elements of a closed board. */
 class [[nodiscard]] closed {
   public:
-    using value_type = std::int64_t;
-    using size_type = std::uint32_t;
-    using iterator = element_iterator;
-    using const_iterator = element_iterator;
+    using value_type = std::int64_t;         /**< an element */
+    using size_type = std::uint32_t;         /**< an index, or a count */
+    using iterator = element_iterator;       /**< goes through a copy */
+    using const_iterator = element_iterator; /**< goes through a copy */
 
+    /** The handle, for calls of livevec.h; null if this was moved from. */
     livevec_board *slot() const noexcept { return slot_.get(); }
-    /* How many edits were accepted at all seats together. */
+    /** How many edits were accepted at all seats together. O(1). */
     std::uint32_t edits() const noexcept { return edits_; }
+    /** How many elements there are. O(1). */
     [[nodiscard]] std::uint32_t size() const { return inner::counted(livevec_closed_size(slot())); }
+    /** Whether there is none. O(1). */
     [[nodiscard]] bool empty() const { return size() == 0; }
-    [[nodiscard]] std::int64_t operator[](std::uint32_t index) const { return inner::checked(livevec_closed_get(slot(), index)).value; }
+    /** The element at an index; the index is checked. O(1). */
+    [[nodiscard]] std::int64_t operator[](std::uint32_t index) const { return inner::checked(livevec_closed_get(slot(), index), index).value; }
 
-    /* All elements; the same into the front of a buffer, and how many they are. */
+    /** All elements. O(n). */
     [[nodiscard]] std::vector<std::int64_t> elements() const
     {
         std::vector<std::int64_t> elements(size());
         read_into(elements);
         return elements;
     }
+    /** All elements into the front of a buffer, and how many they are. O(n). */
     std::uint32_t read_into(buffer_view buffer) const
     {
         std::uint32_t count = 0;
@@ -124,8 +140,9 @@ class [[nodiscard]] closed {
         return count;
     }
 
-    /* Through a copy of the elements. */
+    /** Through a copy of the elements. O(n). */
     [[nodiscard]] const_iterator begin() const { return const_iterator(elements()); }
+    /** The end of each copy. O(1). */
     [[nodiscard]] const_iterator end() const noexcept { return const_iterator(); }
 
   private:
@@ -137,19 +154,19 @@ class [[nodiscard]] closed {
     std::uint32_t edits_;
 };
 
-/* A board. It takes all its memory at the start. */
+/** A board. It takes all its memory at the start. */
 class board : public inner::owned<livevec_board, livevec_free_board> {
   public:
-    /* Of a kind, 1 to 8 seats, 1 to 9 buckets (k hold 8 * (2^k - 1) elements, 9 hold 4,088) and 1 to 16,777,215 edits. */
-    explicit board(livevec_kind kind, std::uint32_t seats = 8, std::uint32_t buckets = 9, std::uint32_t edits = 16777215)
-        : lobby_(std::make_shared<inner::lobby>(seats)), kind_(kind)
+    /** Of a kind, 1 to 8 seats, 1 to 9 buckets (k hold 8 * (2^k - 1) elements, 9 hold 4,088) and 1 to 16,777,215 edits. O(elements it may hold). */
+    explicit board(livevec::kind kind, std::uint32_t seats = 8, limits most = {9, 16777215}) : lobby_(std::make_shared<inner::lobby>(seats)), kind_(kind)
     {
-        inner::check(livevec_board_new(slot(), kind, buckets, edits, seats));
+        inner::check(livevec_board_new(slot(), inner::number(kind), most.buckets, most.edits, seats));
     }
 
-    livevec_kind kind() const noexcept { return kind_; }
+    /** The kind. O(1). */
+    livevec::kind kind() const noexcept { return kind_; }
 
-    /* A seat: one that nobody has yet, or one that came back. */
+    /** A seat: one that nobody has yet, or one that came back. O(1). */
     seat sit()
     {
         gather();
@@ -158,8 +175,8 @@ class board : public inner::owned<livevec_board, livevec_free_board> {
         return seat(std::move(held), lobby_, kind_);
     }
 
-    /* Closes a board whose seats are all back, and gives what it came to; the board is then as one that was moved from. Where it is refused
-     * the board is as it was. */
+    /** Closes a board whose seats are all back, and gives its elements; the board is then as one that was moved from. If it is refused the board is as it
+     * was. O(n). */
     closed close()
     {
         gather();
@@ -175,7 +192,7 @@ class board : public inner::owned<livevec_board, livevec_free_board> {
     }
 
     std::shared_ptr<inner::lobby> lobby_;
-    livevec_kind kind_;
+    livevec::kind kind_;
 };
 
 } // namespace livevec

@@ -1,4 +1,5 @@
-/* Loading of saved bytes, for livevec::series and livevec::samples. */
+/** @file
+ * Part of livevec.hpp, which is what programs include: loading of saved bytes, for livevec::series and livevec::samples. */
 #ifndef LIVEVEC_LOADING_HPP
 #define LIVEVEC_LOADING_HPP
 
@@ -9,29 +10,36 @@
 
 namespace livevec {
 
-/* Bytes that were saved. */
+/** Bytes that were saved. */
 using byte_view = view<const std::uint8_t>;
 
 namespace inner {
 
-/* An empty slot is wanted. */
+/** Asks for an empty handle. */
 struct unfilled {};
 
+/** Begins to load. */
 inline std::uint32_t begin_load(livevec_series *slot) { return livevec_series_begin_load(slot); }
+/** Begins to load. */
 inline std::uint32_t begin_load(livevec_samples *slot) { return livevec_samples_begin_load(slot); }
+/** Ends it. */
 inline std::uint32_t end_load(livevec_series *slot) { return livevec_series_end_load(slot); }
+/** Ends it. */
 inline std::uint32_t end_load(livevec_samples *slot) { return livevec_samples_end_load(slot); }
 
 } // namespace inner
 
-/* Loads what was saved, as loading<series> or loading<samples>: bytes are given in order, in pieces of any length, and `end` gives what they
- * are of. Bytes that are not exactly those of one are refused with LIVEVEC_NOT_SAVED. After the end, refused or not, it has nothing: every call
- * is refused. What was given is in memory until then. */
+/** Loads what was saved, as loading<series> or loading<samples>: bytes are given in order, in pieces of any length, and `end` gives the whole. Bytes
+ * that no series, or no samples, have are refused with LIVEVEC_NOT_SAVED. After the end, refused or not, every call is refused. What was given is in
+ * memory until then. */
 template <class Whole>
 class loading {
   public:
+    /** Begins. O(1). */
     loading() : whole_(inner::unfilled()) { inner::check(inner::begin_load(whole_.slot())); }
+    /** Takes the next piece. O(length) amortised. */
     void give(byte_view bytes) { inner::check(livevec_series_load(whole_.series_slot(), bytes.data(), bytes.size())); }
+    /** Gives what the bytes are of. O(n). */
     [[nodiscard]] Whole end()
     {
         inner::check(inner::end_load(whole_.slot()));
@@ -44,7 +52,7 @@ class loading {
 
 namespace inner {
 
-/* All bytes at once. */
+/** All bytes at once. */
 template <class Whole> Whole loaded(byte_view bytes)
 {
     loading<Whole> loading;

@@ -1,4 +1,5 @@
-/* livevec over MPI: what the elements of all ranks come to, joined in the order of the ranks. Header only, for C11 and C++17; link
+/** @file
+ * livevec over MPI: what the elements of all ranks come to, joined in the order of the ranks. Header only, for C11 and C++17; link
  * what livevec.h links, and MPI.
  *
  * Each rank has a list of its own: a vector, some vectors end to end, or a range of them. All ranks' lists end to end, rank 0's
@@ -24,26 +25,26 @@
 extern "C" {
 #endif
 
-/* The datatype of a summary, and the operation that joins two, left and right kept. */
+/** The datatype of a summary, and the operation that joins two, left and right kept. */
 typedef struct livevec_mpi {
-    MPI_Datatype summary;
-    MPI_Op join;
+    MPI_Datatype summary; /**< the datatype */
+    MPI_Op join;          /**< the operation */
 } livevec_mpi;
 
-/* What a call over the ranks answers. Where there is an error or a refusal the summary is zeros, which are no summary. */
+/** What a call over the ranks answers. Where there is an error or a refusal the summary is zeros, which are no summary. */
 typedef struct livevec_mpi_answer {
-    int error;        /* what MPI answered: MPI_SUCCESS, or a number for MPI_Error_string */
-    uint32_t refusal; /* why there is no answer, 0 where MPI's error is why, or there is one */
-    uint32_t detail;  /* of LIVEVEC_OUT_OF_RANGE at one rank the size there, else 0 */
-    int rank;         /* whose own summary was refused; -1 where it was a join, a range over all, or nothing */
-    livevec_summary summary;
+    int error;        /**< what MPI answered: MPI_SUCCESS, or a number for MPI_Error_string */
+    uint32_t refusal; /**< why there is no answer, 0 where MPI's error is why, or there is one */
+    uint32_t detail;  /**< of LIVEVEC_OUT_OF_RANGE at one rank the size there, else 0 */
+    int rank;         /**< whose own summary was refused; -1 where it was a join, a range over all, or nothing */
+    livevec_summary summary; /**< the summary */
 } livevec_mpi_answer;
 
 #include "livevec_mpi_refusals.h"
 
 /* --- Begin and end --- */
 
-/* Frees the datatype and the operation, where they are there. Answers MPI's error, or MPI_SUCCESS. */
+/** Frees the datatype and the operation, where they are there. Answers MPI's error, or MPI_SUCCESS. Cost: O(1). */
 static inline int livevec_mpi_end(livevec_mpi *mpi)
 {
     int first = mpi->join == MPI_OP_NULL ? MPI_SUCCESS : MPI_Op_free(&mpi->join);
@@ -51,7 +52,7 @@ static inline int livevec_mpi_end(livevec_mpi *mpi)
     return first != MPI_SUCCESS ? first : second;
 }
 
-/* Makes the datatype and the operation, once after MPI_Init. Answers MPI's error, or MPI_SUCCESS. A livevec_mpi_end is owed then. */
+/** Makes the datatype and the operation, once after MPI_Init. Answers MPI's error, or MPI_SUCCESS. A livevec_mpi_end is owed then. Cost: O(1). */
 LIVEVEC_MUST_USE static inline int livevec_mpi_begin(livevec_mpi *mpi)
 {
     int error;
@@ -66,7 +67,7 @@ LIVEVEC_MUST_USE static inline int livevec_mpi_begin(livevec_mpi *mpi)
 
 /* --- At one rank alone --- */
 
-/* How many elements some vectors have together, or why that can't be told. */
+/** How many elements some vectors have together, or why that can't be told. */
 static inline uint32_t livevec_mpi_size_(livevec_vector *vectors, size_t count, uint64_t *size)
 {
     *size = 0;
@@ -81,14 +82,15 @@ static inline uint32_t livevec_mpi_size_(livevec_vector *vectors, size_t count, 
     return LIVEVEC_OK;
 }
 
-/* Where a place of the whole list stands among `size` elements that begin at `start`. */
+/** Where a place of the whole list stands among `size` elements that begin at `start`. */
 static inline uint64_t livevec_mpi_within_(uint64_t place, uint64_t start, uint64_t size)
 {
     return place < start ? 0 : place - start < size ? place - start : size;
 }
 
-/* The summary of a range of the elements of some vectors, end to end. Of no vectors that is the one of livevec_summary_empty: where
+/** The summary of a range of the elements of some vectors, end to end. Of no vectors that is the one of livevec_summary_empty: where
  * automata have tables of their own, each rank needs a vector with that table, if an empty one.
+ * Cost: as livevec_summary_of for each vector.
  * Refusals: NULL, BAD_RANGE, those of livevec_size, livevec_summary_of and livevec_summary_join, OUT_OF_RANGE. */
 LIVEVEC_MUST_USE static inline livevec_summarised livevec_mpi_over(livevec_vector *vectors, size_t count, uint64_t lo, uint64_t hi)
 {
@@ -111,7 +113,7 @@ LIVEVEC_MUST_USE static inline livevec_summarised livevec_mpi_over(livevec_vecto
     return none.refusal ? none : all;
 }
 
-/* What refuses the running values of a range, for a buffer of so many. */
+/** What refuses the running values of a range, for a buffer of so many. */
 static inline livevec_summarised livevec_mpi_judged_(const livevec_summary *before, livevec_vector *slot, uint32_t lo, uint32_t hi, bool there, size_t length)
 {
     livevec_summarised judged;
@@ -130,10 +132,10 @@ static inline livevec_summarised livevec_mpi_judged_(const livevec_summary *befo
     return judged;
 }
 
-/* The running values of a range of a vector whose elements stand behind others, of the summary `before`: buffer[i] has those of
+/** The running values of a range of a vector whose elements stand behind others, of the summary `before`: buffer[i] has those of
  * these others, and then of the elements from lo up to lo + i, that one included. Writes hi - lo values; `length` is how many the
  * buffer takes. Answers the summary of all of them together, which is `before` for the rank's next vector. Each value is one of
- * livevec_summary_extend. Refusals: NULL, NO_HANDLE, BAD_RANGE, OUT_OF_RANGE, SHORT_BUFFER, OTHER_VERSION, DAMAGED, TOO_LONG; but
+ * livevec_summary_extend. Cost: O(hi - lo). Refusals: NULL, NO_HANDLE, BAD_RANGE, OUT_OF_RANGE, SHORT_BUFFER, OTHER_VERSION, DAMAGED, TOO_LONG; but
  * for TOO_LONG the buffer is then as it was. */
 LIVEVEC_MUST_USE static inline livevec_summarised livevec_mpi_running(const livevec_summary *before, livevec_vector *slot, uint32_t lo, uint32_t hi,
                                                      livevec_values *buffer, size_t length)
@@ -149,9 +151,9 @@ LIVEVEC_MUST_USE static inline livevec_summarised livevec_mpi_running(const live
 
 /* --- Over the ranks --- */
 
-/* The summary of all ranks' elements in the order of the ranks, told to the rank `root`. The others are told their own refusal, if
+/** The summary of all ranks' elements in the order of the ranks, told to the rank `root`. The others are told their own refusal, if
  * there is one, and else an answer whose summary is none.
- * Refusals: those of `mine` at any rank, and those of livevec_summary_join; the first one in the order of the ranks, or one of a join. */
+ * Cost: one MPI_Reduce of 184 bytes. Refusals: those of `mine` at any rank, and those of livevec_summary_join; the first one in the order of the ranks, or one of a join. */
 LIVEVEC_MUST_USE static inline livevec_mpi_answer livevec_mpi_reduce(const livevec_mpi *mpi, livevec_summarised mine, int root, MPI_Comm comm)
 {
     livevec_summary sent = livevec_mpi_handed_in_(mine, comm), came;
@@ -163,7 +165,7 @@ LIVEVEC_MUST_USE static inline livevec_mpi_answer livevec_mpi_reduce(const livev
     return livevec_mpi_came_(error, &came);
 }
 
-/* The same, told to all ranks. */
+/** The same, told to all ranks. Cost: one MPI_Allreduce of 184 bytes. */
 LIVEVEC_MUST_USE static inline livevec_mpi_answer livevec_mpi_allreduce(const livevec_mpi *mpi, livevec_summarised mine, MPI_Comm comm)
 {
     livevec_summary sent = livevec_mpi_handed_in_(mine, comm), came;
@@ -171,8 +173,8 @@ LIVEVEC_MUST_USE static inline livevec_mpi_answer livevec_mpi_allreduce(const li
     return livevec_mpi_came_(error, &came);
 }
 
-/* The summary of the elements of all ranks before this one: at rank 0 that of no elements. With it livevec_mpi_running gives the
- * running values of this rank's own elements. Refusals: as of livevec_mpi_reduce, at the ranks from this one back. */
+/** The summary of the elements of all ranks before this one: at rank 0 that of no elements. With it livevec_mpi_running gives the
+ * running values of this rank's own elements. Cost: one MPI_Exscan of 184 bytes. Refusals: as of livevec_mpi_reduce, at the ranks from this one back. */
 LIVEVEC_MUST_USE static inline livevec_mpi_answer livevec_mpi_exscan(const livevec_mpi *mpi, livevec_summarised mine, MPI_Comm comm)
 {
     livevec_summary sent = livevec_mpi_handed_in_(mine, comm), came;
@@ -187,8 +189,8 @@ LIVEVEC_MUST_USE static inline livevec_mpi_answer livevec_mpi_exscan(const livev
     return livevec_mpi_came_(error, &came);
 }
 
-/* The summary of a range of the whole list, told to all ranks. Each rank has so many vectors, whose elements end to end are its own.
- * Refusals: BAD_RANGE; those of livevec_mpi_over at any rank, and of livevec_summary_join; OUT_OF_RANGE where the ranks have fewer
+/** The summary of a range of the whole list, told to all ranks. Each rank has so many vectors, whose elements end to end are its own.
+ * Cost: that of livevec_mpi_over, and two operations of MPI. Refusals: BAD_RANGE; those of livevec_mpi_over at any rank, and of livevec_summary_join; OUT_OF_RANGE where the ranks have fewer
  * elements than `hi`. */
 LIVEVEC_MUST_USE static inline livevec_mpi_answer livevec_mpi_range(const livevec_mpi *mpi, livevec_vector *vectors, size_t count, uint64_t lo, uint64_t hi, MPI_Comm comm)
 {

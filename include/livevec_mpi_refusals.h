@@ -1,4 +1,5 @@
-/* How a refusal travels: in the bytes of a summary of version 0, which is none. Not for callers: livevec_mpi.h brings it, where its own
+/** @file
+ * How a refusal travels: in the bytes of a summary of version 0, which is none. Not for callers: livevec_mpi.h brings it, where its own
  * types are there. */
 #ifndef LIVEVEC_MPI_REFUSALS_H
 #define LIVEVEC_MPI_REFUSALS_H
@@ -32,7 +33,7 @@ static inline bool livevec_mpi_is_refused_(const livevec_summary *summary)
     return !livevec_mpi_got_(summary, 0) && !livevec_mpi_got_(summary, 4) && livevec_mpi_got_(summary, 8);
 }
 
-/* The operation: each place of `right` becomes the join of that of `left` with it, or the first refusal of the two. */
+/** The operation: each place of `right` becomes the join of that of `left` with it, or the first refusal of the two. */
 static inline void livevec_mpi_join_(void *left, void *right, int *length, MPI_Datatype *type)
 {
     const livevec_summary *first = (const livevec_summary *)left;
@@ -49,7 +50,7 @@ static inline void livevec_mpi_join_(void *left, void *right, int *length, MPI_D
     }
 }
 
-/* What this rank hands in. */
+/** What this rank hands in. */
 static inline livevec_summary livevec_mpi_handed_in_(livevec_summarised mine, MPI_Comm comm)
 {
     int rank = -1;
@@ -70,7 +71,7 @@ static inline livevec_mpi_answer livevec_mpi_no_(int error, uint32_t refusal, ui
     return answer;
 }
 
-/* The answer that came. Its bytes are looked at, for with one rank no join has done so. */
+/** The answer that came. Its bytes are looked at, for with one rank no join has done so. */
 static inline livevec_mpi_answer livevec_mpi_came_(int error, const livevec_summary *came)
 {
     livevec_mpi_answer answer;

@@ -1,4 +1,5 @@
-/* Where in a range something stands, for livevec.hpp. */
+/** @file
+ * Part of livevec.hpp, which is what programs include: positions in a range. */
 #ifndef LIVEVEC_PLACES_HPP
 #define LIVEVEC_PLACES_HPP
 
@@ -9,38 +10,43 @@
 
 namespace livevec {
 
-/* An element, and the index at which it stands: in a vector; in a series, or among the values of samples. */
+/** An element of a vector, and its index. */
 struct placed {
-    std::uint32_t index;
-    std::int64_t value;
+    std::uint32_t index; /**< its index */
+    std::int64_t value;  /**< the element */
 };
+/** The same of a series, or of the values of samples. */
 struct placed_long {
-    std::uint64_t index;
-    std::int64_t value;
+    std::uint64_t index; /**< its index */
+    std::int64_t value;  /**< the element */
 };
 
-/* Neighbours that add up to the most: from index `lo` up to `hi`, and what they add up to, which is exact. */
+/** Neighbours in a vector that add up to the most. */
 struct best_run {
-    std::uint32_t lo, hi;
-    int128 sum;
+    std::uint32_t lo; /**< the index of the first */
+    std::uint32_t hi; /**< the index behind the last */
+    int128 sum;       /**< what they add up to, exactly */
 };
+/** The same in a series, or among the values of samples. */
 struct best_run_long {
-    std::uint64_t lo, hi;
-    int128 sum;
+    std::uint64_t lo; /**< the index of the first */
+    std::uint64_t hi; /**< the index behind the last */
+    int128 sum;       /**< what they add up to, exactly */
 };
 
 namespace inner {
 
-/* What an answer that was not refused has found: an element; a run; one end of a part of the range. */
-template <class Placed, class Found> std::optional<Placed> element(const Found &told)
+/** The element that an answer has found. */
+template <class Placed, class Found> std::optional<Placed> element_at(const Found &told)
 {
     return told.found ? std::optional<Placed>(Placed{told.lo, told.value}) : std::nullopt;
 }
+/** The run that an answer has found. */
 template <class Run, class Found> std::optional<Run> run(const Found &told)
 {
-    const int128 sum = int128(told.sum_high) * (int128(1) << 64) + told.sum_low;
-    return told.found ? std::optional<Run>(Run{told.lo, told.hi, sum}) : std::nullopt;
+    return told.found ? std::optional<Run>(Run{told.lo, told.hi, joined(told.sum_high, told.sum_low)}) : std::nullopt;
 }
+/** One end of the part of a range that an answer has found. */
 template <class Found, class Index> std::optional<Index> one_end(const Found &told, Index Found::*which)
 {
     return told.found ? std::optional<Index>(told.*which) : std::nullopt;

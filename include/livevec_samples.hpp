@@ -1,4 +1,5 @@
-/* Samples, for livevec.hpp: values with times that do not fall, and their windows of time. */
+/** @file
+ * Part of livevec.hpp, which is what programs include: values with times that do not fall, and their windows of time. */
 #ifndef LIVEVEC_SAMPLES_HPP
 #define LIVEVEC_SAMPLES_HPP
 
@@ -9,101 +10,111 @@
 #include <cstddef>
 #include <cstdint>
 #include <initializer_list>
+#include <string>
 #include <vector>
 
 namespace livevec {
 
-/* A time before that of the last sample, which is `newest`. */
+/** A time before that of the last sample. */
 class earlier : public refused {
   public:
-    explicit earlier(std::int64_t newest) : refused(LIVEVEC_EARLIER), newest_(newest) {}
+    /** With the time of the last sample. */
+    explicit earlier(std::int64_t newest) noexcept : refused(LIVEVEC_EARLIER), newest_(newest) {}
+    /** The time of the last sample. */
     std::int64_t newest() const noexcept { return newest_; }
 
   private:
     std::int64_t newest_;
 };
 
-/* A time, and a value. */
+/** A value with a time. */
 struct sample {
-    std::int64_t time, value;
+    std::int64_t time;  /**< in a unit of the caller's */
+    std::int64_t value; /**< the value */
 };
 
-/* Samples, each under an index as an element of a series, with a time in a unit of the caller's. Times do not fall: an earlier one than that
- * of the last sample is refused by `earlier`. What is asked and edited by index is so of the values, as of a series. A window of time is a range of
- * indices, from `lo` up to `hi`, which `between` and `last` tell. */
+/** Samples, each under an index as an element of a series, with a time in a unit of the caller's. Times do not fall: a time before that of the last
+ * sample is refused by `earlier`. Calls by index ask and edit the values, as those of a series. A window of time is a range of indices, from `lo` up to
+ * `hi`, which `between` and `last` tell. */
 class samples : public inner::by_index<livevec_samples, livevec_free_samples> {
   public:
-    /* None yet; some, which are pushed; those of the bytes that `save` gave, whose indices and edit numbers go on. */
+    /** None yet. O(1). */
     samples() { inner::check(livevec_samples_new(slot())); }
+    /** These, which are pushed. O(n). */
     samples(std::initializer_list<sample> some) : samples()
     {
         for (const sample &each : some)
             push(each.time, each.value);
     }
+    /** As many as times, which are pushed. O(n). */
     samples(array_view times, array_view values) : samples() { push_many(times, values); }
+    /** Those of the bytes that `save` gave, whose indices and edit numbers go on. O(n). */
     [[nodiscard]] static samples load(byte_view bytes) { return inner::loaded<samples>(bytes); }
 
-    /* A push tells the index. */
-    std::uint64_t push(std::int64_t time, std::int64_t value)
+    /** Puts a sample at the end, and gives its index. O(1) amortised for each tree. */
+    std::uint64_t push(element time, element value)
     {
         const livevec_series_edited did = livevec_samples_push(slot(), time, value);
         if (did.refusal == LIVEVEC_EARLIER)
-            throw earlier(did.value);
-        return inner::kept(did).place;
+            inner::raise(earlier(did.value), "time " + std::to_string(time.value) + ", the last one's " + std::to_string(did.value));
+        return inner::kept(did, std::uint64_t(0)).place;
     }
 
-    /* Pushes in order, up to the first that is refused, and tells the last edit: `refused_at` is thrown for that one, with how many were
-     * pushed. As many values as times are wanted, else it is refused with LIVEVEC_SHORT_BUFFER. */
+    /** Pushes in order, up to the first that is refused, and gives the last edit: `refused_at` is thrown for that one, with how many were pushed. There
+     * must be as many values as times, else it is refused with LIVEVEC_SHORT_BUFFER. O(length) amortised for each tree. */
     std::uint64_t push_many(array_view times, array_view values)
     {
         if (times.size() != values.size())
-            throw refused(LIVEVEC_SHORT_BUFFER, static_cast<std::uint32_t>(times.size()));
+            inner::raise(refused(LIVEVEC_SHORT_BUFFER, static_cast<std::uint32_t>(times.size())));
         return inner::each_of_series(livevec_samples_push_many(slot(), times.data(), values.data(), times.size()));
     }
 
-    /* Drops the samples that were taken before a time, and tells how many they were. */
-    std::uint64_t expire_before(std::int64_t time) { return inner::kept(livevec_samples_expire_before(slot(), time)).place; }
+    /** Drops the samples that were taken before a time, and gives how many they were. O(log n), and O(1) amortised. */
+    std::uint64_t expire_before(element time) { return inner::kept(livevec_samples_expire_before(slot(), time), std::uint64_t(0)).place; }
 
-    /* The sample under an index; the times of a range of indices from its start on into a buffer, as many as it takes, and how many they are;
-     * those of a range. */
+    /** The sample under an index; the index is checked. O(1). */
     [[nodiscard]] sample at(std::uint64_t index) const
     {
-        const livevec_sample told = inner::kept(livevec_samples_get(slot(), index));
+        const livevec_sample told = inner::kept(livevec_samples_get(slot(), index), index);
         return {told.time, told.value};
     }
+    /** The times of a range of indices, from its start on, into a buffer: as many as it takes, and how many they are. O(length). */
     std::size_t times_into(std::uint64_t lo, std::uint64_t hi, buffer_view buffer) const
     {
-        return inner::kept(livevec_samples_times(slot(), lo, hi, buffer.data(), buffer.size())).length;
+        return inner::kept(livevec_samples_times(slot(), lo, hi, buffer.data(), buffer.size()), lo, hi).length;
     }
+    /** The times of a range of indices. O(length). */
     [[nodiscard]] std::vector<std::int64_t> times(std::uint64_t lo, std::uint64_t hi) const
     {
-        inner::kept(livevec_samples_times(slot(), lo, hi, nullptr, 0));
+        inner::kept(livevec_samples_times(slot(), lo, hi, nullptr, 0), lo, hi);
         std::vector<std::int64_t> times(hi - lo);
         times_into(lo, hi, times);
         return times;
     }
+    /** All times. O(n). */
     [[nodiscard]] std::vector<std::int64_t> times() const { return times(first(), size()); }
 
-    /* The samples from time `since` up to `until`: one at `since` is among them, one at `until` isn't. Those of the last `span` of time, whose
-     * times are above that of the last sample less `span`. */
-    [[nodiscard]] livevec_window between(std::int64_t since, std::int64_t until) const { return window(livevec_samples_between(slot(), since, until)); }
+    /** The samples from time `since` up to `until`: one at `since` is among them, one at `until` isn't. O(log n). */
+    [[nodiscard]] livevec_window between(element since, element until) const { return window(livevec_samples_between(slot(), since, until)); }
+    /** The samples of the last `span` of time, whose times are above that of the last sample minus `span`. O(log n). */
     [[nodiscard]] livevec_window last(std::uint64_t span) const { return window(livevec_samples_last(slot(), span)); }
 
-    /* The value of such a window by one kind, whose tree is made first, where there is none. */
-    [[nodiscard]] livevec_series_reduced value_between(livevec_kind kind, std::int64_t since, std::int64_t until) const
+    /** The value of the window that `between` gives, by one kind. O(log n); the first time O(n), which makes the tree. */
+    [[nodiscard]] livevec_series_reduced value_between(kind of, element since, element until) const
     {
-        return inner::kept(livevec_samples_value(slot(), kind, since, until));
+        return window(livevec_samples_value(slot(), inner::number(of), since, until));
     }
-    [[nodiscard]] livevec_series_reduced value_of_last(livevec_kind kind, std::uint64_t span) const
+    /** The value of the window that `last` gives, by one kind. O(log n); the first time O(n), which makes the tree. */
+    [[nodiscard]] livevec_series_reduced value_of_last(kind of, std::uint64_t span) const
     {
-        return inner::kept(livevec_samples_value_of_last(slot(), kind, span));
+        return window(livevec_samples_value_of_last(slot(), inner::number(of), span));
     }
 
   private:
     friend class loading<samples>;
     explicit samples(inner::unfilled) {}
 
-    static livevec_window window(livevec_window told)
+    template <class Answer> static Answer window(Answer told)
     {
         inner::check(told.refusal);
         return told;

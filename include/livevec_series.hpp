@@ -1,4 +1,5 @@
-/* The series, for livevec.hpp: a vector that goes on, whose elements and edits are bounded by memory alone, and whose front may expire. */
+/** @file
+ * Part of livevec.hpp, which is what programs include: the series, an unbounded vector whose front may expire. */
 #ifndef LIVEVEC_SERIES_HPP
 #define LIVEVEC_SERIES_HPP
 
@@ -9,54 +10,104 @@
 
 #include <cstdint>
 #include <initializer_list>
+#include <type_traits>
+#include <vector>
 
 namespace livevec {
 
-/* Why the push of many elements was refused. None of them was pushed, so that `pushed` is 0. */
+/** Why the push of many elements at a series was refused. None of them was pushed. */
 class stopped_long : public refused {
   public:
-    explicit stopped_long(const livevec_series_pushed &pushed) : refused(pushed.refusal), pushed_(pushed.pushed) {}
+    /** Of C's answer. */
+    explicit stopped_long(const livevec_series_pushed &pushed) noexcept : refused(pushed.refusal), pushed_(pushed.pushed) {}
+    /** How many were pushed: 0. */
     std::uint64_t pushed() const noexcept { return pushed_; }
 
   private:
     std::uint64_t pushed_;
 };
 
-/* A vector that goes on. Indices count from the first element that was ever pushed, and an element keeps its index for as long as it is
- * kept: kept are those from `first` up to `size`. What isn't kept is refused by `not_kept`. */
+/** A vector whose elements and edits are bounded by memory only. Indices count from the first element that was ever pushed, and an element keeps its
+ * index for as long as it is kept: the elements from `first` up to `size` are. Any other index is refused by `not_kept`. */
 class series : public inner::by_index<livevec_series, livevec_free_series> {
   public:
-    /* An empty one; one with elements, which are pushed; one of the bytes that `save` gave, whose indices and edit numbers go on. */
+    using iterator = element_iterator;       /**< goes through a copy */
+    using const_iterator = element_iterator; /**< goes through a copy */
+
+    /** An empty one. O(1). */
     series() { inner::check(livevec_series_new(slot())); }
-    series(std::initializer_list<std::int64_t> elements) : series() { push_many(elements); }
+    /** One with these elements, which are pushed. O(n). */
+    series(std::initializer_list<element> elements) : series() { push_many(elements); }
+    /** One with the elements of an array. O(n). */
     explicit series(array_view elements) : series() { push_many(elements); }
+    /** One with the elements of any range of integers. O(n). */
+    template <class Row, class = std::enable_if_t<inner::is_row<Row>::value && !std::is_same_v<std::decay_t<Row>, series>>> explicit series(Row &&row) : series()
+    {
+        push_many(row);
+    }
+    /** A kind is asked for by `prepare`. */
+    template <class... More> explicit series(livevec_kind, More...) = delete;
+    /** One of the bytes that `save` gave, whose indices and edit numbers go on. O(n). */
     [[nodiscard]] static series load(byte_view bytes) { return inner::loaded<series>(bytes); }
 
-    /* A push tells the index. */
-    std::uint64_t push(std::int64_t value) { return inner::kept(livevec_series_push(slot(), value)).place; }
-    void push_back(std::int64_t value) { push(value); }
-    void swap_elements(std::uint64_t first, std::uint64_t second) { inner::kept(livevec_series_swap(slot(), first, second)); }
+    /** Puts an element at the end, and gives its index. O(1) amortised for each tree. */
+    std::uint64_t push(element value) { return inner::kept(livevec_series_push(slot(), value), std::uint64_t(0)).place; }
+    /** The same. O(1) amortised for each tree. */
+    void push_back(element value) { push(value); }
+    /** Drops the last element. O(1) for each tree. */
+    void pop_back() { pop(); }
+    /** Exchanges the elements under two indices. O(log n) for each tree. */
+    void swap_elements(std::uint64_t first, std::uint64_t second)
+    {
+        const livevec_series_edited did = livevec_series_swap(slot(), first, second);
+        inner::kept(did, did.first <= first && first < did.size ? second : first);
+    }
 
-    /* Pushes in order, all of them or none: where one would be refused, `stopped_long` is thrown. */
+    /** The element under an index; the index is checked. O(1). */
+    [[nodiscard]] std::int64_t at(std::uint64_t index) const { return (*this)[index]; }
+    /** The first element that is kept; `not_kept` is thrown if there is none. O(1). */
+    [[nodiscard]] std::int64_t front() const { return (*this)[first()]; }
+    /** The last element; `not_kept` is thrown if there is none. O(1). */
+    [[nodiscard]] std::int64_t back() const
+    {
+        const std::uint64_t size = this->size();
+        return (*this)[size > first() ? size - 1 : size];
+    }
+
+    /** Through a copy of the elements as they are now. O(n). */
+    [[nodiscard]] const_iterator begin() const { return const_iterator(elements()); }
+    /** The end of each copy. O(1). */
+    [[nodiscard]] const_iterator end() const noexcept { return const_iterator(); }
+    /** As begin(). O(n). */
+    [[nodiscard]] const_iterator cbegin() const { return begin(); }
+    /** As end(). O(1). */
+    [[nodiscard]] const_iterator cend() const noexcept { return end(); }
+
+    /** Pushes an array in order: all are pushed, or `stopped_long` is thrown and none is. O(length) amortised for each tree. */
     void push_many(array_view values)
     {
         livevec_series_pushed pushed = livevec_series_push_many(slot(), values.data(), values.size());
         if (pushed.refusal)
-            throw stopped_long(pushed);
+            inner::raise(stopped_long(pushed));
     }
-    void push_many(std::initializer_list<std::int64_t> values) { push_many(array_view(values.begin(), values.size())); }
+    /** The same of a list in braces. */
+    void push_many(std::initializer_list<element> values) { push_many(array_view(inner::copied(values))); }
+    /** The same of any range of integers, which is gone through before anything is pushed. */
+    template <class Row, class = std::enable_if_t<inner::is_row<Row>::value>> void push_many(Row &&row) { push_many(array_view(inner::elements_of_row(row))); }
 
-    /* Writes each value under the index of the same place, in order, and tells the last edit. All are made, or none: where one is refused,
-     * `not_kept_at` is thrown, or `refused_at`. As many values as indices are wanted, else it is refused with LIVEVEC_SHORT_BUFFER. */
+    /** Writes each value under the index of the same place, in order, and gives the last edit. All are made, or none: if one is refused, `not_kept_at`
+     * is thrown, or `refused_at`. There must be as many values as indices, else it is refused with LIVEVEC_SHORT_BUFFER. O(length * log n) for each
+     * tree. */
     std::uint64_t write_many(series_index_view indices, array_view values)
     {
         if (indices.size() != values.size())
-            throw refused(LIVEVEC_SHORT_BUFFER, static_cast<std::uint32_t>(indices.size()));
+            inner::raise(refused(LIVEVEC_SHORT_BUFFER, static_cast<std::uint32_t>(indices.size())));
         return inner::each_of_series(livevec_series_write_many(slot(), indices.data(), values.data(), indices.size()));
     }
-    std::uint64_t write_many(std::initializer_list<std::uint64_t> indices, std::initializer_list<std::int64_t> values)
+    /** The same of two lists in braces. */
+    std::uint64_t write_many(std::initializer_list<std::uint64_t> indices, std::initializer_list<element> values)
     {
-        return write_many(series_index_view(indices.begin(), indices.size()), array_view(values.begin(), values.size()));
+        return write_many(series_index_view(indices.begin(), indices.size()), array_view(inner::copied(values)));
     }
 
   private:

@@ -1,5 +1,5 @@
-/* The columns that scans of a livevec::series by one kind write, and how many questions at one are refused. Part of livevec_series.hpp, which
- * includes it. */
+/** @file
+ * Part of livevec.hpp, which is what programs include: the columns that scans of a livevec::series by one kind write, and how an index is refused. */
 #ifndef LIVEVEC_SERIES_COLUMNS_HPP
 #define LIVEVEC_SERIES_COLUMNS_HPP
 
@@ -8,63 +8,85 @@
 
 #include <cstddef>
 #include <cstdint>
+#include <string>
 
 namespace livevec {
 
-/* An index, or an end of a range, that isn't kept: those from `first` up to `size` are. */
+/** An index, or an end of a range, that isn't kept: those from `first` up to `size` are. What is thrown is a std::out_of_range too. */
 class not_kept : public refused {
   public:
-    explicit not_kept(std::uint64_t first, std::uint64_t size) : refused(LIVEVEC_OUT_OF_RANGE), first_(first), size_(size) {}
+    /** With the indices that are kept. */
+    explicit not_kept(std::uint64_t first, std::uint64_t size) noexcept : refused(LIVEVEC_OUT_OF_RANGE), first_(first), size_(size) {}
+    /** The first index that is kept. */
     std::uint64_t first() const noexcept { return first_; }
+    /** The index behind the last element. */
     std::uint64_t size() const noexcept { return size_; }
 
   private:
     std::uint64_t first_, size_;
 };
 
-/* The same of one of many writes or ranges: which one it was, counted from 0. */
+/** The same of one of many writes or ranges. */
 class not_kept_at : public not_kept {
   public:
-    explicit not_kept_at(const livevec_series_many &many) : not_kept(many.first, many.size), place_(many.place) {}
+    /** Of C's answer. */
+    explicit not_kept_at(const livevec_series_many &many) noexcept : not_kept(many.first, many.size), place_(many.place) {}
+    /** Which one it was, counted from 0. */
     std::size_t place() const noexcept { return place_; }
 
   private:
     std::size_t place_;
 };
 
-/* Where many writes at a series go, and many questions. */
+/** Where many writes at a series go. */
 using series_index_view = view<const std::uint64_t>;
+/** Of which ranges many queries at a series are. */
 using series_range_view = view<const livevec_series_range>;
 
 namespace inner {
 
-/* The edit of many writes, pushes of samples or questions, none of which was refused. */
+/** Which indices are kept, in words. */
+inline std::string words_of_kept(std::uint64_t first, std::uint64_t size) { return "kept from " + std::to_string(first) + " up to " + std::to_string(size); }
+
+/** The edit of many writes, pushes of samples or queries, none of which was refused. */
 inline std::uint64_t each_of_series(const livevec_series_many &many)
 {
+    const auto at = [&many] { return "at place " + std::to_string(many.place); };
     if (many.refusal == LIVEVEC_OUT_OF_RANGE)
-        throw not_kept_at(many);
+        raise(not_kept_at(many), at() + ", " + words_of_kept(many.first, many.size));
     if (many.refusal)
-        throw refused_at(livevec_many{many.refusal, 0, 0, many.done, many.place});
+        raise(refused_at(livevec_many{many.refusal, 0, 0, many.done, many.place}), at());
     return many.edit;
 }
 
+/** A call of C that writes a piece of a column. */
 template <class Cell>
 using scanning_series = livevec_series_scanned (*)(livevec_series *, std::uint64_t, std::uint64_t, std::uint64_t, Cell *, std::size_t);
 
-/* The two calls of C that write columns of a kind. */
-template <livevec_kind Kind, scanning_series<cell<Kind>> Inclusive, scanning_series<cell<Kind>> Exclusive> struct series_scans {
-    static constexpr scanning_series<cell<Kind>> inclusive = Inclusive, exclusive = Exclusive;
+/** The two calls of C that write columns of a kind. */
+template <kind Kind, scanning_series<typename by<Kind>::twin> Inclusive, scanning_series<typename by<Kind>::twin> Exclusive> struct series_scans {
+    using twin = typename by<Kind>::twin; /**< C's cell */
+    /** Each prefix with its last element. */
+    static livevec_series_scanned inclusive(livevec_series *slot, std::uint64_t lo, std::uint64_t at, std::uint64_t hi, cell<Kind> *column, std::size_t length)
+    {
+        return Inclusive(slot, lo, at, hi, reinterpret_cast<twin *>(column), length);
+    }
+    /** Each prefix without it. */
+    static livevec_series_scanned exclusive(livevec_series *slot, std::uint64_t lo, std::uint64_t at, std::uint64_t hi, cell<Kind> *column, std::size_t length)
+    {
+        return Exclusive(slot, lo, at, hi, reinterpret_cast<twin *>(column), length);
+    }
 };
-template <livevec_kind Kind> struct series_by;
-template <> struct series_by<LIVEVEC_SUM> : series_scans<LIVEVEC_SUM, livevec_series_scan_inclusive_sum, livevec_series_scan_exclusive_sum> {};
-template <> struct series_by<LIVEVEC_LEAST> : series_scans<LIVEVEC_LEAST, livevec_series_scan_inclusive_least, livevec_series_scan_exclusive_least> {};
+/** What a kind has. */
+template <kind Kind> struct series_by;
+template <> struct series_by<kind::sum> : series_scans<kind::sum, livevec_series_scan_inclusive_sum, livevec_series_scan_exclusive_sum> {};
+template <> struct series_by<kind::least> : series_scans<kind::least, livevec_series_scan_inclusive_least, livevec_series_scan_exclusive_least> {};
 template <>
-struct series_by<LIVEVEC_GREATEST> : series_scans<LIVEVEC_GREATEST, livevec_series_scan_inclusive_greatest, livevec_series_scan_exclusive_greatest> {};
-template <> struct series_by<LIVEVEC_BEST> : series_scans<LIVEVEC_BEST, livevec_series_scan_inclusive_best, livevec_series_scan_exclusive_best> {};
+struct series_by<kind::greatest> : series_scans<kind::greatest, livevec_series_scan_inclusive_greatest, livevec_series_scan_exclusive_greatest> {};
+template <> struct series_by<kind::best> : series_scans<kind::best, livevec_series_scan_inclusive_best, livevec_series_scan_exclusive_best> {};
+template <> struct series_by<kind::affine> : series_scans<kind::affine, livevec_series_scan_inclusive_affine, livevec_series_scan_exclusive_affine> {};
 template <>
-struct series_by<LIVEVEC_AFFINE> : series_scans<LIVEVEC_AFFINE, livevec_series_scan_inclusive_affine, livevec_series_scan_exclusive_affine> {};
-template <>
-struct series_by<LIVEVEC_AUTOMATON> : series_scans<LIVEVEC_AUTOMATON, livevec_series_scan_inclusive_automaton, livevec_series_scan_exclusive_automaton> {};
+struct series_by<kind::automaton> : series_scans<kind::automaton, livevec_series_scan_inclusive_automaton, livevec_series_scan_exclusive_automaton> {};
 
 } // namespace inner
 

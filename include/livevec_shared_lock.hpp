@@ -1,4 +1,5 @@
-/* What livevec_shared.hpp stands on: the lock round a shared vector, and the seats of its subscribers. */
+/** @file
+ * Part of livevec.hpp, which is what programs include: the lock round a shared vector, and the seats of its subscribers. */
 #ifndef LIVEVEC_SHARED_LOCK_HPP
 #define LIVEVEC_SHARED_LOCK_HPP
 
@@ -15,7 +16,6 @@
 #include <iterator>
 #include <memory>
 #include <mutex>
-#include <optional>
 #include <thread>
 #include <utility>
 #include <vector>
@@ -24,61 +24,64 @@ namespace livevec {
 
 namespace inner {
 
+/** Notes that were told. */
 using told_notes = std::vector<livevec_note>;
 
-/* What a subscriber has at a shared vector: its queries, the changes that there were when it looked last, others before its first look, and
- * the notes of the end that it wasn't given yet, or why there are none. */
+/** What a subscriber has at a shared vector. */
 struct shared_seat {
-    queries asked;
-    std::uint64_t seen;
-    told_notes last = {};
-    std::optional<refused> why = {};
+    queries asked;               /**< its queries */
+    std::uint64_t seen;          /**< the changes that there were when it looked last; others before its first look */
+    told_notes last = {};        /**< the notes of the end that it wasn't given yet, */
+    std::exception_ptr why = {}; /**< or why there are none */
 };
 
-/* The lock, what it guards, and who sleeps at it. Nothing is computed under it but in `with`, in a subscriber's look, and by the 256 the
+/** The lock, what it guards, and who sleeps at it. Nothing is computed under it but in `with`, in a subscriber's look, and by the 256 the
  * summaries above blocks and subtrees that workers went over. */
 class shared_lock : private shared_workers {
   public:
     using shared_workers::held;
 
+    /** Round a vector. */
     explicit shared_lock(vector of) : shared_workers(std::move(of)) {}
 
-    /* Where this thread has the lock, within a `with`, it would wait for itself. */
+    /** Where this thread has the lock, within a `with`, it would wait for itself. */
     held enter()
     {
         if (within_.load(std::memory_order_relaxed) == std::this_thread::get_id())
-            throw refused(LIVEVEC_BUSY);
+            raise(refused(LIVEVEC_BUSY));
         return held(mutex_);
     }
 
+    /** The vector, if it isn't closed. */
     vector &open()
     {
         if (closed_)
-            throw refused(LIVEVEC_NO_HANDLE);
+            raise(refused(LIVEVEC_NO_HANDLE));
         return of_;
     }
 
+    /** Refuses if it is closed. */
     void check_open()
     {
         const held guard = enter();
         open();
     }
 
-    /* A call that reads. */
+    /** A call that reads. */
     template <class Call> auto read(Call call)
     {
         held guard = enter();
         return call(open());
     }
 
-    /* Several calls, some of which may edit. Who sleeps is woken at the end, however it comes. */
+    /** Several calls, some of which may edit. Who sleeps is woken at the end, however it comes. */
     template <class Call> decltype(auto) with(Call &&call)
     {
         const turn mine(*this);
         return std::forward<Call>(call)(open());
     }
 
-    /* A call that edits, or changes nothing where it is refused; and one that may have edited before it was refused. */
+    /** A call that edits, or changes nothing if it is refused. */
     template <class Call> auto edit(Call call)
     {
         held guard = enter();
@@ -86,6 +89,7 @@ class shared_lock : private shared_workers {
         changed(guard);
         return told;
     }
+    /** One that may have edited before it was refused. */
     template <class Call> auto edit_many(Call call)
     {
         held guard = enter();
@@ -101,7 +105,7 @@ class shared_lock : private shared_workers {
         }
     }
 
-    /* Starts so many workers, or none. */
+    /** Starts so many workers, or none. */
     void start(std::size_t count)
     {
         std::vector<worker> made;
@@ -122,10 +126,11 @@ class shared_lock : private shared_workers {
             throw;
         } catch (const std::exception &) {
             end(std::move(made));
-            throw refused(LIVEVEC_NO_MEMORY);
+            raise(refused(LIVEVEC_NO_MEMORY));
         }
     }
 
+    /** Ends all workers. */
     void stop()
     {
         held guard = enter();
@@ -134,6 +139,7 @@ class shared_lock : private shared_workers {
         end(std::move(ended));
     }
 
+    /** One more subscriber. */
     std::shared_ptr<shared_seat> sit(queries asked)
     {
         auto seat = std::make_shared<shared_seat>(shared_seat{std::move(asked), 0});
@@ -147,7 +153,7 @@ class shared_lock : private shared_workers {
         return seat;
     }
 
-    /* Ends edits, workers and sleep, and leaves each subscriber its last notes; tells whether it wasn't closed yet. */
+    /** Ends edits, workers and sleep, and leaves each subscriber its last notes; tells whether it wasn't closed yet. */
     bool close()
     {
         held guard = enter();
@@ -163,7 +169,7 @@ class shared_lock : private shared_workers {
         return true;
     }
 
-    /* Only once it is closed. Jobs that nobody delivers any more are handed out again. */
+    /** Only once it is closed. Jobs that nobody delivers any more are handed out again. */
     vector taken()
     {
         const held guard(mutex_);
@@ -171,15 +177,12 @@ class shared_lock : private shared_workers {
         return std::move(of_);
     }
 
-    /* The notes that there are for a subscriber now. */
+    /** The notes that there are for a subscriber now. */
     told_notes look(shared_seat &seat, const held &)
     {
         told_notes told;
-        if (closed_ && seat.why) {
-            const refused why = *seat.why;
-            seat.why.reset();
-            throw why;
-        }
+        if (closed_ && seat.why)
+            std::rethrow_exception(std::exchange(seat.why, nullptr));
         if (closed_)
             told.swap(seat.last);
         else if (seat.seen != changes_) {
@@ -189,7 +192,7 @@ class shared_lock : private shared_workers {
         return told;
     }
 
-    /* Sleeps until there may be something to look at, not before a time; tells whether there is. */
+    /** Sleeps until there may be something to look at, not before a time; tells whether there is. */
     bool is_awaited(const shared_seat &seat, std::chrono::steady_clock::time_point rested, held &guard)
     {
         while (!closed_) {
@@ -235,8 +238,8 @@ class shared_lock : private shared_workers {
         try {
             if (seat.seen != changes_)
                 look(seat, of_, seat.last);
-        } catch (const refused &why) {
-            seat.why = why;
+        } catch (const refused &) {
+            seat.why = std::current_exception();
         }
     }
 

@@ -1,4 +1,5 @@
-/* What livevec_shared_lock.hpp stands on: the workers of a shared vector, and who sleeps at its lock. */
+/** @file
+ * Part of livevec.hpp, which is what programs include: the workers of a shared vector, and who sleeps at its lock. */
 #ifndef LIVEVEC_SHARED_WORKERS_HPP
 #define LIVEVEC_SHARED_WORKERS_HPP
 
@@ -23,7 +24,7 @@ namespace livevec {
 
 namespace inner {
 
-/* The vector that a lock guards, the workers that compute its summaries, and what they and others sleep by. */
+/** The vector that a lock guards, the workers that compute its summaries, and what they and others sleep by. */
 class shared_workers {
   protected:
     using held = std::unique_lock<std::mutex>;

@@ -1,79 +1,85 @@
-/* Of livevec.h, which is what programs include: vectors: edits and elements. */
+/** @file
+ * Part of livevec.h, which is what programs include: vectors: edits and elements. */
 #ifndef LIVEVEC_VECTORS_H
 #define LIVEVEC_VECTORS_H
 
-/* --- A vector --- */
-
-/* Puts a new, empty vector into an empty slot: of at most 1 to 17 buckets (k buckets hold 8 * (2^k - 1) elements, 17 hold
- * 1,048,568) and 1 to 16,777,215 edits. Its automaton leads from q by x to (2 * q + x mod 4) mod 8.
- * Refusals: NULL, IN_USE, BAD_LIMITS, NO_MEMORY. Who calls owes a livevec_free. */
+/** Puts a new, empty vector into an empty slot: of at most 1 to 17 buckets (k buckets hold 8 * (2^k - 1) elements, 17 hold 1,048,568) and 1 to
+ * 16,777,215 edits. Its automaton leads from q by x to (2 * q + x mod 4) mod 8. Cost: O(1). Refusals: NULL, IN_USE, BAD_LIMITS, NO_MEMORY. Who
+ * calls owes a livevec_free. */
 LIVEVEC_MUST_USE uint32_t livevec_new(livevec_vector *slot, uint32_t buckets, uint32_t edits);
 
-/* The same of one livevec_kind alone, where no other is wanted: it is asked by livevec_value, livevec_value_many and the scans of that
- * kind; of LEAST also by livevec_where_least, of GREATEST by livevec_where_greatest, of BEST by livevec_where_best and
- * livevec_where_reaches. A question by another kind is refused with BAD_KIND, right after NO_HANDLE, and so is one by all six:
- * livevec_reduce, livevec_ask, livevec_scan_inclusive, livevec_scan_exclusive, livevec_summary_of. So no question computes more than
- * that kind. All else is as at any vector; refresh and jobs compute all six. Refusals: NULL, IN_USE, BAD_KIND, BAD_LIMITS, NO_MEMORY. */
+/** The same of one livevec_kind only, if no other will be asked: it is asked by livevec_value, livevec_value_many and the scans of that kind; of
+ * LEAST also by livevec_where_least, of GREATEST by livevec_where_greatest, of BEST by livevec_where_best and livevec_where_reaches. A query by
+ * another kind is refused with BAD_KIND, right after NO_HANDLE, and so is one by all six: livevec_reduce, livevec_ask, livevec_scan_inclusive,
+ * livevec_scan_exclusive, livevec_summary_of. So no query computes more than that kind. All else is as at any vector; refresh and jobs compute
+ * all six. Cost: O(1). Refusals: NULL, IN_USE, BAD_KIND, BAD_LIMITS, NO_MEMORY. */
 LIVEVEC_MUST_USE uint32_t livevec_new_of(livevec_vector *slot, uint32_t kind, uint32_t buckets, uint32_t edits);
 
-/* As livevec_new, with an automaton of a table of the caller's, which is copied. Refusals: NULL, IN_USE, BAD_LIMITS, BAD_TABLE, NO_MEMORY. */
+/** As livevec_new, with an automaton of a table of the caller's, which is copied. Cost: O(1). Refusals: NULL, IN_USE, BAD_LIMITS, BAD_TABLE,
+ * NO_MEMORY. */
 LIVEVEC_MUST_USE uint32_t livevec_new_with_table(livevec_vector *slot, uint32_t buckets, uint32_t edits,
                                                  const livevec_table *table);
 
-/* Frees a vector and empties its slot. Its jobs and outcomes stay good for nothing but to be freed. Each free is of its own type: of a
- * slot that holds something else, as one that was cast, it answers NO_HANDLE and frees nothing. Refusals: NULL, NO_HANDLE. */
+/** Frees a vector and empties its slot. Its jobs and outcomes stay good for nothing but to be freed. Each free is of its own type: of a slot that
+ * holds something else, as one that was cast, it answers NO_HANDLE and frees nothing. Cost: O(n). Refusals: NULL, NO_HANDLE. */
 uint32_t livevec_free(livevec_vector *slot);
 
-/* Puts an element at the end. `place` is its index. Refusals: NULL, NO_HANDLE, WORN, FULL, NO_MEMORY. */
+/** Puts an element at the end. `place` is its index. Cost: O(log n) amortised. Refusals: NULL, NO_HANDLE, WORN, FULL, NO_MEMORY. */
 LIVEVEC_MUST_USE livevec_edited livevec_push(livevec_vector *slot, int64_t value);
 
-/* Drops the last element. `value` is that element. Refusals: NULL, NO_HANDLE, WORN, EMPTY, NO_MEMORY. */
+/** Drops the last element. `value` is that element. Cost: O(log n). Refusals: NULL, NO_HANDLE, WORN, EMPTY, NO_MEMORY. */
 LIVEVEC_MUST_USE livevec_edited livevec_pop(livevec_vector *slot);
 
-/* Overwrites the element at an index. `value` is the element before. Refusals: NULL, NO_HANDLE, WORN, OUT_OF_RANGE, NO_MEMORY. */
+/** Overwrites the element at an index. `value` is the element before. Cost: O(log n) amortised. Refusals: NULL, NO_HANDLE, WORN, OUT_OF_RANGE,
+ * NO_MEMORY. */
 LIVEVEC_MUST_USE livevec_edited livevec_write(livevec_vector *slot, uint32_t index, int64_t value);
 
-/* Makes room for so many elements in all. `place` is how many now fit. Refusals: NULL, NO_HANDLE, WORN, TOO_LARGE, NO_MEMORY. */
+/** Makes room for so many elements in all. `place` is how many now fit. Cost: O(1), and the memory that is asked for. Refusals: NULL, NO_HANDLE,
+ * WORN, TOO_LARGE, NO_MEMORY. */
 LIVEVEC_MUST_USE livevec_edited livevec_reserve(livevec_vector *slot, uint32_t elements);
 
-/* The element at an index. Refusals: NULL, NO_HANDLE, OUT_OF_RANGE. */
+/** The element at an index. Reads. Cost: O(1). Refusals: NULL, NO_HANDLE, OUT_OF_RANGE. */
 LIVEVEC_MUST_USE livevec_element livevec_get(livevec_vector *slot, uint32_t index);
 
-/* Exchanges the elements at two indices, which may be one. `value` is the element at the first index now.
- * Refusals: NULL, NO_HANDLE, WORN, OUT_OF_RANGE, NO_MEMORY. */
+/** Exchanges the elements at two indices, which may be one. `value` is the element at the first index now. Cost: O(log n) amortised. Refusals: NULL,
+ * NO_HANDLE, WORN, OUT_OF_RANGE, NO_MEMORY. */
 LIVEVEC_MUST_USE livevec_edited livevec_swap(livevec_vector *slot, uint32_t first, uint32_t second);
 
-/* Keeps so many elements, the first ones, and drops the others. `place` is how many were dropped.
- * Refusals: NULL, NO_HANDLE, WORN, OUT_OF_RANGE, NO_MEMORY. */
+/** Keeps so many elements, the first ones, and drops the others. `place` is how many were dropped. Cost: O(log n) amortised. Refusals: NULL,
+ * NO_HANDLE, WORN, OUT_OF_RANGE, NO_MEMORY. */
 LIVEVEC_MUST_USE livevec_edited livevec_truncate(livevec_vector *slot, uint32_t elements);
 
-/* Why that very edit would be refused, want of memory apart; nothing is changed. Refusals: those of the edit but NO_MEMORY. */
+/**@{*/
+/** Why that very edit would be refused, out of memory apart; nothing is changed. Reads. Cost: O(1). Refusals: those of the edit but NO_MEMORY. */
 LIVEVEC_MUST_USE livevec_verdict livevec_verdict_push(livevec_vector *slot, int64_t value);
 LIVEVEC_MUST_USE livevec_verdict livevec_verdict_pop(livevec_vector *slot);
 LIVEVEC_MUST_USE livevec_verdict livevec_verdict_write(livevec_vector *slot, uint32_t index, int64_t value);
 LIVEVEC_MUST_USE livevec_verdict livevec_verdict_reserve(livevec_vector *slot, uint32_t elements);
 LIVEVEC_MUST_USE livevec_verdict livevec_verdict_swap(livevec_vector *slot, uint32_t first, uint32_t second);
 LIVEVEC_MUST_USE livevec_verdict livevec_verdict_truncate(livevec_vector *slot, uint32_t elements);
+/**@}*/
 
-/* Pushes elements in order: all are pushed, or none. Room for them, and for what may be asked after them, is made before the first.
- * Where one would be refused, all are: nothing has changed then, and `pushed` is 0. A null pointer with length 0 is an empty array, here
- * and below. Refusals: NULL, NO_HANDLE, and, of the first push that is refused, WORN, FULL; NO_MEMORY. */
+/** Pushes elements in order: all are pushed, or none. Room for them, and for what may be asked after them, is made before the first. Where one would
+ * be refused, all are: nothing has changed then, and `pushed` is 0. A null pointer with length 0 is an empty array, here and below. Cost: O(length)
+ * amortised. Refusals: NULL, NO_HANDLE, and, of the first push that is refused, WORN, FULL; NO_MEMORY. */
 LIVEVEC_MUST_USE livevec_pushed livevec_push_many(livevec_vector *slot, const int64_t *values, size_t length);
 
-/* Overwrites the element at each of `length` indices, in order, by the value at the same place: `values` has so many too. An index
- * may come twice: the later value stays. Each is an edit of its own. All are made, or none: all indices are looked at before the first
- * write, and whether so many edits are left, and the journal's room for them is made. `place` tells the first write that is refused.
+/** Overwrites the element at each of `length` indices, in order, by the value at the same place: `values` has so many too. An index may come twice:
+ * the later value stays. Each is an edit of its own. All are made, or none: all indices are looked at before the first write, and whether so many
+ * edits are left, and the journal's room for them is made. `place` tells the first write that is refused. Cost: O(length * log n) amortised.
  * Refusals: NULL, NO_HANDLE, and, of the first write that is refused, WORN, OUT_OF_RANGE; NO_MEMORY, of which `place` is 0. */
 LIVEVEC_MUST_USE livevec_many livevec_write_many(livevec_vector *slot, const uint32_t *indices, const int64_t *values, size_t length);
 
-/* The elements of a range, into a buffer that takes `length` of them. Where it was refused the buffer is as it was.
+/** The elements of a range, into a buffer that takes `length` of them. If it was refused the buffer is as it was. Reads. Cost: O(hi - lo).
  * Refusals: NULL, NO_HANDLE, BAD_RANGE, OUT_OF_RANGE, SHORT_BUFFER. */
 LIVEVEC_MUST_USE livevec_scanned livevec_read(livevec_vector *slot, uint32_t lo, uint32_t hi, int64_t *buffer, size_t length);
 
-/* How many elements there are; how many fit into the memory that is held; how many edits were accepted.
- * Refusals: NULL, NO_HANDLE. */
+/**@{*/
+/** How many elements there are; how many fit into the memory that is held; how many edits were accepted. Reads. Cost: O(1). Refusals: NULL,
+ * NO_HANDLE. */
 LIVEVEC_MUST_USE livevec_count livevec_size(livevec_vector *slot);
 LIVEVEC_MUST_USE livevec_count livevec_capacity(livevec_vector *slot);
 LIVEVEC_MUST_USE livevec_count livevec_edits(livevec_vector *slot);
+/**@}*/
 
 #endif

@@ -1,6 +1,6 @@
-/* The functions of livevec.h: each answers LIVEVEC_NULL where a pointer is null, and else calls the proved export of its name. Here stand
- * those of vectors, jobs and outcomes; the others in livevec_many.c, livevec_scans.c and the files of summaries, queries, boards, series, samples
- * and transcripts. Those of many elements at once are one proved call, but for questions, which walk over their ranges, and pushes of many
+/* The functions of livevec.h: each answers LIVEVEC_NULL where a pointer is null, and else calls the proved export of its name, or one that a
+ * number tells which edit, count or sort of slot is meant. Here stand those of vectors, jobs and outcomes; the others in livevec_many.c,
+ * livevec_scans.c and the files of summaries, queries, boards, series, samples and transcripts. Those of many elements at once are one proved call, but for questions, which walk over their ranges, and pushes of many
  * samples; and two of summaries make a proved call for up to 1,024. These files are C, so no proof covers them. */
 #include "livevec_slots.h"
 
@@ -42,7 +42,7 @@ const char *livevec_refusal_text(uint32_t refusal)
     case LIVEVEC_OTHER_VERSION: return "a summary of another version, or none";
     case LIVEVEC_DAMAGED: return "a damaged summary";
     case LIVEVEC_OTHER_TABLE: return "summaries by two tables";
-    case LIVEVEC_TOO_LONG: return "more elements than summaries may have, or more bytes than a text may have";
+    case LIVEVEC_TOO_LONG: return "longer than a summary, a text or an array may be";
     case LIVEVEC_BAD_KIND: return "a number that is no kind, or a kind that the vector is not of";
     case LIVEVEC_BAD_NAME: return "bytes that are no name of a query";
     case LIVEVEC_NOT_IN_ORDER: return "recorded answers that don't rise by their edits";
@@ -53,21 +53,22 @@ const char *livevec_refusal_text(uint32_t refusal)
 
 TOLD(new, (livevec_vector *slot, uint32_t buckets, uint32_t edits), slot, (slot, buckets, edits))
 TOLD(new_of, (livevec_vector *slot, uint32_t kind, uint32_t buckets, uint32_t edits), slot, (slot, kind, buckets, edits))
-AT_ONE(uint32_t, AS_NUMBER, new_with_table, (livevec_vector *slot, uint32_t buckets, uint32_t edits, const livevec_table *table), slot && table, slot,
-       (slot, buckets, edits, table))
+AT_ONE(uint32_t, AS_NUMBER, new_with_table, (livevec_vector *slot, uint32_t buckets, uint32_t edits, const livevec_table *table), THERE(slot && table),
+       slot, enter, (slot, buckets, edits, table))
 ANSWERED(livevec_edited, push, (livevec_vector *slot, int64_t value), slot, (slot, value))
-ANSWERED(livevec_edited, pop, (livevec_vector *slot), slot, (slot))
 ANSWERED(livevec_edited, write, (livevec_vector *slot, uint32_t index, int64_t value), slot, (slot, index, value))
-ANSWERED(livevec_edited, reserve, (livevec_vector *slot, uint32_t elements), slot, (slot, elements))
-ANSWERED(livevec_edited, swap, (livevec_vector *slot, uint32_t first, uint32_t second), slot, (slot, first, second))
-ANSWERED(livevec_edited, truncate, (livevec_vector *slot, uint32_t elements), slot, (slot, elements))
-ANSWERED(livevec_element, get, (livevec_vector *slot, uint32_t index), slot, (slot, index))
-ANSWERED(livevec_count, size, (livevec_vector *slot), slot, (slot))
-ANSWERED(livevec_count, capacity, (livevec_vector *slot), slot, (slot))
-ANSWERED(livevec_count, edits, (livevec_vector *slot), slot, (slot))
-ANSWERED(livevec_reduced, reduce, (livevec_vector *slot, uint32_t lo, uint32_t hi), slot, (slot, lo, hi))
-ANSWERED(livevec_reduced, ask, (livevec_vector *slot, uint32_t lo, uint32_t hi), slot, (slot, lo, hi))
-ANSWERED(livevec_reduced, value, (livevec_vector *slot, uint32_t kind, uint32_t lo, uint32_t hi), slot, (slot, kind, lo, hi))
+livevec_edited livevec_proved_edit(livevec_vector *slot, uint32_t what, uint32_t index, uint32_t second, int64_t value);
+EDITED(livevec_edited, pop, (livevec_vector *slot), edit(slot, LIVEVEC_POP, 0, 0, 0))
+EDITED(livevec_edited, reserve, (livevec_vector *slot, uint32_t elements), edit(slot, LIVEVEC_RESERVE, elements, 0, 0))
+EDITED(livevec_edited, swap, (livevec_vector *slot, uint32_t first, uint32_t second), edit(slot, LIVEVEC_SWAP, first, second, 0))
+EDITED(livevec_edited, truncate, (livevec_vector *slot, uint32_t elements), edit(slot, LIVEVEC_TRUNCATE, elements, 0, 0))
+READS(livevec_element, get, (livevec_vector *slot, uint32_t index), slot, (slot, index))
+ENTERED(livevec_count, AS_STRUCT, size, (livevec_vector *slot), THERE(slot), slot, enter_to_read, count(slot, ELEMENTS))
+ENTERED(livevec_count, AS_STRUCT, capacity, (livevec_vector *slot), THERE(slot), slot, enter_to_read, count(slot, ROOM))
+ENTERED(livevec_count, AS_STRUCT, edits, (livevec_vector *slot), THERE(slot), slot, enter_to_read, count(slot, ACCEPTED))
+READS(livevec_reduced, reduce, (livevec_vector *slot, uint32_t lo, uint32_t hi), slot, (slot, lo, hi))
+READS(livevec_reduced, ask, (livevec_vector *slot, uint32_t lo, uint32_t hi), slot, (slot, lo, hi))
+READS(livevec_reduced, value, (livevec_vector *slot, uint32_t kind, uint32_t lo, uint32_t hi), slot, (slot, kind, lo, hi))
 
 /* `livevec_where_NAME` by the number under which the proved export knows what is looked for. */
 #define FOUND_BY(name, wanted) FOUND_IN(livevec_found, livevec_where_##name, livevec_proved_find, livevec_vector, uint32_t, wanted)
@@ -75,29 +76,33 @@ ANSWERED(livevec_reduced, value, (livevec_vector *slot, uint32_t kind, uint32_t 
 livevec_found livevec_proved_find(livevec_vector *slot, uint32_t wanted, int64_t x, uint32_t lo, uint32_t hi);
 
 EACH_SEARCH(FOUND_BY, FOUND_BY_BOUND)
-ANSWERED(livevec_summarised, summary_of, (livevec_vector *slot, uint32_t lo, uint32_t hi), slot, (slot, lo, hi))
+READS(livevec_summarised, summary_of, (livevec_vector *slot, uint32_t lo, uint32_t hi), slot, (slot, lo, hi))
 
-ANSWERED(livevec_verdict, verdict_push, (livevec_vector *slot, int64_t value), slot, (slot, value))
-ANSWERED(livevec_verdict, verdict_pop, (livevec_vector *slot), slot, (slot))
-ANSWERED(livevec_verdict, verdict_write, (livevec_vector *slot, uint32_t index, int64_t value), slot, (slot, index, value))
-ANSWERED(livevec_verdict, verdict_reserve, (livevec_vector *slot, uint32_t elements), slot, (slot, elements))
-ANSWERED(livevec_verdict, verdict_swap, (livevec_vector *slot, uint32_t first, uint32_t second), slot, (slot, first, second))
-ANSWERED(livevec_verdict, verdict_truncate, (livevec_vector *slot, uint32_t elements), slot, (slot, elements))
+/* `livevec_verdict_NAME`, by a proved export that knows the edit by its livevec_edit_kind. */
+#define JUDGED(name, parameters, call) ENTERED(livevec_verdict, AS_STRUCT, verdict_##name, parameters, THERE(slot), slot, enter_to_read, call)
+livevec_verdict livevec_proved_verdict(livevec_vector *slot, uint32_t what, uint32_t index, uint32_t second, int64_t value);
+
+JUDGED(push, (livevec_vector *slot, int64_t value), verdict(slot, LIVEVEC_PUSH, 0, 0, value))
+JUDGED(pop, (livevec_vector *slot), verdict(slot, LIVEVEC_POP, 0, 0, 0))
+JUDGED(write, (livevec_vector *slot, uint32_t index, int64_t value), verdict(slot, LIVEVEC_WRITE, index, 0, value))
+JUDGED(reserve, (livevec_vector *slot, uint32_t elements), verdict(slot, LIVEVEC_RESERVE, elements, 0, 0))
+JUDGED(swap, (livevec_vector *slot, uint32_t first, uint32_t second), verdict(slot, LIVEVEC_SWAP, first, second, 0))
+JUDGED(truncate, (livevec_vector *slot, uint32_t elements), verdict(slot, LIVEVEC_TRUNCATE, elements, 0, 0))
 
 ANSWERED(livevec_count, refresh, (livevec_vector *slot, uint32_t jobs), slot, (slot, jobs))
-ANSWERED_AT_TWO(livevec_claimed, claim, (livevec_vector *slot, livevec_job *job), slot, job, (slot, job))
+ANSWERED_AT_TWO(livevec_claimed, claim, (livevec_vector *slot, livevec_job *job), slot, enter, job, enter, (slot, job))
 TOLD_AT_TWO(run, (livevec_job *job, livevec_outcome *outcome), job, outcome, (job, outcome))
-ANSWERED_AT_TWO(livevec_vetted, vet, (livevec_vector *slot, livevec_outcome *outcome), slot, outcome, (slot, outcome))
-ANSWERED_AT_TWO(livevec_accepted, accept, (livevec_vector *slot, livevec_outcome *outcome), slot, outcome, (slot, outcome))
+ANSWERED_AT_TWO(livevec_vetted, vet, (livevec_vector *slot, livevec_outcome *outcome), slot, enter_to_read, outcome, enter_to_read, (slot, outcome))
+ANSWERED_AT_TWO(livevec_accepted, accept, (livevec_vector *slot, livevec_outcome *outcome), slot, enter, outcome, enter_to_read, (slot, outcome))
 TOLD(forget, (livevec_vector *slot), slot, (slot))
-ANSWERED_AT_TWO(livevec_count, blocks, (livevec_vector *slot, livevec_batch *batch, uint32_t first, uint32_t limit), slot, batch,
+ANSWERED_AT_TWO(livevec_count, blocks, (livevec_vector *slot, livevec_batch *batch, uint32_t first, uint32_t limit), slot, enter_to_read, batch, enter,
                 (slot, batch, first, limit))
-ANSWERED_AT_TWO(livevec_count, subtree, (livevec_vector *slot, livevec_batch *batch, uint32_t number), slot, batch, (slot, batch, number))
-ANSWERED_AT_TWO(livevec_count, accept_subtree, (livevec_vector *slot, livevec_batch *batch), slot, batch, (slot, batch))
+ANSWERED_AT_TWO(livevec_count, subtree, (livevec_vector *slot, livevec_batch *batch, uint32_t number), slot, enter_to_read, batch, enter, (slot, batch, number))
+ANSWERED_AT_TWO(livevec_count, accept_subtree, (livevec_vector *slot, livevec_batch *batch), slot, enter, batch, enter, (slot, batch))
 TOLD(run_blocks, (livevec_batch *batch), batch, (batch))
-ANSWERED_AT_TWO(livevec_taken, accept_blocks, (livevec_vector *slot, livevec_batch *batch), slot, batch, (slot, batch))
+ANSWERED_AT_TWO(livevec_taken, accept_blocks, (livevec_vector *slot, livevec_batch *batch), slot, enter, batch, enter, (slot, batch))
 
-FREED(free, livevec_vector)
-FREED(free_job, livevec_job)
-FREED(free_outcome, livevec_outcome)
-FREED(free_batch, livevec_batch)
+FREED(free, livevec_vector, A_VECTOR)
+FREED(free_job, livevec_job, A_JOB)
+FREED(free_outcome, livevec_outcome, AN_OUTCOME)
+FREED(free_batch, livevec_batch, A_BATCH)

@@ -5,19 +5,21 @@
 
 TOLD_AT_TWO(board_sit, (livevec_board *board, livevec_seat *seat), board, seat, (board, seat))
 TOLD_AT_TWO(board_take_back, (livevec_board *board, livevec_seat *seat), board, seat, (board, seat))
-ANSWERED(livevec_edited, seat_push, (livevec_seat *seat, int64_t value, uint32_t tries), seat, (seat, value, tries))
-ANSWERED(livevec_edited, seat_pop, (livevec_seat *seat, uint32_t tries), seat, (seat, tries))
-ANSWERED(livevec_edited, seat_write, (livevec_seat *seat, uint32_t index, int64_t value, uint32_t tries), seat, (seat, index, value, tries))
-ANSWERED(livevec_element, seat_get, (livevec_seat *seat, uint32_t index), seat, (seat, index))
-ANSWERED(livevec_count, seat_size, (livevec_seat *seat), seat, (seat))
-ANSWERED(livevec_reduced, seat_reduce, (livevec_seat *seat, uint32_t lo, uint32_t hi), seat, (seat, lo, hi))
+livevec_edited livevec_proved_seat_edit(livevec_seat *slot, uint32_t what, uint32_t index, int64_t value, uint32_t tries);
+EDITED(livevec_edited, seat_push, (livevec_seat *slot, int64_t value, uint32_t tries), seat_edit(slot, LIVEVEC_PUSH, 0, value, tries))
+EDITED(livevec_edited, seat_pop, (livevec_seat *slot, uint32_t tries), seat_edit(slot, LIVEVEC_POP, 0, 0, tries))
+EDITED(livevec_edited, seat_write, (livevec_seat *slot, uint32_t index, int64_t value, uint32_t tries),
+       seat_edit(slot, LIVEVEC_WRITE, index, value, tries))
+READS(livevec_element, seat_get, (livevec_seat *seat, uint32_t index), seat, (seat, index))
+READS(livevec_count, seat_size, (livevec_seat *seat), seat, (seat))
+READS(livevec_reduced, seat_reduce, (livevec_seat *seat, uint32_t lo, uint32_t hi), seat, (seat, lo, hi))
 ANSWERED(livevec_renewed, seat_refresh, (livevec_seat *seat, uint32_t block), seat, (seat, block))
 ANSWERED(livevec_count, board_close, (livevec_board *board), board, (board))
-ANSWERED(livevec_count, closed_size, (livevec_board *board), board, (board))
-ANSWERED(livevec_element, closed_get, (livevec_board *board, uint32_t index), board, (board, index))
+READS(livevec_count, closed_size, (livevec_board *board), board, (board))
+READS(livevec_element, closed_get, (livevec_board *board, uint32_t index), board, (board, index))
 
-FREED(free_board, livevec_board)
-FREED(free_seat, livevec_seat)
+FREED(free_board, livevec_board, A_BOARD)
+FREED(free_seat, livevec_seat, A_SEAT)
 
 /* Each board has a stamp of its own, which its seats have too: so a seat is told from those of other boards. */
 uint32_t livevec_proved_board_new(livevec_board *slot, uint32_t kind, uint32_t buckets, uint32_t edits, uint32_t seats, uint64_t stamp);
@@ -35,9 +37,10 @@ uint32_t livevec_board_new(livevec_board *slot, uint32_t kind, uint32_t buckets,
 
 uint32_t livevec_closed_read(livevec_board *board, int64_t *buffer, size_t room, uint32_t *count)
 {
-    if (!board || !count || (!buffer && room))
-        return LIVEVEC_NULL;
-    if (!enter(&board->busy_))
+    uint32_t why = first_of(THERE(board && count), ARRAY(buffer, room));
+    if (why)
+        return why;
+    if (!enter_to_read(&board->busy_))
         return LIVEVEC_BUSY;
     LEAVES(left, board);
     livevec_count size = livevec_proved_closed_size(board);

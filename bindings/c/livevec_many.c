@@ -1,8 +1,7 @@
 /* Many pushes, writes and questions of a vector by one call. */
 #include "livevec_slots.h"
 
-/* Proved exports over which livevec.c stands too. */
-livevec_count livevec_proved_size(livevec_vector *slot);
+/* A proved export over which livevec.c stands too. */
 livevec_reduced livevec_proved_value(livevec_vector *slot, uint32_t kind, uint32_t lo, uint32_t hi);
 
 /* All pushes at once, or none. */
@@ -10,13 +9,14 @@ livevec_pushed livevec_proved_push_all(livevec_vector *slot, const int64_t *valu
 
 livevec_pushed livevec_push_many(livevec_vector *slot, const int64_t *values, size_t length)
 {
-    if (!slot || (!values && length))
-        return (livevec_pushed){.refusal = LIVEVEC_NULL};
+    uint32_t why = first_of(THERE(slot), ARRAY(values, length));
+    if (why)
+        return (livevec_pushed){.refusal = why};
     if (!enter(&slot->busy_))
         return (livevec_pushed){.refusal = LIVEVEC_BUSY};
     LEAVES(left, slot);
     if (!length)
-        return (livevec_pushed){.refusal = livevec_proved_size(slot).refusal};
+        return (livevec_pushed){.refusal = livevec_proved_count(slot, ELEMENTS).refusal};
     return livevec_proved_push_all(slot, values, length);
 }
 
@@ -27,8 +27,9 @@ livevec_many livevec_write_many(livevec_vector *slot, const uint32_t *indices, c
 {
     static const uint32_t no_index[1];
     static const int64_t no_value[1];
-    if (!slot || ((!indices || !values) && length))
-        return (livevec_many){.refusal = LIVEVEC_NULL};
+    uint32_t why = first_of(THERE(slot && (indices || !length)), ARRAY(values, length));
+    if (why)
+        return (livevec_many){.refusal = why};
     if (!enter(&slot->busy_))
         return (livevec_many){.refusal = LIVEVEC_BUSY};
     LEAVES(left, slot);
@@ -43,7 +44,7 @@ static livevec_many judge_ranges(livevec_vector *slot, uint32_t kind, const live
     livevec_many answer = {.refusal = none.refusal, .edit = none.edit};
     if (answer.refusal)
         return answer;
-    uint32_t size = livevec_proved_size(slot).value;
+    uint32_t size = livevec_proved_count(slot, ELEMENTS).value;
     for (size_t i = 0; i < length; i++) {
         if (ranges[i].hi < ranges[i].lo)
             return (livevec_many){.refusal = LIVEVEC_BAD_RANGE, .place = i};
@@ -56,11 +57,11 @@ static livevec_many judge_ranges(livevec_vector *slot, uint32_t kind, const live
 
 livevec_many livevec_value_many(livevec_vector *slot, uint32_t kind, const livevec_range *ranges, livevec_values *answers, size_t length)
 {
-    livevec_many answer = {.refusal = LIVEVEC_NULL};
-    if (!slot || ((!ranges || !answers) && length))
+    livevec_many answer = {.refusal = first_of(THERE(slot && (ranges || !length)), ARRAY(answers, length))};
+    if (answer.refusal)
         return answer;
     answer.refusal = LIVEVEC_BUSY;
-    if (!enter(&slot->busy_))
+    if (!enter_to_read(&slot->busy_))
         return answer;
     LEAVES(left, slot);
     answer = judge_ranges(slot, kind, ranges, length);

@@ -3,7 +3,6 @@
 
 /* What samples and a series have in common is done at `values`. The proved exports know one type of slot. */
 uint32_t livevec_proved_samples_new(livevec_series *slot);
-uint32_t livevec_proved_free_series(livevec_series *slot);
 livevec_series_edited livevec_proved_samples_push(livevec_series *slot, int64_t time, int64_t value);
 livevec_series_edited livevec_proved_samples_expire_before(livevec_series *slot, int64_t time);
 livevec_sample livevec_proved_samples_get(livevec_series *slot, uint64_t index);
@@ -17,36 +16,27 @@ uint32_t livevec_proved_series_begin_load(livevec_series *slot);
 uint32_t livevec_proved_series_load(livevec_series *slot, const uint8_t *bytes, size_t length);
 uint32_t livevec_proved_series_end_load(livevec_series *slot, bool timed);
 
-/* `livevec_NAME` enters a slot, calls a proved export, and leaves it. */
-#define ENTERED(answer, as, name, parameters, there, slot, call) \
-    answer livevec_##name parameters                             \
-    {                                                            \
-        if (!(there))                                            \
-            return as(answer, LIVEVEC_NULL);                     \
-        if (!enter(&(slot)->busy_))                              \
-            return as(answer, LIVEVEC_BUSY);                     \
-        LEAVES(left, (slot));                                    \
-        return livevec_proved_##call;                            \
-    }
-#define AT_VALUES(answer, as, name, parameters, call) ENTERED(answer, as, name, parameters, slot, &slot->values, call)
+/* `livevec_NAME` at the values of samples. */
+#define AT_VALUES(answer, as, name, parameters, as_slot, call) ENTERED(answer, as, name, parameters, THERE(slot), &slot->values, as_slot, call)
 
-AT_VALUES(uint32_t, AS_NUMBER, samples_new, (livevec_samples *slot), samples_new(&slot->values))
-AT_VALUES(uint32_t, AS_NUMBER, free_samples, (livevec_samples *slot), free_series(&slot->values))
+AT_VALUES(uint32_t, AS_NUMBER, samples_new, (livevec_samples *slot), enter, samples_new(&slot->values))
+AT_VALUES(uint32_t, AS_NUMBER, free_samples, (livevec_samples *slot), enter, free(&slot->values, A_SERIES))
 AT_VALUES(livevec_series_edited, AS_STRUCT, samples_push, (livevec_samples *slot, int64_t time, int64_t value),
-          samples_push(&slot->values, time, value))
+          enter, samples_push(&slot->values, time, value))
 AT_VALUES(livevec_series_edited, AS_STRUCT, samples_expire_before, (livevec_samples *slot, int64_t time),
-          samples_expire_before(&slot->values, time))
-AT_VALUES(livevec_sample, AS_STRUCT, samples_get, (livevec_samples *slot, uint64_t index), samples_get(&slot->values, index))
+          enter, samples_expire_before(&slot->values, time))
+AT_VALUES(livevec_sample, AS_STRUCT, samples_get, (livevec_samples *slot, uint64_t index), enter_to_read, samples_get(&slot->values, index))
 AT_VALUES(livevec_window, AS_STRUCT, samples_between, (livevec_samples *slot, int64_t since, int64_t until),
-          samples_between(&slot->values, since, until))
-AT_VALUES(livevec_window, AS_STRUCT, samples_last, (livevec_samples *slot, uint64_t span), samples_last(&slot->values, span))
+          enter_to_read, samples_between(&slot->values, since, until))
+AT_VALUES(livevec_window, AS_STRUCT, samples_last, (livevec_samples *slot, uint64_t span), enter_to_read, samples_last(&slot->values, span))
 ENTERED(livevec_series_scanned, AS_STRUCT, samples_times, (livevec_samples *slot, uint64_t lo, uint64_t hi, int64_t *buffer, size_t length),
-        slot && (buffer || !length), &slot->values, samples_times(&slot->values, lo, hi, buffer ? buffer : &(int64_t){0}, length))
+        first_of(THERE(slot), ARRAY(buffer, length)), &slot->values, enter_to_read, samples_times(&slot->values, lo, hi, buffer ? buffer : &(int64_t){0}, length))
 
 livevec_series_many livevec_samples_push_many(livevec_samples *slot, const int64_t *times, const int64_t *values, size_t length)
 {
-    if (!slot || ((!times || !values) && length))
-        return (livevec_series_many){.refusal = LIVEVEC_NULL};
+    uint32_t why = first_of(THERE(slot && (times || !length)), ARRAY(values, length));
+    if (why)
+        return (livevec_series_many){.refusal = why};
     if (!enter(&slot->values.busy_))
         return (livevec_series_many){.refusal = LIVEVEC_BUSY};
     LEAVES(left, (&slot->values));
@@ -76,7 +66,7 @@ livevec_series_reduced livevec_samples_value(livevec_samples *slot, uint32_t kin
 {
     if (!slot)
         return (livevec_series_reduced){.refusal = LIVEVEC_NULL};
-    if (!enter(&slot->values.busy_))
+    if (!enter_to_read(&slot->values.busy_))
         return (livevec_series_reduced){.refusal = LIVEVEC_BUSY};
     LEAVES(left, (&slot->values));
     return value_in(&slot->values, kind, livevec_proved_samples_between(&slot->values, since, until));
@@ -86,19 +76,19 @@ livevec_series_reduced livevec_samples_value_of_last(livevec_samples *slot, uint
 {
     if (!slot)
         return (livevec_series_reduced){.refusal = LIVEVEC_NULL};
-    if (!enter(&slot->values.busy_))
+    if (!enter_to_read(&slot->values.busy_))
         return (livevec_series_reduced){.refusal = LIVEVEC_BUSY};
     LEAVES(left, (&slot->values));
     return value_in(&slot->values, kind, livevec_proved_samples_last(&slot->values, span));
 }
 
 /* As bytes. */
-ENTERED(livevec_series_count, AS_STRUCT, series_saved_length, (livevec_series *slot), slot, slot, series_saved_length(slot))
+ENTERED(livevec_series_count, AS_STRUCT, series_saved_length, (livevec_series *slot), THERE(slot), slot, enter_to_read, series_saved_length(slot))
 ENTERED(livevec_series_scanned, AS_STRUCT, series_save, (livevec_series *slot, uint64_t from, uint8_t *buffer, size_t length),
-        slot && (buffer || !length), slot, series_save(slot, from, buffer ? buffer : &(uint8_t){0}, length))
-ENTERED(uint32_t, AS_NUMBER, series_begin_load, (livevec_series *slot), slot, slot, series_begin_load(slot))
-ENTERED(uint32_t, AS_NUMBER, series_load, (livevec_series *slot, const uint8_t *bytes, size_t length), slot && (bytes || !length), slot,
-        series_load(slot, bytes ? bytes : &(uint8_t){0}, length))
-ENTERED(uint32_t, AS_NUMBER, series_end_load, (livevec_series *slot), slot, slot, series_end_load(slot, false))
-AT_VALUES(uint32_t, AS_NUMBER, samples_begin_load, (livevec_samples *slot), series_begin_load(&slot->values))
-AT_VALUES(uint32_t, AS_NUMBER, samples_end_load, (livevec_samples *slot), series_end_load(&slot->values, true))
+        first_of(THERE(slot), ARRAY(buffer, length)), slot, enter_to_read, series_save(slot, from, buffer ? buffer : &(uint8_t){0}, length))
+ENTERED(uint32_t, AS_NUMBER, series_begin_load, (livevec_series *slot), THERE(slot), slot, enter, series_begin_load(slot))
+ENTERED(uint32_t, AS_NUMBER, series_load, (livevec_series *slot, const uint8_t *bytes, size_t length), first_of(THERE(slot), ARRAY(bytes, length)), slot,
+        enter, series_load(slot, bytes ? bytes : &(uint8_t){0}, length))
+ENTERED(uint32_t, AS_NUMBER, series_end_load, (livevec_series *slot), THERE(slot), slot, enter, series_end_load(slot, false))
+AT_VALUES(uint32_t, AS_NUMBER, samples_begin_load, (livevec_samples *slot), enter, series_begin_load(&slot->values))
+AT_VALUES(uint32_t, AS_NUMBER, samples_end_load, (livevec_samples *slot), enter, series_end_load(&slot->values, true))

@@ -2,16 +2,19 @@
 #include "livevec_slots.h"
 
 TOLD(series_new, (livevec_series *slot), slot, (slot))
-FREED(free_series, livevec_series)
+FREED(free_series, livevec_series, A_SERIES)
 ANSWERED(livevec_series_edited, series_push, (livevec_series *slot, int64_t value), slot, (slot, value))
-ANSWERED(livevec_series_edited, series_pop, (livevec_series *slot), slot, (slot))
 ANSWERED(livevec_series_edited, series_write, (livevec_series *slot, uint64_t index, int64_t value), slot, (slot, index, value))
-ANSWERED(livevec_series_edited, series_swap, (livevec_series *slot, uint64_t first, uint64_t second), slot, (slot, first, second))
-ANSWERED(livevec_series_edited, series_truncate, (livevec_series *slot, uint64_t size), slot, (slot, size))
-ANSWERED(livevec_series_edited, series_expire, (livevec_series *slot, uint64_t index), slot, (slot, index))
-ANSWERED(livevec_series_element, series_get, (livevec_series *slot, uint64_t index), slot, (slot, index))
-ANSWERED(livevec_series_reduced, series_reduce, (livevec_series *slot, uint64_t lo, uint64_t hi), slot, (slot, lo, hi))
-ANSWERED(livevec_series_reduced, series_ask, (livevec_series *slot, uint64_t lo, uint64_t hi), slot, (slot, lo, hi))
+/* An expiry is no livevec_edit_kind. */
+enum { EXPIRE = 7 };
+livevec_series_edited livevec_proved_series_edit(livevec_series *slot, uint32_t what, uint64_t index, uint64_t second, int64_t value);
+EDITED(livevec_series_edited, series_pop, (livevec_series *slot), series_edit(slot, LIVEVEC_POP, 0, 0, 0))
+EDITED(livevec_series_edited, series_swap, (livevec_series *slot, uint64_t first, uint64_t second), series_edit(slot, LIVEVEC_SWAP, first, second, 0))
+EDITED(livevec_series_edited, series_truncate, (livevec_series *slot, uint64_t size), series_edit(slot, LIVEVEC_TRUNCATE, size, 0, 0))
+EDITED(livevec_series_edited, series_expire, (livevec_series *slot, uint64_t index), series_edit(slot, EXPIRE, index, 0, 0))
+READS(livevec_series_element, series_get, (livevec_series *slot, uint64_t index), slot, (slot, index))
+READS(livevec_series_reduced, series_reduce, (livevec_series *slot, uint64_t lo, uint64_t hi), slot, (slot, lo, hi))
+READS(livevec_series_reduced, series_ask, (livevec_series *slot, uint64_t lo, uint64_t hi), slot, (slot, lo, hi))
 
 /* `livevec_series_NAME` tells one of them. */
 #define COUNTED(name)                                                \
@@ -21,7 +24,7 @@ ANSWERED(livevec_series_reduced, series_ask, (livevec_series *slot, uint64_t lo,
         if (!slot)                                                   \
             return answer;                                           \
         answer.refusal = LIVEVEC_BUSY;                               \
-        if (!enter(&slot->busy_))                                    \
+        if (!enter_to_read(&slot->busy_))                            \
             return answer;                                           \
         LEAVES(left, slot);                                          \
         series_counts counts = livevec_proved_series_counts(slot);   \
@@ -41,8 +44,9 @@ livevec_series_scanned livevec_proved_series_read(livevec_series *slot, uint64_t
 livevec_series_pushed livevec_series_push_many(livevec_series *slot, const int64_t *values, size_t length)
 {
     int64_t nowhere = 0;
-    if (!slot || (!values && length))
-        return (livevec_series_pushed){.refusal = LIVEVEC_NULL};
+    uint32_t why = first_of(THERE(slot), ARRAY(values, length));
+    if (why)
+        return (livevec_series_pushed){.refusal = why};
     if (!enter(&slot->busy_))
         return (livevec_series_pushed){.refusal = LIVEVEC_BUSY};
     LEAVES(left, slot);
@@ -56,8 +60,9 @@ livevec_series_many livevec_series_write_many(livevec_series *slot, const uint64
 {
     static const uint64_t no_index[1];
     static const int64_t no_value[1];
-    if (!slot || ((!indices || !values) && length))
-        return (livevec_series_many){.refusal = LIVEVEC_NULL};
+    uint32_t why = first_of(THERE(slot && (indices || !length)), ARRAY(values, length));
+    if (why)
+        return (livevec_series_many){.refusal = why};
     if (!enter(&slot->busy_))
         return (livevec_series_many){.refusal = LIVEVEC_BUSY};
     LEAVES(left, slot);
@@ -67,9 +72,10 @@ livevec_series_many livevec_series_write_many(livevec_series *slot, const uint64
 livevec_series_scanned livevec_series_read(livevec_series *slot, uint64_t lo, uint64_t hi, int64_t *buffer, size_t length)
 {
     int64_t nowhere;
-    if (!slot || (!buffer && length))
-        return (livevec_series_scanned){.refusal = LIVEVEC_NULL};
-    if (!enter(&slot->busy_))
+    uint32_t why = first_of(THERE(slot), ARRAY(buffer, length));
+    if (why)
+        return (livevec_series_scanned){.refusal = why};
+    if (!enter_to_read(&slot->busy_))
         return (livevec_series_scanned){.refusal = LIVEVEC_BUSY};
     LEAVES(left, slot);
     return livevec_proved_series_read(slot, lo, hi, buffer ? buffer : &nowhere, length);
@@ -104,8 +110,8 @@ uint32_t livevec_series_give_back(livevec_series *slot)
     if (!slot)
         return LIVEVEC_NULL;
     switch (give_back(&slot->busy_)) {
-    case 0: return LIVEVEC_NO_HANDLE;
-    case 1: return LIVEVEC_BUSY;
-    default: return LIVEVEC_OK;
+    case LEFT: return LIVEVEC_NO_HANDLE;
+    case LENT_OUT: return LIVEVEC_OK;
+    default: return LIVEVEC_BUSY;
     }
 }

@@ -1,8 +1,8 @@
 /* Series by one kind, and their scans. */
 #include "livevec_slots.h"
 
-TOLD(series_prepare, (livevec_series *slot, uint32_t kind), slot, (slot, kind))
-ANSWERED(livevec_series_reduced, series_value, (livevec_series *slot, uint32_t kind, uint64_t lo, uint64_t hi), slot, (slot, kind, lo, hi))
+AT_ONE(uint32_t, AS_NUMBER, series_prepare, (livevec_series *slot, uint32_t kind), THERE(slot), slot, enter_to_read, (slot, kind))
+READS(livevec_series_reduced, series_value, (livevec_series *slot, uint32_t kind, uint64_t lo, uint64_t hi), slot, (slot, kind, lo, hi))
 
 /* What many questions at a series whose slot is entered are refused with: all of them, or the first range that is. The kind's tree is made
  * where none is, so that no question is refused then. */
@@ -28,11 +28,11 @@ static livevec_series_many judge_series_ranges(livevec_series *slot, uint32_t ki
 livevec_series_many livevec_series_value_many(livevec_series *slot, uint32_t kind, const livevec_series_range *ranges, livevec_values *answers,
                                               size_t length)
 {
-    livevec_series_many answer = {.refusal = LIVEVEC_NULL};
-    if (!slot || ((!ranges || !answers) && length))
+    livevec_series_many answer = {.refusal = first_of(THERE(slot && (ranges || !length)), ARRAY(answers, length))};
+    if (answer.refusal)
         return answer;
     answer.refusal = LIVEVEC_BUSY;
-    if (!enter(&slot->busy_))
+    if (!enter_to_read(&slot->busy_))
         return answer;
     LEAVES(left, slot);
     answer = judge_series_ranges(slot, kind, ranges, length);
@@ -51,35 +51,41 @@ livevec_series_found livevec_proved_series_find(livevec_series *slot, uint32_t w
 EACH_SEARCH(FOUND_BY, FOUND_BY_BOUND)
 
 /* Scans: a proved call writes a piece of the column. It is never given a null pointer: where there are no places, they begin anywhere. */
-#define SCANNED_SERIES(name, ending, cell)                                                                                                  \
-    livevec_series_scanned livevec_proved_series_scan_##name(livevec_series *slot, uint64_t lo, uint64_t at, uint64_t hi, bool inclusive,   \
-                                                             cell *column, size_t length);                                                  \
-    static livevec_series_scanned scan_series_##name(livevec_series *slot, uint64_t lo, uint64_t at, uint64_t hi, bool inclusive,           \
-                                                     cell *column, size_t length)                                                           \
-    {                                                                                                                                       \
-        cell nowhere;                                                                                                                       \
-        if (!slot || (!column && length))                                                                                                   \
-            return (livevec_series_scanned){.refusal = LIVEVEC_NULL};                                                                       \
-        if (!enter(&slot->busy_))                                                                                                           \
-            return (livevec_series_scanned){.refusal = LIVEVEC_BUSY};                                                                       \
-        LEAVES(left, slot);                                                                                                                 \
-        return livevec_proved_series_scan_##name(slot, lo, at, hi, inclusive, column ? column : &nowhere, length);                          \
-    }                                                                                                                                       \
-    livevec_series_scanned livevec_series_scan_inclusive##ending(livevec_series *slot, uint64_t lo, uint64_t at, uint64_t hi, cell *column, \
-                                                                 size_t length)                                                             \
-    {                                                                                                                                       \
-        return scan_series_##name(slot, lo, at, hi, true, column, length);                                                                  \
-    }                                                                                                                                       \
-    livevec_series_scanned livevec_series_scan_exclusive##ending(livevec_series *slot, uint64_t lo, uint64_t at, uint64_t hi, cell *column, \
-                                                                 size_t length)                                                             \
-    {                                                                                                                                       \
-        return scan_series_##name(slot, lo, at, hi, false, column, length);                                                                 \
+#define SCANNED(ending, cell, call)                                                                                                          \
+    static livevec_series_scanned scanned##ending(livevec_series *slot, uint64_t lo, uint64_t at, uint64_t hi, bool inclusive, cell *column, \
+                                                  size_t length)                                                                             \
+    {                                                                                                                                        \
+        cell nowhere, *places = column ? column : &nowhere;                                                                                  \
+        uint32_t why = first_of(THERE(slot), ARRAY(column, length));                                                                         \
+        if (why)                                                                                                                             \
+            return (livevec_series_scanned){.refusal = why};                                                                                 \
+        if (!enter_to_read(&slot->busy_))                                                                                                    \
+            return (livevec_series_scanned){.refusal = LIVEVEC_BUSY};                                                                        \
+        LEAVES(left, slot);                                                                                                                  \
+        return livevec_proved_series_##call;                                                                                                 \
+    }                                                                                                                                        \
+    livevec_series_scanned livevec_series_scan_inclusive##ending(livevec_series *slot, uint64_t lo, uint64_t at, uint64_t hi, cell *column,  \
+                                                                 size_t length)                                                              \
+    {                                                                                                                                        \
+        return scanned##ending(slot, lo, at, hi, true, column, length);                                                                      \
+    }                                                                                                                                        \
+    livevec_series_scanned livevec_series_scan_exclusive##ending(livevec_series *slot, uint64_t lo, uint64_t at, uint64_t hi, cell *column,  \
+                                                                 size_t length)                                                              \
+    {                                                                                                                                        \
+        return scanned##ending(slot, lo, at, hi, false, column, length);                                                                     \
     }
+/* By a proved export that is of one kind, or of all six. */
+#define SCANNED_BY(name, ending, cell)                                                                                                    \
+    livevec_series_scanned livevec_proved_series_scan_##name(livevec_series *slot, uint64_t lo, uint64_t at, uint64_t hi, bool inclusive, \
+                                                             cell *column, size_t length);                                                \
+    SCANNED(ending, cell, scan_##name(slot, lo, at, hi, inclusive, places, length))
+livevec_series_scanned livevec_proved_series_scan_extreme(livevec_series *slot, bool greatest, uint64_t lo, uint64_t at, uint64_t hi, bool inclusive,
+                                                          int64_t *column, size_t length);
 
-SCANNED_SERIES(sum, _sum, uint64_t)
-SCANNED_SERIES(least, _least, int64_t)
-SCANNED_SERIES(greatest, _greatest, int64_t)
-SCANNED_SERIES(best, _best, livevec_total)
-SCANNED_SERIES(affine, _affine, livevec_map)
-SCANNED_SERIES(automaton, _automaton, livevec_states)
-SCANNED_SERIES(values, , livevec_values)
+SCANNED_BY(sum, _sum, uint64_t)
+SCANNED(_least, int64_t, scan_extreme(slot, false, lo, at, hi, inclusive, places, length))
+SCANNED(_greatest, int64_t, scan_extreme(slot, true, lo, at, hi, inclusive, places, length))
+SCANNED_BY(best, _best, livevec_total)
+SCANNED_BY(affine, _affine, livevec_map)
+SCANNED_BY(automaton, _automaton, livevec_states)
+SCANNED_BY(values, , livevec_values)

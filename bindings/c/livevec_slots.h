@@ -2,54 +2,101 @@
 #ifndef LIVEVEC_SLOTS_H
 #define LIVEVEC_SLOTS_H
 
+#define _POSIX_C_SOURCE 200809L /* of nanosleep */
+
 #include "livevec.h"
+
+#include <sched.h>
+#include <time.h>
 
 /* Whether this process has one thread alone, as glibc tells since 2.32; elsewhere it isn't known. */
 extern char __libc_single_threaded __attribute__((weak));
 
-/* A slot serves one call at a time: it is entered for a call, and a call that finds it entered does nothing.
+/* What a slot's byte says: no call is at it; one that may edit is; its elements are lent; one that only reads is. */
+enum { LEFT = 0, ENTERED_TO_EDIT = 1, LENT_OUT = 2, ENTERED_TO_READ = 3 };
+
+/* A slot serves one call at a time, as a read also keeps what it computes: the slot is entered for a call. One that may edit and finds the slot
+ * entered does nothing.
  * One thread marks it by a plain store. glibc takes back that there is one before a second begins, and no call here begins one: so only a
  * signal's handler comes between look and mark, and its calls end before it returns. The fence keeps a call's reads behind its mark. */
+static inline bool is_single(void)
+{
+    return &__libc_single_threaded && __libc_single_threaded;
+}
+
+static inline bool mark_single(unsigned char *busy, unsigned char as)
+{
+    if (__atomic_load_n(busy, __ATOMIC_ACQUIRE))
+        return false;
+    __atomic_store_n(busy, as, __ATOMIC_RELAXED);
+    __atomic_signal_fence(__ATOMIC_SEQ_CST);
+    return true;
+}
+
 static inline bool enter(unsigned char *busy)
 {
-    if (&__libc_single_threaded && __libc_single_threaded) {
-        if (__atomic_load_n(busy, __ATOMIC_ACQUIRE))
+    unsigned char left = LEFT;
+    if (is_single())
+        return mark_single(busy, ENTERED_TO_EDIT);
+    return __atomic_compare_exchange_n(busy, &left, ENTERED_TO_EDIT, false, __ATOMIC_ACQUIRE, __ATOMIC_RELAXED);
+}
+
+/* How long a read waits for another one: some looks, then turns of other threads, then naps, so that a thread of a lower priority gets on. */
+enum { LOOKS = 100, TURNS = 1000, NAP_NANOSECONDS = 50000 };
+
+static inline void wait_for_turn(unsigned tries)
+{
+    if (tries < LOOKS)
+        return;
+    if (tries < TURNS)
+        sched_yield();
+    else
+        nanosleep(&(struct timespec){.tv_nsec = NAP_NANOSECONDS}, NULL);
+}
+
+/* A read waits while another one is at the slot. Beside an edit, or at a slot that is lent, it does nothing. So does one that a signal's handler
+ * makes in the midst of another where there is one thread, which would wait for itself. */
+static inline bool enter_to_read(unsigned char *busy)
+{
+    if (is_single())
+        return mark_single(busy, ENTERED_TO_READ);
+    for (unsigned tries = 0;;) {
+        unsigned char was = LEFT;
+        if (__atomic_compare_exchange_n(busy, &was, ENTERED_TO_READ, false, __ATOMIC_ACQUIRE, __ATOMIC_RELAXED))
+            return true;
+        if (was != ENTERED_TO_READ)
             return false;
-        __atomic_store_n(busy, 1, __ATOMIC_RELAXED);
-        __atomic_signal_fence(__ATOMIC_SEQ_CST);
-        return true;
+        for (; __atomic_load_n(busy, __ATOMIC_RELAXED) == ENTERED_TO_READ; tries += tries < TURNS)
+            wait_for_turn(tries);
     }
-    unsigned char left = 0;
-    return __atomic_compare_exchange_n(busy, &left, 1, false, __ATOMIC_ACQUIRE, __ATOMIC_RELAXED);
 }
 
 /* What a call did stays before this store, for a handler too. */
 static inline void leave(unsigned char *busy)
 {
-    __atomic_store_n(busy, 0, __ATOMIC_RELEASE);
+    __atomic_store_n(busy, LEFT, __ATOMIC_RELEASE);
 }
 
 /* A slot that a call has entered stays entered, as one that is lent, until it is given back. */
 static inline void lend(unsigned char *busy)
 {
-    __atomic_store_n(busy, 2, __ATOMIC_RELEASE);
+    __atomic_store_n(busy, LENT_OUT, __ATOMIC_RELEASE);
 }
 
-/* Leaves a slot that is lent, and tells what it was: 2, or 0 of a slot that no call has entered, or 1 of one that a call is at. What was read
- * of it stays before. */
+/* Leaves a slot that is lent, and tells what it was. What was read of it stays before. */
 static inline unsigned char give_back(unsigned char *busy)
 {
-    unsigned char was = 2;
-    __atomic_compare_exchange_n(busy, &was, 0, false, __ATOMIC_ACQ_REL, __ATOMIC_RELAXED);
+    unsigned char was = LENT_OUT;
+    __atomic_compare_exchange_n(busy, &was, LEFT, false, __ATOMIC_ACQ_REL, __ATOMIC_RELAXED);
     return was;
 }
 
-/* Enters two slots, or none. */
-static inline bool enter_both(unsigned char *first, unsigned char *second)
+/* Enters two slots, or none, each as is told. One slot isn't two. */
+static inline bool enter_both(unsigned char *first, bool (*as_first)(unsigned char *), unsigned char *second, bool (*as_second)(unsigned char *))
 {
-    if (!enter(first))
+    if (first == second || !as_first(first))
         return false;
-    if (enter(second))
+    if (as_second(second))
         return true;
     leave(first);
     return false;
@@ -69,40 +116,79 @@ static inline void leave_it(unsigned char **busy)
 /* The same of two, the second first. */
 #define LEAVES_BOTH(first, second) LEAVES(left_last, first); LEAVES(left, second)
 
-/* `livevec_NAME` over `livevec_proved_NAME`, an export of crates/livevec_c: what that promises stands in its contract there.
- * `there` says that no pointer is null; `entered` enters the slots of the call, and `leaves` leaves them at its end. */
-#define OVER_PROVED(answer, as, name, parameters, there, entered, leaves, arguments) \
-    answer livevec_proved_##name parameters;                                         \
-    answer livevec_##name parameters                                                 \
-    {                                                                                \
-        if (!(there))                                                                \
-            return as(answer, LIVEVEC_NULL);                                         \
-        if (!entered)                                                                \
-            return as(answer, LIVEVEC_BUSY);                                         \
-        leaves;                                                                      \
-        return livevec_proved_##name arguments;                                      \
-    }
+/* What refuses an array of the caller's before it is read: no pointer, or a length that no array can have. */
+static inline uint32_t judge_array(const void *array, size_t length, size_t each)
+{
+    return !array && length ? LIVEVEC_NULL : length > PTRDIFF_MAX / each ? LIVEVEC_TOO_LONG : LIVEVEC_OK;
+}
+#define ARRAY(array, length) judge_array(array, length, sizeof *(array))
+/* The first that refuses, of pointers and of arrays that are judged. */
+#define THERE(pointers) ((pointers) ? LIVEVEC_OK : LIVEVEC_NULL)
+static inline uint32_t first_of(uint32_t why, uint32_t next)
+{
+    return why ? why : next;
+}
 
-/* The same at one slot, with a further pointer or not, and at two. */
-#define AT_ONE(answer, as, name, parameters, there, slot, arguments) \
-    OVER_PROVED(answer, as, name, parameters, there, enter(&slot->busy_), LEAVES(left, slot), arguments)
-#define AT_TWO(answer, as, name, parameters, first, second, arguments)                                       \
-    OVER_PROVED(answer, as, name, parameters, first && second, enter_both(&first->busy_, &second->busy_),    \
+/* `livevec_NAME` by a call of a proved export of crates/livevec_c: what that promises stands in its contract there.
+ * `judged` refuses pointers and lengths; `entered` enters the slots of the call, and `leaves` leaves them at its end. */
+#define BY_PROVED(answer, as, name, parameters, judged, entered, leaves, call) \
+    answer livevec_##name parameters                                           \
+    {                                                                          \
+        uint32_t why = judged;                                                 \
+        if (why)                                                               \
+            return as(answer, why);                                            \
+        if (!entered)                                                          \
+            return as(answer, LIVEVEC_BUSY);                                   \
+        leaves;                                                                \
+        return livevec_proved_##call;                                          \
+    }
+/* The same at one slot, entered as `as_slot` does. */
+#define ENTERED(answer, as, name, parameters, judged, slot, as_slot, call)                               \
+    BY_PROVED(answer, as, name, parameters, judged, as_slot(&(slot)->busy_), LEAVES(left, (slot)), call)
+
+/* `livevec_NAME` over the proved export of its name. */
+#define OVER_PROVED(answer, as, name, parameters, judged, entered, leaves, arguments) \
+    answer livevec_proved_##name parameters;                                          \
+    BY_PROVED(answer, as, name, parameters, judged, entered, leaves, name arguments)
+
+/* The same at one slot, with a further pointer or not, and at two; `as_..` is how each is entered. */
+#define AT_ONE(answer, as, name, parameters, judged, slot, as_slot, arguments) \
+    OVER_PROVED(answer, as, name, parameters, judged, as_slot(&slot->busy_), LEAVES(left, slot), arguments)
+#define AT_TWO(answer, as, name, parameters, first, as_first, second, as_second, arguments)                                     \
+    OVER_PROVED(answer, as, name, parameters, THERE(first && second), enter_both(&first->busy_, as_first, &second->busy_, as_second),            \
                 LEAVES_BOTH(first, second), arguments)
 
-/* Of what answers by its refusal alone, and of what answers more. */
-#define TOLD(name, parameters, slot, arguments) AT_ONE(uint32_t, AS_NUMBER, name, parameters, slot, slot, arguments)
-#define ANSWERED(answer, name, parameters, slot, arguments) AT_ONE(answer, AS_STRUCT, name, parameters, slot, slot, arguments)
-#define TOLD_AT_TWO(name, parameters, first, second, arguments) AT_TWO(uint32_t, AS_NUMBER, name, parameters, first, second, arguments)
-#define ANSWERED_AT_TWO(answer, name, parameters, first, second, arguments) \
-    AT_TWO(answer, AS_STRUCT, name, parameters, first, second, arguments)
+/* Of what answers by its refusal alone, of what answers more, and of what answers more and only reads. */
+#define TOLD(name, parameters, slot, arguments) AT_ONE(uint32_t, AS_NUMBER, name, parameters, THERE(slot), slot, enter, arguments)
+#define ANSWERED(answer, name, parameters, slot, arguments) AT_ONE(answer, AS_STRUCT, name, parameters, THERE(slot), slot, enter, arguments)
+#define READS(answer, name, parameters, slot, arguments) AT_ONE(answer, AS_STRUCT, name, parameters, THERE(slot), slot, enter_to_read, arguments)
+#define TOLD_AT_TWO(name, parameters, first, second, arguments) \
+    AT_TWO(uint32_t, AS_NUMBER, name, parameters, first, enter, second, enter, arguments)
+#define ANSWERED_AT_TWO(answer, name, parameters, first, as_first, second, as_second, arguments) \
+    AT_TWO(answer, AS_STRUCT, name, parameters, first, as_first, second, as_second, arguments)
 
 /* Of what takes bytes of the caller's and no slot. */
-#define OF_BYTES(answer, name, parameters, there, arguments) \
-    OVER_PROVED(answer, AS_STRUCT, name, parameters, there, true, (void)0, arguments)
+#define OF_BYTES(answer, name, parameters, judged, arguments) \
+    OVER_PROVED(answer, AS_STRUCT, name, parameters, judged, true, (void)0, arguments)
+
+/* The sorts of what slots hold, by the numbers of the proved export that frees. */
+enum {
+    A_VECTOR = 0,
+    A_JOB = 1,
+    AN_OUTCOME = 2,
+    A_BATCH = 3,
+    A_BOARD = 4,
+    A_SEAT = 5,
+    A_SERIES = 6,
+    SOME_QUERIES = 7
+};
+uint32_t livevec_proved_free(void *slot, uint32_t sort);
 
 /* `livevec_NAME` frees what a slot of its type holds, and nothing else. */
-#define FREED(name, type) TOLD(name, (type *slot), slot, (slot))
+#define FREED(name, type, sort) ENTERED(uint32_t, AS_NUMBER, name, (type *slot), THERE(slot), slot, enter, free(slot, sort))
+
+/* `livevec_NAME` makes an edit, by a proved export that knows it by its livevec_edit_kind. */
+#define EDITED(answer, name, parameters, call) ENTERED(answer, AS_STRUCT, name, parameters, THERE(slot), slot, enter, call)
 
 /* What a search looks for, by the numbers of the proved exports. */
 enum {
@@ -123,7 +209,7 @@ enum {
     {                                                         \
         if (!slot)                                            \
             return AS_STRUCT(answer, LIVEVEC_NULL);           \
-        if (!enter(&slot->busy_))                             \
+        if (!enter_to_read(&slot->busy_))                     \
             return AS_STRUCT(answer, LIVEVEC_BUSY);           \
         LEAVES(left, slot);                                   \
         return proved(slot, wanted, x, lo, hi);               \
@@ -143,6 +229,10 @@ enum {
     by(first_at_most, WANTED_FIRST_AT_MOST)   \
     by(last_at_least, WANTED_LAST_AT_LEAST)   \
     by(last_at_most, WANTED_LAST_AT_MOST)
+
+/* What is counted of a vector, by the numbers of the proved export. */
+enum { ELEMENTS = 0, ROOM = 1, ACCEPTED = 2 };
+livevec_count livevec_proved_count(livevec_vector *slot, uint32_t what);
 
 /* All counts of a series at once. */
 typedef struct series_counts {

@@ -3,10 +3,10 @@
 
 #include <string.h>
 
-OF_BYTES(livevec_summarised, summary_empty, (void), true, ())
-OF_BYTES(livevec_summarised, summary_empty_with_table, (const livevec_table *table), table, (table))
-OF_BYTES(livevec_summarised, summary_join, (const livevec_summary *left, const livevec_summary *right), left && right, (left, right))
-OF_BYTES(livevec_opened, summary_values, (const livevec_summary *summary), summary, (summary))
+OF_BYTES(livevec_summarised, summary_empty, (void), LIVEVEC_OK, ())
+OF_BYTES(livevec_summarised, summary_empty_with_table, (const livevec_table *table), THERE(table), (table))
+OF_BYTES(livevec_summarised, summary_join, (const livevec_summary *left, const livevec_summary *right), THERE(left && right), (left, right))
+OF_BYTES(livevec_opened, summary_values, (const livevec_summary *summary), THERE(summary), (summary))
 
 /* The proved export takes some elements at once. */
 #define CHUNK 1024
@@ -17,8 +17,8 @@ livevec_summarised livevec_proved_summary_extend(const livevec_summary *summary,
 
 livevec_summarised livevec_summary_extend(const livevec_summary *summary, const int64_t *values, size_t length)
 {
-    livevec_summarised answer = {.refusal = LIVEVEC_NULL};
-    if (!summary || (!values && length))
+    livevec_summarised answer = {.refusal = first_of(THERE(summary), ARRAY(values, length))};
+    if (answer.refusal)
         return answer;
     chunk next = {{0}};
     livevec_summary so_far = *summary;

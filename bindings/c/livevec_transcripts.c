@@ -2,20 +2,20 @@
 #include "livevec_slots.h"
 
 OVER_PROVED(livevec_journal_read, AS_STRUCT, journal, (livevec_vector *slot, uint32_t from, livevec_edit *edits, size_t length),
-            slot && (edits || !length), enter(&slot->busy_), LEAVES(left, slot),
+            first_of(THERE(slot), ARRAY(edits, length)), enter_to_read(&slot->busy_), LEAVES(left, slot),
             (slot, from, edits ? edits : &(livevec_edit){.what = 0}, length))
 OVER_PROVED(livevec_text_put, AS_STRUCT, transcript,
             (livevec_vector *slot, const livevec_recorded *answers, size_t count, char *text, size_t room),
-            slot && (answers || !count) && (text || !room), enter(&slot->busy_), LEAVES(left, slot),
+            first_of(first_of(THERE(slot), ARRAY(answers, count)), ARRAY(text, room)), enter_to_read(&slot->busy_), LEAVES(left, slot),
             (slot, answers ? answers : &(const livevec_recorded){.edit = 0}, count, text ? text : &(char){0}, room))
 
 /* Bytes, or those of nothing. */
 #define BYTES(text) ((text) ? (text) : "")
 
-OF_BYTES(livevec_audited, audit, (const char *text, size_t length), text || !length, (BYTES(text), length))
-OF_BYTES(livevec_audited, audit_front, (const char *text, size_t length), text || !length, (BYTES(text), length))
+OF_BYTES(livevec_audited, audit, (const char *text, size_t length), ARRAY(text, length), (BYTES(text), length))
+OF_BYTES(livevec_audited, audit_front, (const char *text, size_t length), ARRAY(text, length), (BYTES(text), length))
 OVER_PROVED(livevec_audited, AS_STRUCT, restore, (livevec_vector *slot, uint32_t buckets, uint32_t edits, const char *text, size_t length),
-            slot && (text || !length), enter(&slot->busy_), LEAVES(left, slot), (slot, buckets, edits, BYTES(text), length))
+            first_of(THERE(slot), ARRAY(text, length)), enter(&slot->busy_), LEAVES(left, slot), (slot, buckets, edits, BYTES(text), length))
 OVER_PROVED(livevec_audited, AS_STRUCT, restore_of,
             (livevec_vector *slot, uint32_t kind, uint32_t buckets, uint32_t edits, const char *text, size_t length),
-            slot && (text || !length), enter(&slot->busy_), LEAVES(left, slot), (slot, kind, buckets, edits, BYTES(text), length))
+            first_of(THERE(slot), ARRAY(text, length)), enter(&slot->busy_), LEAVES(left, slot), (slot, kind, buckets, edits, BYTES(text), length))

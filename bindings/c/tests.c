@@ -284,6 +284,7 @@ int main(void)
     births();
     jobs();
     misuse_of_vectors();
+    lengths();
     beside();
     kinds();
     columns();

@@ -16,6 +16,7 @@ size_t memory_held(void);
 #define IS(got, wanted) is(__FILE__, __LINE__, #got, (long long)(got), (long long)(wanted))
 
 /* The tests of slots that hold something else, and of null pointers. */
+void lengths(void);
 void misuse_of_vectors(void);
 
 /* The tests of boards and seats. */

@@ -1,4 +1,5 @@
-/* Calls beside one another at one slot, which owes them an answer each: what was asked for, or LIVEVEC_BUSY with nothing done. */
+/* Calls beside one another at one slot. A read beside reads is answered. Beside an edit each call is answered too, or is told LIVEVEC_BUSY with
+ * nothing done. */
 #define _XOPEN_SOURCE 700 /* of timers */
 #include "tests.h"
 
@@ -7,7 +8,7 @@
 #include <string.h>
 #include <sys/time.h>
 
-enum { THREADS = 4, CALLS = 20000, WRITES = 200000, PLACES = 8 };
+enum { THREADS = 4, READERS = 8, CALLS = 20000, READS = 3000, ELEMENTS = 1000, WRITES = 200000, PLACES = 8 };
 
 static livevec_vector shared;
 static livevec_samples shared_samples;
@@ -37,11 +38,55 @@ static void *push_ones(void *at)
     return NULL;
 }
 
-static void *ask_all(void *at)
+/* Edits and reads in turn: each is made, or finds the slot busy. */
+static void *push_and_read(void *at)
 {
     struct told *told = at;
     for (int i = 0; i < CALLS; i++)
-        count(told, livevec_ask(&shared, 0, 0).refusal);
+        count(told, i % 2 ? livevec_push(&shared, 1).refusal : livevec_value(&shared, LIVEVEC_SUM, 0, 1).refusal);
+    return NULL;
+}
+
+/* Each read of a vector in turn; what it should be told is counted, all else is `other`. Elements are ones. */
+static uint32_t read_nth(int i)
+{
+    static const livevec_range ranges[] = {{0, 9}, {3, 700}};
+    livevec_values values[2] = {{.sum = 0}};
+    int64_t elements[9];
+    uint64_t sums[9];
+    livevec_reduced r = {.refusal = 0};
+    switch (i % 8) {
+    case 0: r = livevec_reduce(&shared, 1, ELEMENTS); return r.refusal ? r.refusal : r.values.sum != ELEMENTS - 1;
+    case 1: r = livevec_ask(&shared, 0, 7); return r.refusal ? r.refusal : r.values.sum != 7;
+    case 2: r = livevec_value(&shared, LIVEVEC_BEST, 5, 605); return r.refusal ? r.refusal : r.values.best_low != 600;
+    case 3: {
+        livevec_found found = livevec_where_reaches(&shared, 5, ELEMENTS, 100);
+        return found.refusal ? found.refusal : found.hi != 105;
+    }
+    case 4: {
+        livevec_many many = livevec_value_many(&shared, LIVEVEC_SUM, ranges, values, 2);
+        return many.refusal ? many.refusal : values[1].sum != 697;
+    }
+    case 5: {
+        livevec_scanned read = livevec_read(&shared, 2, 11, elements, 9);
+        return read.refusal ? read.refusal : elements[8] != 1;
+    }
+    case 6: {
+        livevec_scanned scan = livevec_scan_inclusive_sum(&shared, 2, 11, sums, 9);
+        return scan.refusal ? scan.refusal : sums[8] != 9;
+    }
+    default: {
+        livevec_count size = livevec_size(&shared);
+        return size.refusal ? size.refusal : size.value != ELEMENTS || livevec_get(&shared, 7).value != 1 || livevec_verdict_push(&shared, 1).refusal;
+    }
+    }
+}
+
+static void *read_all(void *at)
+{
+    struct told *told = at;
+    for (int i = 0; i < READS; i++)
+        count(told, read_nth(i));
     return NULL;
 }
 
@@ -59,7 +104,7 @@ static void *ask_samples(void *at)
 {
     struct told *told = at;
     uint8_t bytes[88];
-    for (int i = 0; i < CALLS; i++)
+    for (int i = 0; i < READS; i++)
         switch (i % 4) {
         case 0: count(told, livevec_series_where_best(&shared_samples.values, 0, 9).refusal); break;
         case 1: count(told, livevec_samples_value_of_last(&shared_samples, LIVEVEC_SUM, 1).refusal); break;
@@ -69,16 +114,16 @@ static void *ask_samples(void *at)
     return NULL;
 }
 
-/* Runs four threads that call at the slot, and sees that each call is counted once. Gives how many went through. */
-static uint32_t run(void *(*calls)(void *))
+/* Runs some threads that make so many calls each at the slot, and sees that each call is counted once. Gives how many went through. */
+static uint32_t run(int threads, uint32_t many, void *(*calls)(void *))
 {
-    struct told told[THREADS] = {{0}};
+    struct told told[READERS] = {{0}};
     uint32_t accepted = 0;
-    for (int i = 0; i < THREADS; i++)
+    for (int i = 0; i < threads; i++)
         IS(pthread_create(&told[i].thread, NULL, calls, &told[i]), 0);
-    for (int i = 0; i < THREADS; i++) {
+    for (int i = 0; i < threads; i++) {
         IS(pthread_join(told[i].thread, NULL), 0);
-        IS(told[i].accepted + told[i].busy, CALLS);
+        IS(told[i].accepted + told[i].busy, many);
         IS(told[i].other, 0);
         accepted += told[i].accepted;
     }
@@ -152,27 +197,45 @@ static void struck(void)
 static void beside_at_samples(void)
 {
     IS(livevec_samples_new(&shared_samples), 0);
-    run(push_samples);
+    run(THREADS, CALLS, push_samples);
     uint64_t size = livevec_series_size(&shared_samples.values).value;
     IS(size >= CALLS / 2, true);
     IS(livevec_series_edits(&shared_samples.values).value, size);
     IS(livevec_samples_value(&shared_samples, LIVEVEC_SUM, 1, 2).values.sum, size);
-    run(ask_samples);
+    IS(run(READERS, READS, ask_samples), READERS * READS);
     IS(livevec_series_edits(&shared_samples.values).value, size);
     IS(livevec_free_samples(&shared_samples), 0);
+}
+
+/* Eight threads read, and none is told that the slot is busy. */
+static void read_beside_reads(uint32_t pushed)
+{
+    IS(livevec_truncate(&shared, ELEMENTS).refusal, 0);
+    IS(run(READERS, READS, read_all), READERS * READS);
+    IS(livevec_edits(&shared).value, pushed + 1);
+    uint32_t before = livevec_edits(&shared).value;
+    run(THREADS, CALLS, push_and_read);
+    uint32_t more = livevec_edits(&shared).value - before;
+    IS(more > 0, true);
+    IS(livevec_value(&shared, LIVEVEC_SUM, 0, ELEMENTS + more).values.sum, ELEMENTS + more);
+    IS(livevec_truncate(&shared, ELEMENTS).refusal, 0);
+    /* no edit goes through beside a read */
+    shared.busy_ = 3;
+    IS(livevec_write(&shared, 0, 1).refusal, LIVEVEC_BUSY);
+    IS(livevec_free(&shared), LIVEVEC_BUSY);
+    shared.busy_ = 0;
 }
 
 void beside(void)
 {
     /* this process has begun no thread so far: its slots are marked otherwise until then */
     struck();
-    IS(livevec_new(&shared, 17, THREADS * CALLS), 0);
-    uint32_t pushed = run(push_ones);
+    IS(livevec_new(&shared, 17, 2 * THREADS * CALLS), 0);
+    uint32_t pushed = run(THREADS, CALLS, push_ones);
     IS(livevec_edits(&shared).value, pushed);
     IS(livevec_size(&shared).value, pushed);
     IS(livevec_reduce(&shared, 0, pushed).values.sum, pushed);
-    run(ask_all);
-    IS(livevec_edits(&shared).value, pushed);
+    read_beside_reads(pushed);
     /* a slot that is entered, as by the call that a signal interrupted */
     shared.busy_ = 1;
     IS(livevec_push(&shared, 1).refusal, LIVEVEC_BUSY);
@@ -183,7 +246,7 @@ void beside(void)
     IS(livevec_run(&job, &(livevec_outcome){0}), LIVEVEC_NO_HANDLE);
     IS(livevec_free(&shared), LIVEVEC_BUSY);
     shared.busy_ = 0;
-    IS(livevec_edits(&shared).value, pushed);
+    IS(livevec_size(&shared).value, ELEMENTS);
     IS(livevec_free(&shared), 0);
     beside_at_samples();
     struck();

@@ -3,12 +3,17 @@
 
 #include <algorithm>
 #include <array>
+#include <atomic>
 #include <cstdint>
 #include <cstdio>
+#include <deque>
+#include <initializer_list>
 #include <iterator>
 #include <list>
 #include <numeric>
 #include <optional>
+#include <set>
+#include <stdexcept>
 #include <string>
 #include <thread>
 #include <type_traits>
@@ -49,7 +54,7 @@ static void goes_in_and_comes_out()
     all.push_many(livevec::array_view());
     IS(refusal_of([&] { all.push_many(nullptr, 1); }) == LIVEVEC_NULL);
 
-    livevec::vector small(row, 1, 100);
+    livevec::vector small(row, {1, 100});
     try {
         small.push_many(row);
         small.push_many(row);
@@ -60,40 +65,122 @@ static void goes_in_and_comes_out()
     IS((small.elements() == numbers{4, -6, 9, 4, -6, 9}) && small.edits() == 6);
 }
 
+/* What isn't an element, a kind or limits doesn't compile as one. */
+template <class Value, class = void> constexpr bool is_pushed = false;
+template <class Value> constexpr bool is_pushed<Value, std::void_t<decltype(std::declval<livevec::vector &>().push(std::declval<Value>()))>> = true;
+static_assert(is_pushed<int> && is_pushed<std::int64_t> && is_pushed<std::size_t> && is_pushed<short>);
+static_assert(!is_pushed<double> && !is_pushed<float> && !is_pushed<livevec_kind> && !is_pushed<livevec::kind> && !is_pushed<const char *>);
+static_assert(!std::is_constructible_v<livevec::vector, livevec_kind> && !std::is_constructible_v<livevec::vector, livevec_kind, livevec::limits>);
+static_assert(!std::is_constructible_v<livevec::vector, int, int> && !std::is_constructible_v<livevec::vector, std::uint32_t>);
+static_assert(!std::is_constructible_v<livevec::vector, std::initializer_list<double>> && !std::is_constructible_v<livevec::series, livevec_kind>);
+static_assert(!std::is_convertible_v<livevec::kind, std::int64_t> && std::is_constructible_v<livevec::vector, livevec::kind>);
+static_assert(std::is_base_of_v<std::exception, livevec::inner::thrown<livevec::not_kept, std::out_of_range>>);
+
+static void takes_ranges_of_integers()
+{
+    const std::list<unsigned char> bytes{1, 200};
+    livevec::vector all(bytes);
+    all.push_many(std::deque<int>{-3, 4});
+    all.push_many(std::set<std::uint32_t>{9, 8});
+    all.push_many(livevec::vector{5, 6});
+    const short shorts[] = {7, -7};
+    all.push_many(shorts);
+    all.push(std::size_t(11));
+    IS((all.elements() == numbers{1, 200, -3, 4, 8, 9, 5, 6, 7, -7, 11}));
+    IS((livevec::vector{livevec::kind::best}.kind() == livevec::kind::best && livevec::vector{10, 20}.size() == 2));
+    IS(livevec::vector(livevec::limits{10, 20}).empty() && livevec::vector(bytes, {1, 2}).verdict_push(0).refusal == LIVEVEC_WORN);
+    livevec::series some(bytes);
+    some.push_many(std::list<int>{3, 4});
+    IS((std::equal(some.cbegin(), some.cend(), numbers{1, 200, 3, 4}.begin()) && some.front() == 1 && some.back() == 4 && some.at(1) == 200));
+    some.pop_back();
+    IS(some.back() == 3 && some.expire(3) == 3 && refusal_of([&] { (void)some.front(); }) == LIVEVEC_OUT_OF_RANGE);
+    IS(refusal_of([&] { (void)some.back(); }) == LIVEVEC_OUT_OF_RANGE);
+}
+
+/* What a call throws is caught as livevec's, and as the standard library's. */
+template <class Error, class Call> static std::string said_by(Call call)
+{
+    try {
+        call();
+        return "";
+    } catch (const Error &error) {
+        return error.what();
+    }
+}
+
+static void throws_what_the_library_throws()
+{
+    livevec::vector all{1, 2, 3};
+    livevec::series some{1, 2, 3};
+    some.expire(1);
+    const auto past = [&] { (void)all.at(3); };
+    IS(said_by<std::out_of_range>(past) == "out of range: past the end (index 3, size 3)");
+    IS(said_by<std::exception>(past) == said_by<std::out_of_range>(past) && said_by<livevec::refused>(past) == said_by<std::out_of_range>(past));
+    IS(said_by<std::out_of_range>([&] { (void)all.sum(1, 4); }) == "out of range: past the end (range 1 to 4, size 3)");
+    IS(said_by<std::out_of_range>([&] { (void)all.read(2, 1); }) == "a range whose start is past its end (range 2 to 1)");
+    IS(said_by<std::out_of_range>([&] { all.swap_elements(1, 7); }) == "out of range: past the end (index 7, size 3)");
+    IS(said_by<std::out_of_range>([&] { all.write_many({0, 5}, {1, 1}); }) == "out of range: past the end (at place 1, size 3)");
+    IS(said_by<std::out_of_range>([&] { (void)some[0]; }) == "out of range: past the end (index 0, kept from 1 up to 3)");
+    IS(said_by<livevec::not_kept>([&] { (void)some.sum(0, 3); }) == "out of range: past the end (range 0 to 3, kept from 1 up to 3)");
+    IS(said_by<std::runtime_error>([] { livevec::vector(livevec::limits{0, 1}); }) == "limits outside their ranges");
+    IS(said_by<livevec::earlier>([] { livevec::samples{{5, 1}}.push(4, 1); }) == "a time before that of the last sample (time 4, the last one's 5)");
+    IS(all.front() == 1 && all.back() == 3 && all.at(1) == 2);
+    all.pop_back();
+    IS(all.back() == 2 && *all.cbegin() == 1 && all.cend() == all.end());
+    all.clear();
+    IS(said_by<std::out_of_range>([&] { (void)all.front(); }) == "out of range: past the end (index 0, size 0)");
+    IS(said_by<std::out_of_range>([&] { (void)all.back(); }) == "out of range: past the end (index 0, size 0)");
+}
+
+/* Exact totals: of elements whose bounds leave one number, and of the widest. */
+static void adds_up_exactly()
+{
+    const std::int64_t most = INT64_MAX, least = INT64_MIN;
+    const livevec::vector wide{most, most, most, least, -1}, narrow{-3, 1, -7};
+    IS(narrow.total(0, 3) == -9 && narrow.total(1, 1) == 0 && narrow.sum(0, 3) == -9 && narrow.unsigned_sum(0, 3) == std::uint64_t(-9));
+    IS(wide.total(0, 3) == livevec::int128(most) * 3 && wide.total(0, 5) == livevec::int128(most) * 2 - 2);
+    IS(wide.total(3, 5) == livevec::int128(least) - 1 && wide.summarise(0, 3).total() == livevec::int128(most) * 3);
+    IS(livevec::vector(numbers(1000, most)).total(0, 1000) == livevec::int128(most) * 1000);
+    IS(livevec::vector(numbers(1000, least)).total(0, 1000) == livevec::int128(least) * 1000);
+    IS(said_by<std::out_of_range>([&] { (void)wide.total(0, 6); }) == "out of range: past the end (range 0 to 6, size 5)");
+    livevec::shared_vector shared(livevec::vector{most, most, -5});
+    IS(shared.total(0, 3) == livevec::int128(most) * 2 - 5 && shared.sum(1, 3) == most - 5 && shared.unsigned_sum(2, 3) == std::uint64_t(-5));
+}
+
 static void is_asked_by_one_kind()
 {
     livevec::vector all{4, -6, 1027, 1025};
-    IS(all.value(LIVEVEC_SUM, 0, 4).values.sum == 2050 && all.value(LIVEVEC_SUM, 0, 4).values.greatest == 0);
-    IS(all.value(LIVEVEC_AFFINE, 0, 4).values.affine_b == 3949 && all.value(LIVEVEC_AUTOMATON, 0, 4).values.automaton[3] == 7);
+    IS(all.value(livevec::kind::sum, 0, 4).values.sum == 2050 && all.value(livevec::kind::sum, 0, 4).values.greatest == 0);
+    IS(all.value(livevec::kind::affine, 0, 4).values.affine_b == 3949 && all.value(livevec::kind::automaton, 0, 4).values.automaton[3] == 7);
     IS(all.greatest(0, 2) == 4 && all.best(1, 2) == -6 && all.best(0, 4) == 2052 && !all.best(2, 2));
-    const std::vector<livevec_values> least = all.value_many(LIVEVEC_LEAST, {{0, 4}, {2, 4}, {1, 1}});
+    const std::vector<livevec_values> least = all.value_many(livevec::kind::least, {{0, 4}, {2, 4}, {1, 1}});
     IS(least.size() == 3 && least[0].least == -6 && least[1].least == 1025 && !least[2].any);
     const std::vector<livevec_range> ranges{{0, 1}, {3, 5}};
     try {
-        (void)all.value_many(LIVEVEC_SUM, ranges);
+        (void)all.value_many(livevec::kind::sum, ranges);
         IS(false);
     } catch (const livevec::refused_at &refused) {
         IS(refused.number() == LIVEVEC_OUT_OF_RANGE && refused.detail() == 4 && refused.place() == 1 && refused.done() == 0);
     }
-    IS(all.value_many(LIVEVEC_SUM, livevec::range_view()).empty());
-    IS(refusal_of([&] { (void)all.value(static_cast<livevec_kind>(6), 0, 0); }) == LIVEVEC_BAD_KIND);
-    IS(refusal_of([&] { (void)all.value(LIVEVEC_SUM, 1, 0); }) == LIVEVEC_BAD_RANGE);
+    IS(all.value_many(livevec::kind::sum, livevec::range_view()).empty());
+    IS(refusal_of([&] { (void)all.value(livevec::kind{6}, 0, 0); }) == LIVEVEC_BAD_KIND);
+    IS(refusal_of([&] { (void)all.value(livevec::kind::sum, 1, 0); }) == LIVEVEC_BAD_RANGE);
 }
 
 static void is_of_one_kind()
 {
-    livevec::vector least(LIVEVEC_LEAST, 3, 1000);
-    IS(least.kind() == LIVEVEC_LEAST && !livevec::vector().kind());
+    livevec::vector least(livevec::kind::least, {3, 1000});
+    IS(least.kind() == livevec::kind::least && !livevec::vector().kind());
     least.push_many({4, -6, 9});
     IS(least.least(0, 3) == -6 && least.where_least(0, 3)->index == 1 && (least.elements() == numbers{4, -6, 9}));
-    IS((least.scan_inclusive<LIVEVEC_LEAST>(0, 3) == numbers{4, -6, -6}) && least.value_many(LIVEVEC_LEAST, {{2, 3}})[0].least == 9);
+    IS((least.scan_inclusive<livevec::kind::least>(0, 3) == numbers{4, -6, -6}) && least.value_many(livevec::kind::least, {{2, 3}})[0].least == 9);
     IS(refusal_of([&] { (void)least.sum(0, 3); }) == LIVEVEC_BAD_KIND && refusal_of([&] { (void)least.ask(0, 3); }) == LIVEVEC_BAD_KIND);
     IS(refusal_of([&] { (void)least.where_best(0, 9); }) == LIVEVEC_BAD_KIND);
-    IS(refusal_of([&] { (void)least.scan_inclusive<LIVEVEC_BEST>(0, 3); }) == LIVEVEC_BAD_KIND);
+    IS(refusal_of([&] { (void)least.scan_inclusive<livevec::kind::best>(0, 3); }) == LIVEVEC_BAD_KIND);
     const livevec::vector clone = least.clone();
-    IS(clone == least && clone.kind() == LIVEVEC_LEAST && refusal_of([&] { (void)clone.reduce(0, 1); }) == LIVEVEC_BAD_KIND);
-    IS(refusal_of([] { livevec::vector(static_cast<livevec_kind>(6)); }) == LIVEVEC_BAD_KIND);
-    IS(refusal_of([] { livevec::vector(LIVEVEC_SUM, 18); }) == LIVEVEC_BAD_LIMITS);
+    IS(clone == least && clone.kind() == livevec::kind::least && refusal_of([&] { (void)clone.reduce(0, 1); }) == LIVEVEC_BAD_KIND);
+    IS(refusal_of([] { livevec::vector(livevec::kind{6}); }) == LIVEVEC_BAD_KIND);
+    IS(refusal_of([] { livevec::vector(livevec::kind::sum, {18, 1}); }) == LIVEVEC_BAD_LIMITS);
 }
 
 static void finds_where()
@@ -154,7 +241,7 @@ static void is_cloned_and_compared()
 {
     livevec_table table = {};
     table.next[0][3] = 1;
-    livevec::vector first(table, 1, 9);
+    livevec::vector first(table, {1, 9});
     first.push_many({3, 0});
     first.write(1, 7);
     livevec::vector second = first.clone();
@@ -185,21 +272,47 @@ static void is_scanned()
 static void is_scanned_into_columns()
 {
     const livevec::vector all{3, -5, 4};
-    const std::vector<std::uint64_t> sums = all.scan_inclusive<LIVEVEC_SUM>(0, 3);
-    IS(sums.size() == 3 && sums[0] == 3 && sums[1] == std::uint64_t(-2) && sums[2] == 2);
-    const std::vector<livevec_total> best = all.scan_exclusive<LIVEVEC_BEST>(0, 3);
+    const std::vector<std::int64_t> sums = all.scan_inclusive<livevec::kind::sum>(0, 3);
+    IS(sums.size() == 3 && sums[0] == 3 && sums[1] == -2 && sums[2] == 2);
+    const std::vector<livevec_total> best = all.scan_exclusive<livevec::kind::best>(0, 3);
     IS(livevec::total(best[0]) == 0 && livevec::total(best[1]) == 3 && livevec::total(livevec_total{1, -1}) == 1 - (livevec::int128(1) << 64));
     std::vector<std::int64_t> least(4, 7);
-    IS(all.scan_exclusive_into<LIVEVEC_LEAST>(0, 3, least) == 3 && least[0] == 0 && least[1] == 3 && least[2] == -5 && least[3] == 7);
-    IS(all.scan_inclusive<LIVEVEC_AUTOMATON>(2, 3)[0].to[1] == 2 && all.scan_inclusive<LIVEVEC_AFFINE>(0, 1)[0].b == 3);
-    IS(refusal_of([&] { all.scan_inclusive_into<LIVEVEC_GREATEST>(0, 3, livevec::buffer_view(least.data(), 2)); }) == LIVEVEC_SHORT_BUFFER);
-    IS(refusal_of([&] { (void)all.scan_inclusive<LIVEVEC_SUM>(2, 1); }) == LIVEVEC_BAD_RANGE && all.scan_inclusive<LIVEVEC_SUM>(1, 1).empty());
+    IS(all.scan_exclusive_into<livevec::kind::least>(0, 3, least) == 3 && least[0] == 0 && least[1] == 3 && least[2] == -5 && least[3] == 7);
+    IS(all.scan_inclusive<livevec::kind::automaton>(2, 3)[0].to[1] == 2 && all.scan_inclusive<livevec::kind::affine>(0, 1)[0].b == 3);
+    IS(refusal_of([&] { all.scan_inclusive_into<livevec::kind::greatest>(0, 3, livevec::buffer_view(least.data(), 2)); }) == LIVEVEC_SHORT_BUFFER);
+    IS(refusal_of([&] { (void)all.scan_inclusive<livevec::kind::sum>(2, 1); }) == LIVEVEC_BAD_RANGE && all.scan_inclusive<livevec::kind::sum>(1, 1).empty());
+}
+
+/* Eight threads make const calls at one vector and at one series: none is refused. */
+static void is_read_by_threads()
+{
+    const livevec::vector all(numbers(1000, 1));
+    const livevec::series long_ones(numbers(1000, 1));
+    std::atomic<int> wrong{0};
+    std::vector<std::thread> readers;
+    for (int reader = 0; reader < 8; reader++)
+        readers.emplace_back([&] {
+            for (std::uint32_t i = 0; i < 2000; i++) {
+                const std::uint32_t lo = i % 900;
+                wrong += refusal_of([&] {
+                    IS(all.sum(lo, lo + 50) == 50 && all.best(lo, 1000) == 1000 - lo && all.where_reaches(lo, 1000, 7) == lo + 7 && all[lo] == 1);
+                    IS(all.read(lo, lo + 3).size() == 3 && all.size() == 1000 && all.verdict_pop().refusal == 0 && all.reduce(lo, lo).values.sum == 0);
+                    IS(long_ones.sum(lo, lo + 50) == 50 && long_ones.least(lo, 1000) == 1 && long_ones.length() == 1000 && long_ones.elements().size() == 1000);
+                }) != LIVEVEC_OK;
+            }
+        });
+    for (std::thread &reader : readers)
+        reader.join();
+    IS(wrong == 0);
 }
 
 int main()
 {
     goes_in_and_comes_out();
     goes_through_a_copy();
+    takes_ranges_of_integers();
+    throws_what_the_library_throws();
+    adds_up_exactly();
     is_cloned_and_compared();
     is_scanned();
     is_scanned_into_columns();
@@ -226,13 +339,13 @@ int main()
     IS(prices[0] == 80 && prices.truncate(1) == 3 && prices.size() == 1);
     IS(refusal_of([&] { (void)prices.read(1, 3); }) == LIVEVEC_OUT_OF_RANGE);
     IS(refusal_of([&] { (void)prices.read(3, 1); }) == LIVEVEC_BAD_RANGE);
-    IS(refusal_of([] { livevec::vector(18); }) == LIVEVEC_BAD_LIMITS);
+    IS(refusal_of([] { livevec::vector(livevec::limits{18, 1}); }) == LIVEVEC_BAD_LIMITS);
     try {
         prices.write(9, 1);
         IS(false);
     } catch (const livevec::refused &refused) {
         IS(refused.number() == LIVEVEC_OUT_OF_RANGE && refused.detail() == 1);
-        IS(refused.what() == std::string("out of range: past the end"));
+        IS(refused.what() == std::string("out of range: past the end (index 9, size 1)"));
     }
 
     livevec::vector moved = std::move(prices);
@@ -250,5 +363,7 @@ int main()
     IS(eight.deliver(*outcome) == LIVEVEC_INSTALLED && eight.deliver(*outcome) == LIVEVEC_HELD);
     eight.write(0, 9);
     IS(eight.deliver(*outcome) == LIVEVEC_STALE);
+    // last: what its threads leave of memory would be had by the test that wants none
+    is_read_by_threads();
     std::puts("C++: each call answered as it should");
 }

@@ -14,7 +14,7 @@ using numbers = std::vector<std::int64_t>;
 
 static void sits_at_a_board()
 {
-    livevec::board board(LIVEVEC_LEAST, 2, 1, 100);
+    livevec::board board(livevec::kind::least, 2, {1, 100});
     livevec::seat one = board.sit();
     std::optional<livevec::seat> two = board.sit();
     IS(refusal_of([&] { (void)board.sit(); }) == LIVEVEC_NO_SEAT);
@@ -39,13 +39,13 @@ static void sits_at_a_board()
     std::int64_t room[1];
     IS(refusal_of([&] { closed.read_into(room); }) == LIVEVEC_SHORT_BUFFER);
     IS(refusal_of([&] { (void)board.sit(); }) == LIVEVEC_NULL);
-    IS(refusal_of([] { livevec::board(LIVEVEC_SUM, 9); }) == LIVEVEC_BAD_LIMITS);
+    IS(refusal_of([] { livevec::board(livevec::kind::sum, 9); }) == LIVEVEC_BAD_LIMITS);
 }
 
 /* Four threads count, and let their seats go as they end; one seat outlives its board. */
 static void threads_share_a_board()
 {
-    std::optional<livevec::board> board(std::in_place, LIVEVEC_SUM, 4u);
+    std::optional<livevec::board> board(std::in_place, livevec::kind::sum, 4u);
     std::vector<std::thread> threads;
     for (int number = 0; number < 4; number++)
         threads.emplace_back([seat = board->sit()]() mutable {
@@ -60,7 +60,7 @@ static void threads_share_a_board()
     last.close();
     const livevec::closed closed = board->close();
     IS(closed.edits() == 400 && std::accumulate(closed.begin(), closed.end(), std::int64_t{0}) == 4 * 5050);
-    board.emplace(LIVEVEC_SUM, 1u);
+    board.emplace(livevec::kind::sum, 1u);
     last = board->sit();
     board.reset();
     IS(last.push(1) == 0);

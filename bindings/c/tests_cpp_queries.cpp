@@ -20,9 +20,9 @@ void queries()
 {
     livevec::vector feed;
     livevec::queries set;
-    set.watch("total", LIVEVEC_SUM);
-    set.watch("dip", LIVEVEC_LEAST, 0, 2);
-    set.watch("first", LIVEVEC_SUM, 0, 1);
+    set.watch("total", livevec::kind::sum);
+    set.watch("dip", livevec::kind::least, 0, 2);
+    set.watch("first", livevec::kind::sum, 0, 1);
     IS(told(set, feed) == "0");
     feed.push(4);
     IS(told(set, feed) == "total 4 at 1; dip 4 at 1; first 4 at 1; 1");
@@ -39,13 +39,13 @@ void queries()
     feed.write(0, 4);
     const std::vector<livevec_note> notes = set.notes(feed);
     IS(notes.size() == 2 && notes[0].name == std::string("dip") && notes[0].values.least == 4 && notes[1].name == std::string("first"));
-    IS(refusal_of([&] { set.watch("dip", LIVEVEC_SUM); }) == LIVEVEC_NAME_TAKEN);
-    IS(refusal_of([&] { set.watch("Dip", LIVEVEC_SUM); }) == LIVEVEC_BAD_NAME);
-    IS(refusal_of([&] { set.watch({}, LIVEVEC_SUM); }) == LIVEVEC_BAD_NAME);
-    IS(refusal_of([&] { set.watch("back", LIVEVEC_SUM, 2, 1); }) == LIVEVEC_BAD_RANGE);
+    IS(refusal_of([&] { set.watch("dip", livevec::kind::sum); }) == LIVEVEC_NAME_TAKEN);
+    IS(refusal_of([&] { set.watch("Dip", livevec::kind::sum); }) == LIVEVEC_BAD_NAME);
+    IS(refusal_of([&] { set.watch({}, livevec::kind::sum); }) == LIVEVEC_BAD_NAME);
+    IS(refusal_of([&] { set.watch("back", livevec::kind::sum, 2, 1); }) == LIVEVEC_BAD_RANGE);
     IS(refusal_of([&] { set.unwatch("total"); }) == LIVEVEC_NO_SUCH_NAME);
     IS(refusal_of([&] { (void)set.answer(feed, "total"); }) == LIVEVEC_NO_SUCH_NAME);
-    livevec::vector sums(LIVEVEC_SUM);
+    livevec::vector sums(livevec::kind::sum);
     sums.push(9);
     try {
         (void)set.notes(sums);

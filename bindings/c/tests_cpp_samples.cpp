@@ -42,8 +42,8 @@ static void windows_beside_rows()
         IS(ends(load.last(static_cast<std::uint64_t>(i % 40))) == last);
         const auto at = [&](std::uint64_t i) { return values.begin() + static_cast<std::ptrdiff_t>(i); };
         const std::int64_t sum = std::accumulate(at(wanted.first), at(wanted.second), std::int64_t(0));
-        IS(static_cast<std::int64_t>(load.value_between(LIVEVEC_SUM, std::min(since, until), std::max(since, until)).values.sum) == sum);
-        const livevec_series_reduced most = load.value_of_last(LIVEVEC_GREATEST, static_cast<std::uint64_t>(i % 40));
+        IS(static_cast<std::int64_t>(load.value_between(livevec::kind::sum, std::min(since, until), std::max(since, until)).values.sum) == sum);
+        const livevec_series_reduced most = load.value_of_last(livevec::kind::greatest, static_cast<std::uint64_t>(i % 40));
         IS(most.values.any == (last.first < last.second) && (!most.values.any || most.values.greatest == *std::max_element(at(last.first), at(last.second))));
         IS(most.edit == load.edits() && load.size() == times.size() && load.first() == first);
     }
@@ -58,12 +58,12 @@ static void samples_by_hand()
     livevec::samples load{{-5, 10}, {-5, 20}, {7, 30}};
     IS(ends(load.last(0)) == window(3, 3) && ends(load.last(1)) == window(2, 3) && ends(load.last(UINT64_MAX)) == window(0, 3));
     IS(ends(load.between(-5, 7)) == window(0, 2) && ends(load.between(8, 9)) == window(3, 3) && ends(load.between(INT64_MIN, -5)) == window(0, 0));
-    IS(refusal_of([&] { (void)load.between(7, 6); }) == LIVEVEC_BAD_RANGE && refusal_of([&] { (void)load.value_between(LIVEVEC_SUM, 7, 6); }) == LIVEVEC_BAD_RANGE);
+    IS(refusal_of([&] { (void)load.between(7, 6); }) == LIVEVEC_BAD_RANGE && refusal_of([&] { (void)load.value_between(livevec::kind::sum, 7, 6); }) == LIVEVEC_BAD_RANGE);
     try {
         load.push(6, 1);
         IS(false);
     } catch (const livevec::earlier &refused) {
-        IS(refused.number() == LIVEVEC_EARLIER && refused.newest() == 7 && refused.what() == std::string("a time before that of the last sample"));
+        IS(refused.number() == LIVEVEC_EARLIER && refused.newest() == 7 && refused.what() == std::string("a time before that of the last sample (time 6, the last one's 7)"));
     }
     try {
         load.push_many(numbers{7, 9, 8, 10}, numbers{1, 2, 3, 4});
@@ -76,8 +76,8 @@ static void samples_by_hand()
     IS((load.elements() == numbers{20, 30, 1}) && (load.times(1, 3) == numbers{-5, 7}) && load.sum(1, 4) == 51 && load.where_greatest(1, 4)->index == 2);
     std::int64_t room[2] = {0, 0};
     IS(load.times_into(1, 4, room) == 2 && room[1] == 7);
-    load.prepare(LIVEVEC_BEST);
-    IS(load.best(1, 4) == 51 && load.scan_inclusive<LIVEVEC_SUM>(1, 3).back() == 50);
+    load.prepare(livevec::kind::best);
+    IS(load.best(1, 4) == 51 && load.scan_inclusive<livevec::kind::sum>(1, 3).back() == 50);
     IS(refusal_of([&] { (void)load.at(0); }) == LIVEVEC_OUT_OF_RANGE && refusal_of([&] { (void)load.times(3, 2); }) == LIVEVEC_BAD_RANGE);
     IS(livevec_series_push(load.series_slot(), 1).refusal == LIVEVEC_NO_HANDLE);
     livevec::samples moved = std::move(load);

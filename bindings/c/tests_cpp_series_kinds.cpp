@@ -24,7 +24,7 @@
 using numbers = std::vector<std::int64_t>;
 
 /* One column of a series, as a whole and in pieces, beside what a loop has in its variable after each element. */
-template <livevec_kind Kind, class Cell, class Step, class Same> static void column_of(const livevec::series &readings, const numbers &row, Cell none, Step step, Same same)
+template <livevec::kind Kind, class Cell, class Step, class Same> static void column_of(const livevec::series &readings, const numbers &row, Cell none, Step step, Same same)
 {
     const std::uint64_t first = readings.first(), size = readings.size();
     const auto whole = readings.scan_inclusive<Kind>(first, size), before = readings.scan_exclusive<Kind>(first, size);
@@ -52,30 +52,30 @@ static void goes_on_by_one_kind()
     livevec::series readings{livevec::array_view(row)};
     readings.expire(2);
     const auto from = row.begin() + 2;
-    IS(readings.value(LIVEVEC_LEAST, 2, 9).values.least == *std::min_element(from, row.begin() + 9));
-    IS(readings.value(LIVEVEC_LEAST, 2, 9).values.greatest == 0 && readings.value(LIVEVEC_LEAST, 2, 2).values.any == false);
-    const std::vector<livevec_values> sums = readings.value_many(LIVEVEC_SUM, {{2, 9}, {5, 5}, {3, 48}});
+    IS(readings.value(livevec::kind::least, 2, 9).values.least == *std::min_element(from, row.begin() + 9));
+    IS(readings.value(livevec::kind::least, 2, 9).values.greatest == 0 && readings.value(livevec::kind::least, 2, 2).values.any == false);
+    const std::vector<livevec_values> sums = readings.value_many(livevec::kind::sum, {{2, 9}, {5, 5}, {3, 48}});
     IS(static_cast<std::int64_t>(sums[0].sum) == std::accumulate(from, row.begin() + 9, std::int64_t(0)) && !sums[1].any);
     IS(static_cast<std::int64_t>(sums[2].sum) == std::accumulate(from + 1, row.end(), std::int64_t(0)));
     try {
-        (void)readings.value_many(LIVEVEC_SUM, {{2, 9}, {1, 5}});
+        (void)readings.value_many(livevec::kind::sum, {{2, 9}, {1, 5}});
         IS(false);
     } catch (const livevec::not_kept_at &refused) {
         IS(refused.place() == 1 && refused.first() == 2 && refused.size() == 48);
     }
     try {
-        (void)readings.value_many(LIVEVEC_SUM, {{2, 9}, {5, 6}, {4, 3}});
+        (void)readings.value_many(livevec::kind::sum, {{2, 9}, {5, 6}, {4, 3}});
         IS(false);
     } catch (const livevec::refused_at &refused) {
         IS(refused.place() == 2 && refused.number() == LIVEVEC_BAD_RANGE);
     }
-    IS(refusal_of([&] { (void)readings.value(livevec_kind(6), 2, 9); }) == LIVEVEC_BAD_KIND);
+    IS(refusal_of([&] { (void)readings.value(livevec::kind{6}, 2, 9); }) == LIVEVEC_BAD_KIND);
     const auto equal = [](auto a, auto b) { return a == b; };
-    column_of<LIVEVEC_SUM>(readings, row, std::uint64_t(0), [](std::uint64_t s, bool, std::int64_t x) { return s + static_cast<std::uint64_t>(x); }, equal);
-    column_of<LIVEVEC_LEAST>(readings, row, std::int64_t(0), [](std::int64_t s, bool one, std::int64_t x) { return one || x < s ? x : s; }, equal);
-    column_of<LIVEVEC_GREATEST>(readings, row, std::int64_t(0), [](std::int64_t s, bool one, std::int64_t x) { return one || x > s ? x : s; }, equal);
+    column_of<livevec::kind::sum>(readings, row, std::int64_t(0), [](std::int64_t s, bool, std::int64_t x) { return s + x; }, equal);
+    column_of<livevec::kind::least>(readings, row, std::int64_t(0), [](std::int64_t s, bool one, std::int64_t x) { return one || x < s ? x : s; }, equal);
+    column_of<livevec::kind::greatest>(readings, row, std::int64_t(0), [](std::int64_t s, bool one, std::int64_t x) { return one || x > s ? x : s; }, equal);
     std::int64_t ending = 0;
-    column_of<LIVEVEC_BEST>(
+    column_of<livevec::kind::best>(
         readings, row, livevec_total{0, 0},
         [&](livevec_total s, bool one, std::int64_t x) {
             ending = one || ending < 0 ? x : ending + x;
@@ -83,7 +83,7 @@ static void goes_on_by_one_kind()
             return livevec_total{static_cast<std::uint64_t>(best), static_cast<std::int64_t>(best >> 64)};
         },
         [](livevec_total a, livevec_total b) { return livevec::total(a) == livevec::total(b); });
-    column_of<LIVEVEC_AFFINE>(
+    column_of<livevec::kind::affine>(
         readings, row, livevec_map{1, 0},
         [](livevec_map s, bool, std::int64_t x) {
             const std::int64_t low = (x % 256 + 256) % 256;
@@ -91,7 +91,7 @@ static void goes_on_by_one_kind()
             return livevec_map{a * s.a, a * s.b + static_cast<std::uint32_t>(low)};
         },
         [](livevec_map a, livevec_map b) { return a.a == b.a && a.b == b.b; });
-    column_of<LIVEVEC_AUTOMATON>(
+    column_of<livevec::kind::automaton>(
         readings, row, livevec_states{{0, 1, 2, 3, 4, 5, 6, 7}},
         [](livevec_states s, bool, std::int64_t x) {
             for (std::uint8_t &q : s.to)
@@ -100,7 +100,7 @@ static void goes_on_by_one_kind()
         },
         [](livevec_states a, livevec_states b) { return std::equal(a.to, a.to + 8, b.to); });
     try {
-        (void)readings.scan_inclusive<LIVEVEC_SUM>(1, 5);
+        (void)readings.scan_inclusive<livevec::kind::sum>(1, 5);
         IS(false);
     } catch (const livevec::not_kept &refused) {
         IS(refused.first() == 2 && refused.size() == 48);
@@ -130,7 +130,7 @@ static void goes_on_by_all_or_none()
     IS(setrlimit(RLIMIT_AS, &before) == 0);
     IS(why == LIVEVEC_NO_MEMORY && readings.edits() == 2 && readings.elements() == numbers({5, 7}));
     readings.push_many(more);
-    IS(readings.size() == more.size() + 2 && readings.edits() == more.size() + 2 && readings.sum(0, readings.size()) == 12 + 3 * more.size());
+    IS(readings.size() == more.size() + 2 && readings.edits() == more.size() + 2 && readings.unsigned_sum(0, readings.size()) == 12 + 3 * more.size());
 #endif
 }
 
@@ -138,7 +138,7 @@ static void goes_on_by_all_or_none()
 static void writes_all_or_none()
 {
     livevec::series readings{9, 20, 22, 19, 25};
-    readings.prepare(LIVEVEC_SUM);
+    readings.prepare(livevec::kind::sum);
     readings.expire(1);
     IS(readings.write_many({4, 1, 4}, {24, 21, 23}) == 9 && readings.elements() == numbers({21, 22, 19, 23}) && readings.sum(1, 5) == 85);
     IS(readings.write_many({}, {}) == 9);

@@ -50,7 +50,7 @@ __attribute__((noinline)) void operator delete(void *it, std::size_t) noexcept
 static_assert(!std::is_copy_constructible_v<livevec::shared_vector> && std::is_nothrow_move_constructible_v<livevec::shared_vector>);
 static_assert(!std::is_copy_constructible_v<livevec::subscriber> && std::is_nothrow_move_assignable_v<livevec::shared_vector>);
 
-static livevec::queries watching(livevec_kind kind)
+static livevec::queries watching(livevec::kind kind)
 {
     livevec::queries made;
     made.watch("all", kind);
@@ -60,7 +60,7 @@ static livevec::queries watching(livevec_kind kind)
 static void looks_sleeps_and_has_the_last_notes()
 {
     livevec::shared_vector shared(livevec::vector{4, 5});
-    livevec::subscriber alerts = shared.subscribe(watching(LIVEVEC_SUM)), late = shared.subscribe(watching(LIVEVEC_LEAST));
+    livevec::subscriber alerts = shared.subscribe(watching(livevec::kind::sum)), late = shared.subscribe(watching(livevec::kind::least));
     IS(shared.push(6).edit == 3);
     const notes told = *alerts.next();
     IS(told.size() == 1 && told[0].edit == 3 && told[0].values.sum == 15);
@@ -69,7 +69,7 @@ static void looks_sleeps_and_has_the_last_notes()
     alerts.set_pause(std::chrono::hours(1));
     shared.push(1);
     IS((*alerts.next())[0].values.sum == 16);
-    livevec::subscriber sleeping = shared.subscribe(watching(LIVEVEC_GREATEST));
+    livevec::subscriber sleeping = shared.subscribe(watching(livevec::kind::greatest));
     std::thread pauses([&] {
         const auto last = alerts.next();
         IS(last && last->at(0).edit == 6 && last->at(0).values.sum == 3 && !alerts.next() && alerts.look().empty());
@@ -93,8 +93,8 @@ static void looks_sleeps_and_has_the_last_notes()
 
 static void what_is_refused_changes_nothing()
 {
-    livevec::shared_vector shared(livevec::vector(1, 20));
-    livevec::subscriber alerts = shared.subscribe(watching(LIVEVEC_SUM));
+    livevec::shared_vector shared(livevec::vector(livevec::limits{1, 20}));
+    livevec::subscriber alerts = shared.subscribe(watching(livevec::kind::sum));
     IS(refusal_of([&] { shared.pop(); }) == LIVEVEC_EMPTY);
     IS(refusal_of([&] { shared.write(0, 1); }) == LIVEVEC_OUT_OF_RANGE);
     IS(refusal_of([&] { shared.swap_elements(0, 1); }) == LIVEVEC_OUT_OF_RANGE);
@@ -111,11 +111,11 @@ static void what_is_refused_changes_nothing()
     IS((*alerts.next())[0].values.sum == 16);
     IS(refusal_of([&] { shared.write_many(std::vector<std::uint32_t>{0, 8}, list{1, 1}); }) == LIVEVEC_OUT_OF_RANGE);
     IS(alerts.look().empty() && shared[7] == 2 && shared.size() == 8 && *shared.best(1, 3) == 4 && shared.least(0, 8) == 2);
-    IS(shared.greatest(1, 1) == std::nullopt && shared.reduce(0, 8).edit == 8 && shared.value(LIVEVEC_SUM, 0, 2).values.sum == 4);
-    livevec::shared_vector sums{livevec::vector(LIVEVEC_SUM)};
-    livevec::subscriber early = sums.subscribe(watching(LIVEVEC_LEAST)), late = sums.subscribe(watching(LIVEVEC_LEAST));
+    IS(shared.greatest(1, 1) == std::nullopt && shared.reduce(0, 8).edit == 8 && shared.value(livevec::kind::sum, 0, 2).values.sum == 4);
+    livevec::shared_vector sums{livevec::vector(livevec::kind::sum)};
+    livevec::subscriber early = sums.subscribe(watching(livevec::kind::least)), late = sums.subscribe(watching(livevec::kind::least));
     IS(refusal_of([&] { (void)early.look(); }) == LIVEVEC_BAD_KIND && refusal_of([&] { (void)early.next(); }) == LIVEVEC_BAD_KIND);
-    IS(sums.subscribe(watching(LIVEVEC_SUM)).look().empty());
+    IS(sums.subscribe(watching(livevec::kind::sum)).look().empty());
     IS(refusal_of([&] { sums.start_workers(SIZE_MAX); }) == LIVEVEC_NO_MEMORY);
     (void)sums.close();
     IS(refusal_of([&] { (void)late.next(); }) == LIVEVEC_BAD_KIND && !late.next());
@@ -125,8 +125,8 @@ static void what_is_thrown_within_stops_nobody()
 {
     livevec::shared_vector shared;
     shared.start_workers(1);
-    livevec::subscriber alerts = shared.subscribe(watching(LIVEVEC_SUM));
-    std::optional<livevec::subscriber> gone = shared.subscribe(watching(LIVEVEC_BEST));
+    livevec::subscriber alerts = shared.subscribe(watching(livevec::kind::sum));
+    std::optional<livevec::subscriber> gone = shared.subscribe(watching(livevec::kind::best));
     try {
         shared.with([&](livevec::vector &of) {
             of.push(3);
@@ -288,7 +288,7 @@ static void workers_share_many_blocks()
     for (int round = 1; round < 6; round++) {
         // one summary has 32,768 elements once all below it are there, and nothing keeps them but the workers
         until([&] { return shared.reduce(0, 6 * 32768).summaries <= 6; });
-        IS(shared.reduce(0, shared.size()).values.sum == static_cast<std::uint64_t>(std::accumulate(many.begin(), many.end(), std::int64_t{0})));
+        IS(static_cast<std::int64_t>(shared.reduce(0, shared.size()).values.sum) == std::accumulate(many.begin(), many.end(), std::int64_t{0}));
         for (std::int64_t &it : many)
             it += round;
         shared.write_many(indices, many);
@@ -299,7 +299,7 @@ static void workers_share_many_blocks()
             shared.start_workers(4);
         }
     }
-    IS(shared.close().sum(0, 200004) == static_cast<std::uint64_t>(std::accumulate(many.begin(), many.end(), std::int64_t{0})));
+    IS(shared.close().sum(0, 200004) == std::accumulate(many.begin(), many.end(), std::int64_t{0}));
 }
 
 static void subscribers_come_and_go_while_edits_go_on()
@@ -311,7 +311,7 @@ static void subscribers_come_and_go_while_edits_go_on()
             shared.push(2);
     });
     for (int i = 0; i < 100; i++) {
-        livevec::subscriber alerts = shared.subscribe(watching(LIVEVEC_SUM));
+        livevec::subscriber alerts = shared.subscribe(watching(livevec::kind::sum));
         for (const livevec_note &note : alerts.look())
             IS(note.values.sum == 2ull * note.edit);
     }
@@ -321,7 +321,7 @@ static void subscribers_come_and_go_while_edits_go_on()
     {
         const livevec::shared_vector ended = std::move(shared);
         IS(ended.sum(0, 5000) == 10000);
-        alerts = std::optional<livevec::subscriber>(const_cast<livevec::shared_vector &>(ended).subscribe(watching(LIVEVEC_SUM)));
+        alerts = std::optional<livevec::subscriber>(const_cast<livevec::shared_vector &>(ended).subscribe(watching(livevec::kind::sum)));
     }
     IS(alerts->next()->at(0).values.sum == 10000 && !alerts->next());
 }
@@ -347,8 +347,8 @@ template <class Call> static bool is_wanting(Call call)
 static void want_of_memory_loses_nothing()
 {
     livevec::shared_vector shared(livevec::vector{1, 2});
-    livevec::subscriber alerts = shared.subscribe(watching(LIVEVEC_SUM)), late = shared.subscribe(watching(LIVEVEC_LEAST));
-    livevec::queries asked = watching(LIVEVEC_BEST);
+    livevec::subscriber alerts = shared.subscribe(watching(livevec::kind::sum)), late = shared.subscribe(watching(livevec::kind::least));
+    livevec::queries asked = watching(livevec::kind::best);
     IS(is_wanting([&] { (void)alerts.look(); }) && is_wanting([&] { (void)alerts.next(); }));
     IS(is_wanting([&] { shared.start_workers(1); }) && is_wanting([&] { (void)shared.subscribe(std::move(asked)); }));
     IS((*alerts.next())[0].values.sum == 3 && alerts.look().empty());

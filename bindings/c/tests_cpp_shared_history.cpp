@@ -52,10 +52,10 @@ static void redo(list &all, const did &it)
 }
 
 struct query {
-    livevec_kind kind;
+    livevec::kind kind;
     std::uint32_t lo, hi;
 };
-static const livevec_kind kinds[] = {LIVEVEC_SUM, LIVEVEC_LEAST, LIVEVEC_GREATEST, LIVEVEC_BEST, LIVEVEC_AFFINE, LIVEVEC_AUTOMATON};
+static const livevec::kind kinds[] = {livevec::kind::sum, livevec::kind::least, livevec::kind::greatest, livevec::kind::best, livevec::kind::affine, livevec::kind::automaton};
 
 /* What a kind says of the elements that a query has, by a loop over them; the others are 0, as in a note. */
 static livevec_values plain(const query &of, const list &all)
@@ -82,14 +82,14 @@ static livevec_values plain(const query &of, const list &all)
     livevec_values told{};
     told.any = values.any;
     switch (of.kind) {
-    case LIVEVEC_SUM: told.sum = values.sum; break;
-    case LIVEVEC_LEAST: told.least = values.least; break;
-    case LIVEVEC_GREATEST: told.greatest = values.greatest; break;
-    case LIVEVEC_BEST:
+    case livevec::kind::sum: told.sum = values.sum; break;
+    case livevec::kind::least: told.least = values.least; break;
+    case livevec::kind::greatest: told.greatest = values.greatest; break;
+    case livevec::kind::best:
         told.best_low = static_cast<std::uint64_t>(best);
         told.best_high = static_cast<std::int64_t>(best >> 64);
         break;
-    case LIVEVEC_AFFINE:
+    case livevec::kind::affine:
         told.affine_a = a;
         told.affine_b = b;
         break;
@@ -98,16 +98,16 @@ static livevec_values plain(const query &of, const list &all)
     return told;
 }
 
-static bool same(const livevec_values &a, const livevec_values &b, livevec_kind kind)
+static bool same(const livevec_values &a, const livevec_values &b, livevec::kind kind)
 {
     if (a.any != b.any)
         return false;
     switch (kind) {
-    case LIVEVEC_SUM: return a.sum == b.sum;
-    case LIVEVEC_LEAST: return a.least == b.least;
-    case LIVEVEC_GREATEST: return a.greatest == b.greatest;
-    case LIVEVEC_BEST: return a.best_low == b.best_low && a.best_high == b.best_high;
-    case LIVEVEC_AFFINE: return a.affine_a == b.affine_a && a.affine_b == b.affine_b;
+    case livevec::kind::sum: return a.sum == b.sum;
+    case livevec::kind::least: return a.least == b.least;
+    case livevec::kind::greatest: return a.greatest == b.greatest;
+    case livevec::kind::best: return a.best_low == b.best_low && a.best_high == b.best_high;
+    case livevec::kind::affine: return a.affine_a == b.affine_a && a.affine_b == b.affine_b;
     default: return !std::memcmp(a.automaton, b.automaton, sizeof a.automaton);
     }
 }

@@ -24,7 +24,7 @@ static void writes_and_audits()
 {
     livevec::vector v{5, -7};
     IS(transcript::of(v) == "livevec 1\nj push 5\nj push -7\nend\n");
-    const livevec_reduced told = v.value(LIVEVEC_SUM, 0, 2);
+    const livevec_reduced told = v.value(livevec::kind::sum, 0, 2);
     std::vector<livevec_recorded> answers{{told.edit, LIVEVEC_SUM, 0, 2, told.values}};
     const std::string text = transcript::of(v, answers);
     IS(text == "livevec 1\nj push 5\nj push -7\na 2 sum 0 2 18446744073709551614\nend\n");
@@ -45,7 +45,7 @@ static void restores()
 {
     livevec::vector v = transcript::restore("livevec 1\nj push 5\na 1 sum 0 1 5\nj push 6\na 2 su");
     IS(v.edits() == 2 && v.push(9) == 2 && v.sum(0, 3) == 20);
-    IS(transcript::restore(LIVEVEC_LEAST, transcript::of(v)).least(0, 3) == 5);
+    IS(transcript::restore(livevec::kind::least, transcript::of(v)).least(0, 3) == 5);
     try {
         (void)transcript::restore("livevec 1\nj push 5\nj pop\nj pop\n");
         IS(false);
@@ -53,7 +53,7 @@ static void restores()
         IS(why.number() == LIVEVEC_NO_FRONT && why.verdict() == LIVEVEC_NO && why.line() == 4);
     }
     try {
-        (void)transcript::restore(transcript::of(v), 17, 2);
+        (void)transcript::restore(transcript::of(v), {17, 2});
         IS(false);
     } catch (const livevec::not_restored &why) {
         IS(why.number() == LIVEVEC_WORN && why.edits() == 2);

@@ -1,37 +1,28 @@
-/* An order book by livevec: a write, and a sum, a least level or a best run of any levels, without a pass over the book. */
+/* An order book by livevec: two vectors, one for each side. The best levels are searches, and the depth of any levels is a sum. */
 #include "order_book.hpp"
 
 #include <livevec.hpp>
+#include <vector>
 
 namespace {
 
 class book {
   public:
-    void place(std::uint32_t level, std::int64_t net)
-    {
-        if (level == levels_.size())
-            levels_.push(net);
-        else
-            levels_.write(level, net);
-    }
-    void drop(std::uint32_t levels) { levels_.truncate(levels); }
-    std::int64_t sum(std::uint32_t lo, std::uint32_t hi) const { return static_cast<std::int64_t>(levels_.sum(lo, hi)); }
-    std::int64_t least(std::uint32_t lo, std::uint32_t hi) const { return levels_.least(lo, hi).value_or(0); }
-    std::int64_t best(std::uint32_t lo, std::uint32_t hi) const { return static_cast<std::int64_t>(levels_.best(lo, hi).value_or(0)); }
-    std::vector<std::int64_t> depth(std::uint32_t n) const
-    {
-        std::vector<std::uint64_t> sums = levels_.scan_inclusive<LIVEVEC_SUM>(0, n);
-        return std::vector<std::int64_t>(sums.begin(), sums.end());
-    }
+    void change(side of, std::uint32_t level, std::int64_t by) { sides_[of].write(level, sides_[of][level] + by); }
+    std::uint32_t best_bid() const { return sides_[BID].where_last_at_least(0, LEVELS, 1).value_or(LEVELS); }
+    std::uint32_t best_ask() const { return sides_[ASK].where_first_at_least(0, LEVELS, 1).value_or(LEVELS); }
+    std::int64_t depth(side of, std::uint32_t lo, std::uint32_t hi) const { return sides_[of].sum(lo, hi); }
 
   private:
-    livevec::vector levels_;
+    static livevec::vector empty() { return livevec::vector(std::vector<std::int64_t>(LEVELS)); }
+
+    livevec::vector sides_[2] = {empty(), empty()};
 };
 
 } // namespace
 
-int main()
+int main(int argc, char **argv)
 {
     book levels;
-    day(levels);
+    return day(levels, "livevec", argc, argv);
 }

@@ -1,56 +1,41 @@
-/* The same order book by a std::vector and loops. */
+/* The same order book by two arrays and loops. */
 #include "order_book.hpp"
 
-#include <algorithm>
+#include <numeric>
+#include <vector>
 
 namespace {
 
 class book {
   public:
-    void place(std::uint32_t level, std::int64_t net)
+    void change(side of, std::uint32_t level, std::int64_t by) { sides_[of][level] += by; }
+    std::uint32_t best_bid() const
     {
-        if (level == levels_.size())
-            levels_.push_back(net);
-        else
-            levels_[level] = net;
+        for (std::uint32_t level = LEVELS; level-- > 0;)
+            if (sides_[BID][level] > 0)
+                return level;
+        return LEVELS;
     }
-    void drop(std::uint32_t levels) { levels_.resize(levels); }
-    std::int64_t sum(std::uint32_t lo, std::uint32_t hi) const
+    std::uint32_t best_ask() const
     {
-        std::int64_t sum = 0;
-        for (std::uint32_t i = lo; i < hi; i++)
-            sum += levels_[i];
-        return sum;
+        for (std::uint32_t level = 0; level < LEVELS; level++)
+            if (sides_[ASK][level] > 0)
+                return level;
+        return LEVELS;
     }
-    std::int64_t least(std::uint32_t lo, std::uint32_t hi) const
+    std::int64_t depth(side of, std::uint32_t lo, std::uint32_t hi) const
     {
-        return lo == hi ? 0 : *std::min_element(levels_.begin() + lo, levels_.begin() + hi);
-    }
-    std::int64_t best(std::uint32_t lo, std::uint32_t hi) const
-    {
-        std::int64_t best = 0, ending = 0;
-        for (std::uint32_t i = lo; i < hi; i++) {
-            ending = i > lo && ending > 0 ? ending + levels_[i] : levels_[i];
-            best = i > lo && best > ending ? best : ending;
-        }
-        return best;
-    }
-    std::vector<std::int64_t> depth(std::uint32_t n) const
-    {
-        std::vector<std::int64_t> sums;
-        for (std::uint32_t i = 1; i <= n; i++)
-            sums.push_back(sum(0, i));
-        return sums;
+        return std::accumulate(sides_[of].begin() + lo, sides_[of].begin() + hi, std::int64_t{0});
     }
 
   private:
-    std::vector<std::int64_t> levels_;
+    std::vector<std::int64_t> sides_[2] = {std::vector<std::int64_t>(LEVELS), std::vector<std::int64_t>(LEVELS)};
 };
 
 } // namespace
 
-int main()
+int main(int argc, char **argv)
 {
     book levels;
-    day(levels);
+    return day(levels, "plain", argc, argv);
 }
