@@ -67,7 +67,7 @@ class Edits(unittest.TestCase):
         with self.assertRaises(IndexError) as caught:
             v[1]
         self.assertEqual((type(caught.exception), caught.exception.number, caught.exception.detail), (livevec.OutOfRange, 3, 1))
-        self.assertEqual(str(caught.exception), "out of range: the size is 1")
+        self.assertEqual(str(caught.exception), "index 1: out of range: the size is 1")
         with self.assertRaises(ValueError):
             v.sum(2, 1)
         with self.assertRaises(livevec.BadLimits):

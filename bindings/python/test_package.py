@@ -24,9 +24,9 @@ class Page(unittest.TestCase):
         with open(os.path.join(os.path.dirname(os.path.abspath(__file__)), "README.md"), encoding="utf-8") as file:
             page = file.read()
         programs = [it for it in re.findall(r"^```python\n(.*?)^```$", page, re.M | re.S) if "import numpy" not in it]
-        self.assertEqual(len(programs), 5)
+        self.assertEqual(len(programs), 6)
         for program in programs:
-            wanted = re.findall(r"print\(.*\) +# (.*)$", program, re.M)
+            wanted = re.findall(r"(?:print\(.*\)|^) +# (.*)$", program, re.M)
             said = io.StringIO()
             with contextlib.redirect_stdout(said):
                 exec(program, {})

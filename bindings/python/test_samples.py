@@ -2,7 +2,6 @@
 
 usage: python3 -m unittest test_samples
 """
-import copy
 import pickle
 import random
 import unittest
@@ -127,8 +126,6 @@ class Windows(Twin):
             for _ in load:
                 load.push_many([2, 2], [8, 9])
         self.assertEqual((list(reversed(load)), load[1], load.truncate(4), repr(load)), ([9, 8, 7, 6, 5], 6, 1, "<livevec.Samples of 0 to 4 at edit 6>"))
-        self.assertRaises(TypeError, copy.copy, load)
-        self.assertRaises(TypeError, pickle.dumps, load)
         for wrong in ("push_many", "swap", "extend", "append", "write_many"):
             self.assertEqual(hasattr(load, wrong), wrong == "push_many")
         with load:

@@ -2,7 +2,6 @@
 
 usage: python3 -m unittest test_series
 """
-import copy
 import itertools
 import pickle
 import random
@@ -156,7 +155,7 @@ class Edits(Twin):
             for _ in series:
                 series.push(1)
         with self.assertRaises(TypeError):
-            copy.copy(series)
+            series[0:1] = [7]
         with self.assertRaises(OverflowError):
             series.push(2**63)
         with self.assertRaises(BadRange):

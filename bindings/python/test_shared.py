@@ -263,7 +263,7 @@ class Threads(unittest.TestCase):
             for _ in range(50):
                 self.assertTrue(all(note.value == 2 * note.edit for note in shared.subscribe(watching()).look()))
             join()
-            self.assertEqual(shared.sum(), 4000)
+            self.assertEqual((shared.sum(), shared.total(), shared.total(-1)), (4000, 4000, shared[-1]))
 
     def test_what_is_let_go_ends_its_threads(self):
         before = threading.active_count()

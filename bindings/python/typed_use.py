@@ -7,7 +7,7 @@ from array import array
 from typing import Optional, Union
 
 from livevec import Answered, Board, Column, Delivered, Finished, Job, Kind, LongReduced, NotKept, Note, Outrun, Queries, Receipt, Reduced
-from livevec import BestRun, Placed, Refusal, Sample, Samples, Scan, Seat, Series, SharedVector, Subscriber, Summary, Values, Vector, Window
+from livevec import BestRun, Placed, Refusal, Sample, Samples, Scan, Seat, Series, SharedVector, Subscriber, Summary, Values, Vector, Window, rolling
 
 
 class Prices(Vector):
@@ -27,8 +27,8 @@ def vectors(prices: Vector, some: Prices) -> None:
     scanned: Scan = prices.scan_inclusive()
     last: Values = scanned[-1]
     why: Optional[Refusal] = prices.why_not_pop()
-    one: Union[int, None, tuple[int, ...]] = prices.value("affine", -5)
-    many: list[Union[int, None, tuple[int, ...]]] = prices.value_many(Kind.BEST, [(0, 1), (index, None)])
+    one: tuple[int, int] = prices.value("affine", -5)
+    many: list[Optional[int]] = prices.value_many(Kind.BEST, [(0, 1), (index, None)])
     prices.write_many([index, 0], every)
     again: Prices = some.copy()
     same: bool = again == prices
@@ -53,19 +53,41 @@ def wrong_vectors(prices: Vector) -> None:
     Vector(kind=0)  # type: ignore[arg-type]
     prices.insert(0, least)  # type: ignore[attr-defined]
     prices.read_into([0])  # type: ignore[arg-type]
-    prices.value(7)  # type: ignore[arg-type]
+    prices.value(7)  # type: ignore[call-overload]
     prices.value_many("sum", [0, 1])  # type: ignore[list-item]
+    total: int = prices.value("greatest")  # type: ignore[assignment]
+    prices.value_many("sum", [(0, 1)], into=[total])  # type: ignore[call-overload]
+    prices.rolling("sum", "3")  # type: ignore[call-overload]
+
+
+def kinds_as_they_are_told(prices: Vector, readings: Series, load: Samples, shared: SharedVector, kind: str, of: Kind, room: array[int]) -> int:
+    sums: int = prices.value("sum") + readings.value(Kind.SUM) + load.value_of_last("sum", 60) + load.value_between(Kind.SUM, 0, 9) + shared.value("sum")
+    least: Optional[int] = prices.value(Kind.LEAST, 1) or readings.value("best", None, 3) or load.value_of_last("greatest", 60)
+    pairs: list[tuple[int, int]] = [prices.value("affine"), *readings.value_many(Kind.AFFINE, [(0, 1)])]
+    states: tuple[int, ...] = prices.value("automaton")
+    some: Union[int, None, tuple[int, ...]] = prices.value(kind) or readings.value(of)
+    every: list[Union[int, None, tuple[int, ...]]] = prices.value_many(kind, [(0, 1)])
+    taken: int = prices.value_many(kind, [(0, 1)], into=room) + readings.rolling(of, 60, into=room) + load.rolling_span("sum", 60, into=room)
+    table: memoryview = memoryview(room).cast("B").cast("q", [len(room) // 2, 2])
+    taken += prices.value_many(of, table, into=table) + len(readings.value_many("sum", table))
+    column: Column = readings.rolling("sum", 60)
+    cells: memoryview = rolling(room, 60, ["sum", Kind.LEAST], times=room)["sum"] or load.rolling_span("sum", 60).cells
+    print(least, pairs, states, some, every, column, cells)
+    return sums + taken + sum(prices.value_many("sum", [(0, 1)])) + prices.total(1) + readings.total()
 
 
 def series(readings: Series) -> int:
     index: int = readings.push(7)
     first: int = readings[index]
+    part: list[int] = readings[index:9]
+    again: Series = readings.copy()
+    same: bool = again == readings
     dropped: int = readings.expire(index) + readings.truncate(index)
     answer: LongReduced = readings.ask(readings.first, readings.size)
     least: Optional[int] = readings.least(index)
     every: array[int] = readings.to_array()
     piece: Scan = readings.scan_inclusive(0, index, at=0, most=100)
-    readings += [first, dropped, *readings, *reversed(readings)]
+    readings += [first, dropped, same, *part, *readings, *reversed(readings)]
     readings.extend(every)
     try:
         many: int = readings.read_into(memoryview(every), index)
@@ -78,8 +100,8 @@ def series(readings: Series) -> int:
 
 
 def series_by_one_kind(readings: Series, room: array[int]) -> int:
-    one: Union[int, None, tuple[int, ...]] = readings.value(Kind.BEST, 5)
-    many: list[Union[int, None, tuple[int, ...]]] = readings.value_many("sum", [(0, 2), (None, 9)])
+    one: Optional[int] = readings.value(Kind.BEST, 5)
+    many: list[int] = readings.value_many("sum", [(0, 2), (None, 9)])
     column: Column = readings.scan_inclusive_by("affine", 0, 9, at=3, most=100)
     cells: memoryview = readings.scan_exclusive_by(Kind.SUM).cells
     took: int = readings.scan_inclusive_into("least", room, at=7) + readings.scan_exclusive_into("least", room, 1, 2)
@@ -106,7 +128,7 @@ def samples(saved: bytes, every: array[int]) -> Load:
     window: Window = back.between(0, 60)
     total: int = back.sum(*window) + back.push(60, 7) + back.times_into(every)
     one: Sample = back.sample(window.lo)
-    value: Union[int, None, tuple[int, ...]] = back.value_of_last("greatest", one.time)
+    value: Optional[int] = back.value_of_last("greatest", one.time)
     back.push_many(back.times(), every)
     again: bytes = Load.load_pieces([saved[:8], bytearray(saved[8:])]).save()
     took: int = back.save_into(bytearray(64), 8) + back.saved_length
@@ -119,7 +141,7 @@ def samples(saved: bytes, every: array[int]) -> Load:
 
 
 def wrong_series_by_one_kind(readings: Series) -> None:
-    readings.value(7)  # type: ignore[arg-type]
+    readings.value(7)  # type: ignore[call-overload]
     readings.value_many("sum", [1, 2])  # type: ignore[list-item]
     readings.scan_inclusive_by("sum", 0, 9, 3)  # type: ignore[misc]
     readings.scan_inclusive_into("sum", [1])  # type: ignore[arg-type]

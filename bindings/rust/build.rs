@@ -52,7 +52,8 @@ fn holds(folder: &Path) -> bool {
 fn packaged() -> Option<PathBuf> {
     let variable = |name: &str| {
         let said = Command::new("pkg-config").arg(format!("--variable={name}")).arg("livevec").output().ok()?;
-        let value = String::from_utf8(said.stdout).ok()?.trim().to_owned();
+        // it writes a space of a folder's name behind a backslash
+        let value = String::from_utf8(said.stdout).ok()?.trim().replace("\\ ", " ");
         (said.status.success() && !value.is_empty()).then(|| PathBuf::from(value))
     };
     variable("libdir").or_else(|| Some(variable("prefix")?.join("lib")))

@@ -15,8 +15,8 @@ own folders); in `lib` of the interpreter's prefix, which is that of a virtual e
 
 Threads. A `Vector`'s calls into C keep the interpreter's lock, so it may be used by several threads, one call at a time. What takes more than
 one call (`vector[-1]`, a loop over the elements, `edits` after a push) needs a lock of your own if another thread edits meanwhile.
-`value_many`, `write_many` and scans by one kind release the interpreter's lock, so that other threads run meanwhile. Of such a call and another one at the same
-vector, beside it, the one that comes second raises Busy.
+`value_many`, `rolling`, `write_many` and scans by one kind release the interpreter's lock, so that other threads run meanwhile. Of such a call and
+an edit of the same vector meanwhile, the one that comes second raises Busy.
 A `SharedVector` has such a lock, with workers and subscribers.
 A `Board` is for threads: each has a `Seat`, whose calls into C release the interpreter's lock and wait for no other thread.
 
@@ -36,6 +36,7 @@ from ._refusals import (
     NoSuchName, NotInOrder, NotKept, NotSaved, OtherTable, OtherVersion, OutOfRange, Outrun, Overtaken, Refusal, SeatsOut, ShortBuffer, Stranger,
     TooLarge, TooLong, TooMany, TooWide, Worn,
 )
+from ._rolling import rolling
 from ._samples import Sample, Samples, Window
 from ._scans import Column, Scan
 from ._series import Series
@@ -55,7 +56,7 @@ __all__ = [
     "SharedVector", "Subscriber", "Receipt",
     "Refusal", "Worn", "Empty", "OutOfRange", "TooLarge", "Full", "NoMemory", "BadRange", "BadLimits", "BadTable", "Stranger", "Closed",
     "ShortBuffer", "TooWide", "Outrun", "Contended", "Overtaken", "NoSeat", "SeatsOut", "Busy", "OtherVersion", "Damaged", "OtherTable", "TooLong",
-    "Series", "LongReduced", "Lent", "NotKept", "Samples", "Sample", "Window", "Earlier", "NotSaved",
+    "Series", "LongReduced", "Lent", "NotKept", "Samples", "Sample", "Window", "Earlier", "NotSaved", "rolling",
     "BadKind", "NameTaken", "NoSuchName", "TooMany", "BadName",
     "journal", "transcript", "audit", "audit_front", "restore", "JournalEdit", "Recorded", "Verdict", "NotInOrder", "NoFront",
     "MOST_BUCKETS", "MOST_EDITS", "MOST_BOARD_BUCKETS", "MOST_SEATS", "SUMMARY_BYTES", "MOST_QUERIES",

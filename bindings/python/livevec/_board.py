@@ -16,11 +16,11 @@ from ._handle import _Handle
 from ._kinds import Kind, _kind_of
 from ._library import _Answer, _u32
 from ._limits import MOST_BOARD_BUCKETS, MOST_EDITS, MOST_SEATS
-from ._numbers import _as_short, _as_u32
+from ._numbers import _as_short, _as_u32, _whole
 from ._ranges import _ends, _place
 from ._refusals import _refuse
 from ._structures import _BoardSlot, _SeatSlot
-from ._values import _value_of, _values_of
+from ._values import _value_of
 
 # A call of a seat's own asks for no more tries than this, which take some milliseconds at most.
 _TRIES = 1000
@@ -85,7 +85,7 @@ class Board(_Handle):
             raise _refuse(refusal)
 
     def sit(self) -> Seat:
-        """A seat of the board: one that nobody has yet, or one that was closed. Raises NoMemory, NoSeat."""
+        """A seat of the board: one that nobody has yet, or one that was closed. O(1). Raises NoMemory, NoSeat."""
         seat = Seat(self)
         refusal = _board_sit(self._at, seat._at)
         if refusal:
@@ -93,7 +93,7 @@ class Board(_Handle):
         return seat
 
     def finish(self) -> Finished:
-        """Ends a board whose seats are all closed, and gives what it came to. Then it is closed itself.
+        """Ends a board whose seats are all closed, and gives what it came to. Then it is closed itself. Linear.
 
         Raises NoMemory, SeatsOut; the board is then as it was."""
         # the memory that Python needs is there before anything is changed
@@ -145,36 +145,38 @@ class Seat(_Handle):
         self._one = threading.Lock()
 
     def push(self, value: int, *, tries: int = _TRIES) -> int:
-        """Puts an element at the end, and gives its index. Raises TooWide, Worn, Full, Contended."""
+        """Puts an element at the end, and gives its index. O(1) a try. Raises TooWide, Worn, Full, Contended."""
         return self._told(_seat_push, _as_short(value), _as_u32(tries, "tries")).place
 
     def pop(self, *, tries: int = _TRIES) -> int:
-        """Drops the last element, and gives it. Raises Worn, Empty, Contended, Overtaken."""
+        """Drops the last element, and gives it. O(1) a try. Raises Worn, Empty, Contended, Overtaken."""
         return self._told(_seat_pop, _as_u32(tries, "tries")).value
 
     def write(self, index: int, value: int, *, tries: int = _TRIES) -> int:
-        """Overwrites an element, and gives the one before. Raises TooWide, Worn, OutOfRange, Contended, Overtaken."""
-        return self._told(_seat_write, _place(operator.index(index), self), _as_short(value), _as_u32(tries, "tries")).value
+        """Overwrites an element, and gives the one before. O(1) a try. Raises TooWide, Worn, OutOfRange, Contended, Overtaken."""
+        return self._told(_seat_write, _place(_whole(index, "the index"), self), _as_short(value), _as_u32(tries, "tries")).value
 
     def __setitem__(self, index: int, value: int) -> None:
         self.write(index, value)
 
     def __getitem__(self, index: int) -> int:
-        """The element at an index; a negative one counts from the end, as that was just before. Raises OutOfRange, Overtaken."""
-        return self._told(_seat_get, _place(operator.index(index), self)).value
+        """The element at an index; a negative one counts from the end, as that was just before. O(1). Raises OutOfRange, Overtaken."""
+        return self._told(_seat_get, _place(_whole(index, "the index"), self)).value
 
     def __len__(self) -> int:
         return self._told(_seat_size).value
 
     def reduce(self, lo: int = 0, hi: Optional[int] = None) -> Told:
-        """The value of a range by the board's kind, of the elements as they were after one edit.
+        """The value of a range by the board's kind, of the elements as they were after one edit. Linear: it reads each element, or one summary for each
+        block of eight that `refresh` has computed.
 
         Without `hi` the range goes up to the size just before. Raises BadRange, OutOfRange, Overtaken."""
         did = self._told(_seat_reduce, *_ends(operator.index(lo), None if hi is None else operator.index(hi), self))
-        return Told(did.edit, did.cells, did.summaries, _value_of(self.kind, _values_of(did.values)))
+        return Told(did.edit, did.cells, did.summaries, _value_of(self.kind, did.values))
 
     def refresh(self, block: int) -> Refreshed:
         """Computes the summary of a block, the eight elements from index 8 * block on, so that reductions read less. No answer changes.
+        O(1).
 
         Raises OutOfRange where not all eight are there, and Overtaken."""
         did = self._told(_seat_refresh, _as_u32(block, "block"))

@@ -5,7 +5,9 @@ import ctypes
 import struct
 import sys
 from array import array
-from typing import TYPE_CHECKING, Any, Iterable
+from typing import TYPE_CHECKING, Any, Callable, Iterable, Optional
+
+from ._numbers import _as_i64
 
 if TYPE_CHECKING:
     from typing import Protocol
@@ -38,33 +40,75 @@ def _address(buffer: WriteableBuffer) -> ctypes.c_char:
     return ctypes.c_char.from_buffer(buffer)
 
 
-def _as_buffer(values: Iterable[int]) -> memoryview:
-    """The elements as 64-bit numbers with a sign, side by side, where they may be written to. While the view lives they can't be resized."""
+def _view_of(values: Any, what: str) -> Optional[memoryview]:
+    """The buffer of what has one, itself or by numpy, as a column of pandas; None of what is only gone through."""
     if _is_masked(values):
-        raise TypeError("a masked array may lack elements: hand in its compressed() or filled()")
+        raise TypeError(f"{what}: a masked array may lack elements: hand in its compressed() or filled()")
     try:
-        view = memoryview(values)  # type: ignore[arg-type]
+        return memoryview(values)
     except TypeError:
-        return memoryview(array("q", values))
+        pass
     except (ValueError, BufferError) as no_buffer:
         # so numpy says that its dates and durations have no buffer
-        raise TypeError(f"elements are whole numbers: {no_buffer}") from None
+        raise TypeError(f"{what} are whole numbers: {no_buffer}; a column of times is handed in as its astype('int64')") from None
+    own = getattr(values, "to_array", None)
+    if own is not None and type(values).__module__.split(".")[0] == "livevec":
+        return memoryview(own())
+    made = getattr(values, "__array__", None)
+    if made is None:
+        return None
+    given = made()
+    # a column of Python's own numbers, as pandas' that may lack some, is gone through
+    return None if given.dtype.kind == "O" else _view_of(given, what)
+
+
+def _array_of(values: Any, what: str) -> array[int]:
+    """Elements that are gone through, as an array; where one is no such number, which."""
+    try:
+        return array("q", values)
+    except (TypeError, OverflowError):
+        if isinstance(values, (list, tuple)):
+            for place, value in enumerate(values):
+                _as_i64(value, f"{what}[{place}]")
+        elif isinstance(values, (str, int, float)) or values is None:
+            raise TypeError(f"{what} are whole numbers one by one, in a list, a buffer or what else can be gone through, not {values!r}") from None
+        raise
+
+
+def _as_buffer(values: Iterable[int], what: str = "elements") -> memoryview:
+    """The elements as 64-bit numbers with a sign, side by side, where they may be written to. While the view lives they can't be resized."""
+    view = _view_of(values, what)
+    if view is None:
+        return memoryview(_array_of(values, what))
     if _is_plain(view):
         return view if view.c_contiguous and not view.readonly else memoryview(array("q", view.tobytes()))
     if view.ndim != 1:
-        raise TypeError(f"elements stand in one row, and this buffer has {view.ndim} dimensions")
+        raise TypeError(f"{what} are one row of numbers, and this buffer has {view.ndim} dimensions")
     order, kind = view.format[:-1], view.format[-1:]
     if kind not in "bBhHiIlLqQnN?" or order not in ("", "@", "=", "<", ">", "!"):
-        raise TypeError(f"elements are whole numbers, and this buffer's format is {view.format!r}")
+        raise TypeError(f"{what} are whole numbers, and this buffer's format is {view.format!r}")
     # array checks them one by one
     return memoryview(array("q", struct.unpack(f"{order}{len(view)}{kind}", view.tobytes())))
 
 
+def _writable(buffer: Any, what: str) -> memoryview:
+    """A buffer that may be written to, its numbers side by side; else a TypeError that says what of it is wrong."""
+    try:
+        view = memoryview(buffer)
+    except TypeError:
+        raise TypeError(f"{what} is a buffer, as an array.array or an array of numpy's, not a {type(buffer).__name__}") from None
+    if view.readonly:
+        raise TypeError(f"{what} may not be written to")
+    if not view.c_contiguous:
+        raise TypeError(f"{what} has gaps: its numbers are to be side by side")
+    return view
+
+
 def _as_room(buffer: Any) -> memoryview:
     """A buffer that elements are read into."""
-    view = memoryview(buffer)
-    if _is_masked(buffer) or not _is_plain(view) or view.readonly or not view.c_contiguous:
-        raise TypeError("elements are read into a buffer of 64-bit numbers with a sign, side by side, that may be written to")
+    view = _writable(buffer, "the buffer")
+    if _is_masked(buffer) or not _is_plain(view):
+        raise TypeError(f"the buffer is to have 64-bit numbers with a sign in one row, as int64 does, and its format is {view.format!r}")
     return view
 
 
@@ -76,11 +120,20 @@ def _as_column(buffer: Any, of: str, count: int) -> memoryview:
     """A buffer whose numbers are those of cells, side by side, and that may be written to."""
     if _is_masked(buffer):
         raise TypeError("a column has no mask: hand in the array's data")
-    view = memoryview(buffer)
+    view = _writable(buffer, "the column")
     letter, order = view.format[-1:], view.format[:-1]
-    if letter not in _ALIKE[of] or order not in _NATIVE or view.itemsize != struct.calcsize(of) or view.readonly or not view.c_contiguous:
-        raise TypeError(f"such a column has numbers of {8 * struct.calcsize(of)} bits, side by side, that may be written to")
+    if letter not in _ALIKE[of] or order not in _NATIVE or view.itemsize != struct.calcsize(of):
+        raise TypeError(f"the column is to have whole numbers of {8 * struct.calcsize(of)} bits, and its format is {view.format!r}")
     # as rows of cells, or as one row of their numbers
     if not (view.ndim == 1 and (not view.shape or view.shape[0] % count == 0) or view.ndim == 2 and view.shape is not None and view.shape[1] == count):
-        raise TypeError(f"such a column has {count} numbers for each element")
+        raise TypeError(f"the column is to have {count} numbers for each element, and its shape is {view.shape}")
     return view
+
+
+def _as_numpy(holder: object, read: Callable[[], array[int]], dtype: Any, copy: Optional[bool]) -> Any:
+    """The elements as an array of numpy's, which asks for them: so numpy is there."""
+    import numpy
+
+    if copy is False:
+        raise ValueError(f"the elements of a {type(holder).__name__} are handed out as a copy")
+    return numpy.asarray(read(), dtype=dtype)

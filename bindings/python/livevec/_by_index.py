@@ -3,13 +3,12 @@ from __future__ import annotations
 
 import ctypes
 from array import array
-from typing import TYPE_CHECKING, Callable, Iterable, Iterator, NamedTuple, Optional, TypeVar, Union
+from typing import TYPE_CHECKING, Any, Callable, Iterable, Iterator, NamedTuple, Optional, TypeVar, Union, overload
 
-from ._buffers import _address, _as_room
+from ._buffers import _address, _as_numpy, _as_room
 from ._elements import _AT_ONCE
-from ._kinds import Kind
-from ._numbers import _as_i64
-from ._refusals import Busy, Closed, _refuse
+from ._numbers import _as_i64, _whole
+from ._refusals import Busy, Closed, NotKept, _refuse
 from ._scans import Scan
 from ._series_calls import (
     _ask, _counted, _edits, _expire, _free, _get, _kept, _pop, _read, _reduce, _scan_exclusive, _scan_inclusive, _SeriesEdited, _SeriesReduced,
@@ -44,40 +43,59 @@ class _ByIndex(_SeriesSaved):
     # Edits.
 
     def pop(self) -> int:
-        """Drops the last element, and gives it. Raises Worn, Empty."""
+        """Drops the last element, and gives it. O(log n). Raises Worn, Empty."""
         return self._edited(_pop(self._at)).value
 
     def write(self, index: int, value: int) -> int:
-        """Overwrites an element, and gives the one before. Raises Worn, NotKept."""
-        return self._edited(_write(self._at, self._index(index), _as_i64(value))).value
+        """Overwrites an element, and gives the one before. O(log n). Raises Worn, NotKept."""
+        return self._edited(_write(self._at, self._index(index), _as_i64(value)), index).value
 
     def __setitem__(self, index: int, value: int) -> None:
+        if isinstance(index, slice):
+            raise TypeError("elements are overwritten one by one, or by write_many: a slice can't be assigned to")
         self.write(index, value)
 
     def truncate(self, size: int) -> int:
-        """Drops the elements from an index on, which is `size` then, and gives how many they were. Raises Worn, NotKept."""
-        return self._edited(_truncate(self._at, self._index(size))).place
+        """Drops the elements from an index on, which is `size` then, and gives how many they were. O(log n). Raises Worn, NotKept."""
+        return self._edited(_truncate(self._at, self._index(size)), size).place
 
     def expire(self, index: int) -> int:
-        """Drops the elements before an index, which is `first` then, and gives how many they were. The others keep their indices. It gives
-        memory back, and never raises NoMemory. Raises Worn, NotKept."""
-        return self._edited(_expire(self._at, self._index(index))).place
+        """Drops the elements before an index, which is `first` then, and gives how many they were. The others keep their indices. O(1) amortised.
+        It gives memory back, and never raises NoMemory. Raises Worn, NotKept."""
+        return self._edited(_expire(self._at, self._index(index)), index).place
 
     # Elements and counts.
 
     @property
     def edits(self) -> int:
-        """The number of the last edit, which is how many were accepted."""
+        """The number of the last edit, which is how many were accepted. O(1)."""
         return _counted(_edits(self._at))
 
     def __len__(self) -> int:
+        """How many elements are kept. O(1)."""
         return self.size - self.first
 
-    def __getitem__(self, index: int) -> int:
-        return _kept(_get(self._at, self._index(index))).value
+    @overload
+    def __getitem__(self, index: int) -> int: ...
+    @overload
+    def __getitem__(self, index: slice) -> list[int]: ...
+    def __getitem__(self, index: Union[int, slice]) -> Union[int, list[int]]:
+        """The element under an index, O(1); or those of a slice, in a list: what of it is kept, as a list's slice has what of it exists. An end that
+        is left out is `first` or `size`. As no index counts from the end, a negative end raises NotKept."""
+        if not isinstance(index, slice):
+            return _kept(_get(self._at, self._index(index)), index).value
+        wanted = self._kept_of(index)
+        if not wanted:
+            return []
+        lo, hi = min(wanted[0], wanted[-1]), max(wanted[0], wanted[-1])
+        return self.to_array(lo, hi + 1)[:: wanted.step].tolist()
+
+    def __array__(self, dtype: Any = None, copy: Optional[bool] = None) -> Any:
+        """The elements that are kept as an array of numpy's, for `numpy.asarray(s)` and `pandas.Series(s)`: a copy. Without one `lend` has them."""
+        return _as_numpy(self, self.to_array, dtype, copy)
 
     def to_array(self, lo: Optional[int] = None, hi: Optional[int] = None) -> array[int]:
-        """The elements of a range as an `array.array('q')`. Raises BadRange, NotKept."""
+        """The elements of a range as an `array.array('q')`: a copy, linear in the range. Raises BadRange, NotKept."""
         lo, hi = self._range(lo, hi)
         read = array("q", bytes(8 * self._room(lo, hi)))
         self.read_into(read, lo, hi)
@@ -85,7 +103,7 @@ class _ByIndex(_SeriesSaved):
 
     def read_into(self, buffer: Union[WriteableBuffer, _NumpyArray], lo: Optional[int] = None, hi: Optional[int] = None) -> int:
         """Fills a buffer with the elements of a range, from its start on, as many as it takes, and gives how many they are: the next piece starts
-        behind them. The buffer is as `Vector.read_into` wants it. Raises BadRange, NotKept."""
+        behind them. The buffer is as `Vector.read_into` wants it. Linear in the piece. Raises BadRange, NotKept."""
         return self._read_by(_read, buffer, lo, hi)
 
     def lend(self, lo: Optional[int] = None, hi: Optional[int] = None) -> Lent:
@@ -119,31 +137,30 @@ class _ByIndex(_SeriesSaved):
         except (Closed, Busy) as refusal:
             return f"<livevec.{self._name}, {type(refusal).__name__.lower()}>"
 
+    # Copies.
+
+    def copy(self: _Some) -> _Some:
+        """One of its own with the same elements under the same indices: its next edit has the number that this one's next has. Linear. Trees are made
+        anew by the first question. Raises NoMemory."""
+        return self.load(self.save())
+
+    def __copy__(self: _Some) -> _Some:
+        return self.copy()
+
+    def __reduce__(self) -> tuple[Any, ...]:
+        return type(self).load, (self.save(),)
+
     # Reductions and scans.
 
     def reduce(self, lo: Optional[int] = None, hi: Optional[int] = None) -> LongReduced:
-        """All six values of a range: it goes over the range by each kind that has no tree. Raises BadRange, NotKept."""
+        """All six values of a range, by the trees that there are: linear in the range by each kind that has none, and each time. It makes no tree,
+        so it is for a reader that is to leave everything as it is; else `value` and `ask` are the calls. Raises BadRange, NotKept."""
         return self._reduced(_reduce, lo, hi)
 
     def ask(self, lo: Optional[int] = None, hi: Optional[int] = None) -> LongReduced:
-        """The same, making the tree of each kind first, where there is none. Raises BadRange, NotKept, NoMemory."""
+        """The same, making the tree of each kind first, where there is none, in O(n): then it is O(log n), and each edit renews six trees. Where one
+        value is wanted, `value` makes one tree. Raises BadRange, NotKept, NoMemory."""
         return self._reduced(_ask, lo, hi)
-
-    def sum(self, lo: Optional[int] = None, hi: Optional[int] = None) -> int:
-        """The sum, as `Values` has it. It and the next three are by one kind, as `value`, and raise what that raises."""
-        return self._by_kind(Kind.SUM, lo, hi).sum
-
-    def least(self, lo: Optional[int] = None, hi: Optional[int] = None) -> Optional[int]:
-        """The least element; None of nothing."""
-        return self._by_kind(Kind.LEAST, lo, hi).least
-
-    def greatest(self, lo: Optional[int] = None, hi: Optional[int] = None) -> Optional[int]:
-        """The greatest element; None of nothing."""
-        return self._by_kind(Kind.GREATEST, lo, hi).greatest
-
-    def best(self, lo: Optional[int] = None, hi: Optional[int] = None) -> Optional[int]:
-        """The greatest total of one or more neighbours, which is exact; None of nothing."""
-        return self._by_kind(Kind.BEST, lo, hi).best
 
     def scan_inclusive(self, lo: Optional[int] = None, hi: Optional[int] = None, *, at: Optional[int] = None, most: Optional[int] = None) -> Scan:
         """The values of the elements from the range's start up to each of them, that one included.
@@ -181,19 +198,34 @@ class _ByIndex(_SeriesSaved):
     ) -> int:
         view = _as_room(buffer)
         lo, hi = self._range(lo, hi)
-        return _kept(call(self._at, lo, hi, ctypes.byref(_address(view)) if len(view) else None, len(view))).length
+        return _kept(call(self._at, lo, hi, ctypes.byref(_address(view)) if len(view) else None, len(view)), lo, hi).length
 
-    def _edited(self, told: _SeriesEdited) -> _SeriesEdited:
-        _kept(told)
+    def _kept_of(self, wanted: slice) -> range:
+        """The indices of a slice that are kept, where what is past either end is cut off, as a list does."""
+        kept = range(self.first, self.size)
+        ends: list[Optional[int]] = []
+        for end, what in ((wanted.start, "start"), (wanted.stop, "stop")):
+            if end is not None and _whole(end, f"the {what} of a slice") < 0:
+                raise NotKept(kept.start, kept.stop, given=f"index {end}")
+            ends.append(None if end is None else end - kept.start)
+        start, stop = ends
+        if wanted.step is None or wanted.step > 0:
+            return kept[None if start is None else max(start, 0) : None if stop is None else max(stop, 0) : wanted.step]
+        # backwards: from before the first one there is none, and down to before it there are all
+        return kept[:0] if start is not None and start < 0 else kept[start : None if stop is not None and stop < 0 else stop : wanted.step]
+
+    def _edited(self, told: _SeriesEdited, *given: int) -> _SeriesEdited:
+        _kept(told, *given)
         self._changes += 1
         return told
 
     def _reduced(self, call: Callable[..., _SeriesReduced], lo: Optional[int], hi: Optional[int]) -> LongReduced:
-        did = _kept(call(self._at, *self._range(lo, hi)))
+        start, end = self._range(lo, hi)
+        did = _kept(call(self._at, start, end), start, end)
         return LongReduced(did.edit, _values_of(did.values))
 
     def _scan(self, call: Callable[..., _SeriesScanned], lo: Optional[int], hi: Optional[int], at: Optional[int], most: Optional[int]) -> Scan:
         lo, at, hi, length = self._piece(lo, hi, at, most)
         room = bytearray(max(length, 1) * ctypes.sizeof(_Values))
-        did = _kept(call(self._at, lo, at, hi, ctypes.byref(_address(room)), length))
+        did = _kept(call(self._at, lo, at, hi, ctypes.byref(_address(room)), length), lo, hi)
         return Scan(did.edit, room, did.length)

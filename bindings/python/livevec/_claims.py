@@ -18,14 +18,14 @@ class _Claims(_Elements):
     __slots__ = ()
 
     def refresh(self, jobs: int = _MOST_U32) -> int:
-        """Computes at most so many summaries in place, and gives how many."""
+        """Computes at most so many summaries in place, and gives how many. Linear in how many they are: of eight elements or summaries each."""
         told = _refresh(self._at, _as_u32(jobs, "jobs"))
         if told.refusal:
             raise _refuse(told.refusal)
         return told.value
 
     def claim(self) -> Optional[Job]:
-        """A job for the least node that wants one, or None. Raises NoMemory."""
+        """A job for the least node that wants one, or None. O(log n). Raises NoMemory."""
         job = Job()
         did = _claim(self._at, job._at)
         if did.refusal:
@@ -34,14 +34,14 @@ class _Claims(_Elements):
         return job if did.found else None
 
     def vouches_for(self, outcome: Outcome) -> bool:
-        """Whether `deliver` would take an outcome: yes for each of a job of this vector, however late."""
+        """Whether `deliver` would take an outcome: yes for each of a job of this vector, however late. O(1)."""
         told = _vet(self._at, _checked(outcome)._at)
         if told.refusal:
             raise _refuse(told.refusal)
         return told.yes
 
     def deliver(self, outcome: Outcome) -> Delivered:
-        """Delivers an outcome. It may be late or come twice. Raises Stranger where it isn't of a job of this vector."""
+        """Delivers an outcome. It may be late or come twice. O(log n). Raises Stranger where it isn't of a job of this vector."""
         did = _accept(self._at, _checked(outcome)._at)
         if did.refusal:
             raise _refuse(did.refusal)
@@ -49,7 +49,8 @@ class _Claims(_Elements):
 
     def copy_blocks(self, first: int = 0, limit: int = _MOST_U32) -> Optional[Batch]:
         """A job for each block that wants one, of at most `limit` from block `first` on; None where none wants one. Block n is of the elements from
-        index 8 * n on. Nothing is claimed: threads that share the work ask for blocks apart. Raises NoMemory, and Busy beside another call."""
+        index 8 * n on. Nothing is claimed: threads that share the work ask for blocks apart. Linear in what is copied. Raises NoMemory, and
+        Busy beside another call."""
         batch = Batch()
         did = _blocks(self._at, batch._at, _as_u32(first, "the block"), _as_u32(limit, "the count"))
         if did.refusal:
@@ -58,8 +59,8 @@ class _Claims(_Elements):
         return batch if did.value else None
 
     def take_in(self, batch: Batch) -> Taken:
-        """Takes in what a batch that was run gave, each where `vouches_for` would say yes, once. No answer changes by it. Raises Closed where the batch
-        was not run, and Busy beside another call."""
+        """Takes in what a batch that was run gave, each where `vouches_for` would say yes, once. No answer changes by it. Linear in
+        the batch. Raises Closed where it was not run, and Busy beside another call."""
         if not isinstance(batch, Batch):
             raise TypeError(f"a Batch is wanted, not a {type(batch).__name__}")
         did = _accept_blocks(self._at, batch._at)

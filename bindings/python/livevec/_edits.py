@@ -12,8 +12,8 @@ from ._calls import (
 from ._elements import _Elements
 from ._numbers import _as_i64, _as_u32
 from ._ranges import _as_places
-from ._refusals import Closed, Refusal, _refuse
-from ._structures import _Verdict
+from ._refusals import _PLACED, Closed, Refusal, _accepted, _refuse
+from ._structures import _Edited, _Verdict
 
 if TYPE_CHECKING:
     from _typeshed import WriteableBuffer
@@ -27,32 +27,20 @@ class _Edits(_Elements):
     __slots__ = ()
 
     def push(self, value: int) -> int:
-        """Puts an element at the end, and gives its index. Raises Worn, Full, NoMemory; OverflowError where it does not fit 64 bits."""
-        did = _push(self._at, _as_i64(value))
-        if did.refusal:
-            raise _refuse(did.refusal, did.detail)
-        self._changes += 1
-        return did.place
+        """Puts an element at the end, and gives its index. O(1) amortised. Raises Worn, Full, NoMemory; OverflowError where it does not fit 64 bits."""
+        return self._edited(_push(self._at, _as_i64(value))).place
 
     def append(self, value: int) -> None:
         """Puts an element at the end, as a list does. Raises as `push` does."""
         self.push(value)
 
     def pop(self) -> int:
-        """Drops the last element, and gives it. Raises Worn, Empty, NoMemory."""
-        did = _pop(self._at)
-        if did.refusal:
-            raise _refuse(did.refusal, did.detail)
-        self._changes += 1
-        return did.value
+        """Drops the last element, and gives it. O(1). Raises Worn, Empty, NoMemory."""
+        return self._edited(_pop(self._at)).value
 
     def write(self, index: int, value: int) -> int:
-        """Overwrites an element, and gives the one before. Raises Worn, OutOfRange, NoMemory; OverflowError where it does not fit 64 bits."""
-        did = _write(self._at, self._index(index), _as_i64(value))
-        if did.refusal:
-            raise _refuse(did.refusal, did.detail)
-        self._changes += 1
-        return did.value
+        """Overwrites an element, and gives the one before. O(1) amortised. Raises Worn, OutOfRange, NoMemory; OverflowError where it does not fit 64 bits."""
+        return self._edited(_write(self._at, self._index(index), _as_i64(value)), index).value
 
     def __setitem__(self, index: int, value: int) -> None:
         if isinstance(index, slice):
@@ -60,28 +48,21 @@ class _Edits(_Elements):
         self.write(index, value)
 
     def reserve(self, elements: int) -> int:
-        """Makes room for so many elements in all, and gives the capacity. Raises Worn, TooLarge, NoMemory. It is an edit like any other."""
-        did = _reserve(self._at, _as_u32(elements, "elements"))
-        if did.refusal:
-            raise _refuse(did.refusal, did.detail)
-        self._changes += 1
-        return did.place
+        """Makes room for so many elements in all, and gives the capacity. Linear in the room. Raises Worn, TooLarge, NoMemory. It is an edit like any other."""
+        return self._edited(_reserve(self._at, _as_u32(elements, "elements"))).place
 
     def swap(self, first: int, second: int) -> int:
-        """Exchanges two elements, whose indices may be one, and gives the one that stands at the first now. Raises Worn, OutOfRange, NoMemory."""
-        did = _swap(self._at, self._index(first), self._index(second))
-        if did.refusal:
-            raise _refuse(did.refusal, did.detail)
-        self._changes += 1
-        return did.value
+        """Exchanges two elements, whose indices may be one, and gives the one at the first now. O(1) amortised. Raises Worn, OutOfRange, NoMemory."""
+        return self._edited(_swap(self._at, self._index(first), self._index(second)), *([max(first, second)] if min(first, second) >= 0 else [])).value
 
     def truncate(self, elements: int) -> int:
-        """Keeps so many elements, the first ones, and gives how many were dropped. Raises Worn, OutOfRange, NoMemory. It gives no memory back."""
-        did = _truncate(self._at, _as_u32(elements, "elements"))
-        if did.refusal:
-            raise _refuse(did.refusal, did.detail)
+        """Keeps so many elements, the first ones, and gives how many were dropped. O(1). Raises Worn, OutOfRange, NoMemory. It gives no memory back."""
+        return self._edited(_truncate(self._at, _as_u32(elements, "elements"))).place
+
+    def _edited(self, told: _Edited, *given: int) -> _Edited:
+        _accepted(told, *given)
         self._changes += 1
-        return did.place
+        return told
 
     # Verdicts: the refusal that an edit would meet, want of memory apart, or None where it would be accepted. Nothing is changed.
 
@@ -116,7 +97,7 @@ class _Edits(_Elements):
         return _refuse(told.refusal, told.detail) if told.refusal else None
 
     def extend(self, values: Iterable[int]) -> None:
-        """Pushes each element in order, by one call of C.
+        """Pushes each element in order, by one call of C. Linear in how many they are.
 
         An `array.array('q')`, a numpy array of int64 or any other buffer of 64-bit numbers with a sign is read where it lies. Where such a buffer
         has gaps or can't be written to, it is copied once, as one block. A buffer of other whole numbers, and anything else that can be gone
@@ -137,7 +118,7 @@ class _Edits(_Elements):
         return self
 
     def write_many(self, indices: Iterable[int], values: Iterable[int]) -> None:
-        """Writes each value at the index of the same place, in order, by one call of C. Each is an edit of its own.
+        """Writes each value at the index of the same place, in order, by one call of C. Each is an edit of its own, and costs what `write` does.
 
         Both are taken as `extend` takes elements, so numpy arrays and lists alike. A negative index counts from the end, and an index may come
         twice: the later value stays. Other threads run meanwhile; beside a call of theirs at this vector, the second of the two raises Busy.
@@ -145,7 +126,7 @@ class _Edits(_Elements):
         All writes are made, or none. Raises Worn or OutOfRange where one is refused: its `place` says which. Raises NoMemory too. Raises
         ValueError unless there are as many values as indices, and what `extend` raises of such as are no numbers.
         """
-        places, elements = _as_places(indices, self), _as_buffer(values)
+        places, elements = _as_places(indices, self), _as_buffer(values, "values")
         length = len(places)
         if length != len(elements):
             raise ValueError(f"there are {length} indices and {len(elements)} values")
@@ -153,8 +134,8 @@ class _Edits(_Elements):
         did = _write_many(self._at, *(ctypes.byref(_address(row)) if length else None for row in rows), length)
         self._changes += did.done
         if did.refusal:
-            raise _refuse(did.refusal, did.detail, did.done, did.place)
+            raise _refuse(did.refusal, did.detail, did.done, did.place, f"indices[{did.place}]" if did.refusal in _PLACED else "")
 
     def clear(self) -> None:
-        """Drops all elements, by one edit. Raises Worn, NoMemory. It gives no memory back."""
+        """Drops all elements, by one edit. O(1). Raises Worn, NoMemory. It gives no memory back."""
         self.truncate(0)

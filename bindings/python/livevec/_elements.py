@@ -3,16 +3,16 @@ from __future__ import annotations
 
 import collections.abc
 import ctypes
-import operator
 from array import array
-from typing import TYPE_CHECKING, Callable, Iterable, Iterator, Optional, Union, overload
+from typing import TYPE_CHECKING, Any, Callable, Iterable, Iterator, Optional, Union, overload
 
-from ._buffers import _address, _as_room
+from ._buffers import _address, _as_numpy, _as_room
 from ._calls import _count_capacity, _count_edits, _count_size, _get, _read
 from ._handle import _Handle
+from ._numbers import _whole
 from ._ranges import _ends, _place
-from ._refusals import _refuse
-from ._structures import _VectorSlot
+from ._refusals import _accepted, _refuse
+from ._structures import _Count, _VectorSlot
 
 if TYPE_CHECKING:
     from _typeshed import WriteableBuffer
@@ -31,26 +31,17 @@ class _Elements(_Handle, collections.abc.Sequence[int]):
     _changes: int
 
     def __len__(self) -> int:
-        told = _count_size(self._at)
-        if told.refusal:
-            raise _refuse(told.refusal)
-        return told.value
+        return _counted(_count_size(self._at))
 
     @property
     def edits(self) -> int:
-        """The number of the last edit, which is how many were accepted."""
-        told = _count_edits(self._at)
-        if told.refusal:
-            raise _refuse(told.refusal)
-        return told.value
+        """The number of the last edit, which is how many were accepted. O(1)."""
+        return _counted(_count_edits(self._at))
 
     @property
     def capacity(self) -> int:
         """How many elements have room without another bucket."""
-        told = _count_capacity(self._at)
-        if told.refusal:
-            raise _refuse(told.refusal)
-        return told.value
+        return _counted(_count_capacity(self._at))
 
     @overload
     def __getitem__(self, index: int) -> int: ...
@@ -63,24 +54,23 @@ class _Elements(_Handle, collections.abc.Sequence[int]):
                 return []
             first, last = sorted((wanted[0], wanted[-1]))
             return self.to_array(first, last + 1)[:: wanted.step].tolist()
-        got = _get(self._at, self._index(index))
-        if got.refusal:
-            raise _refuse(got.refusal, got.detail)
-        return got.value
+        return _accepted(_get(self._at, self._index(index)), index).value
 
-    def to_array(self, lo: int = 0, hi: Optional[int] = None) -> array[int]:
-        """The elements of a range as an `array.array('q')`, read by one call. Raises BadRange, OutOfRange."""
+    def __array__(self, dtype: Any = None, copy: Optional[bool] = None) -> Any:
+        """The elements as an array of numpy's, for `numpy.asarray(v)` and `pandas.Series(v)`: one copy, for they lie in buckets here. Linear."""
+        return _as_numpy(self, self.to_array, dtype, copy)
+
+    def to_array(self, lo: Optional[int] = None, hi: Optional[int] = None) -> array[int]:
+        """The elements of a range as an `array.array('q')`, read by one call: a copy, linear in the range. Raises BadRange, OutOfRange."""
         lo, hi = self._range(lo, hi)
         read = array("q", bytes(8 * self._room(lo, hi)))
         # an address is needed also where there is nothing to write
         room = read or array("q", [0])
-        did = _read(self._at, lo, hi, ctypes.byref(_address(room)), len(read))
-        if did.refusal:
-            raise _refuse(did.refusal, did.detail)
+        _accepted(_read(self._at, lo, hi, ctypes.byref(_address(room)), len(read)), lo, hi)
         return read
 
     def read_into(self, buffer: Union[WriteableBuffer, _NumpyArray], lo: int = 0, hi: Optional[int] = None) -> int:
-        """Fills the front of a buffer with the elements of a range, by one call, and gives how many they are.
+        """Fills the front of a buffer with the elements of a range, by one call, and gives how many they are. Linear in the range.
 
         The buffer has 64-bit numbers with a sign side by side, and may be written to: an `array.array('q')`, a numpy array of int64, a memoryview
         of either. Any other raises TypeError. Raises BadRange, OutOfRange, ShortBuffer.
@@ -88,10 +78,8 @@ class _Elements(_Handle, collections.abc.Sequence[int]):
         view = _as_room(buffer)
         lo, hi = self._range(lo, hi)
         # an address is needed also where there is nothing to write
-        did = _read(self._at, lo, hi, ctypes.byref(_address(view if len(view) else array("q", [0]))), len(view))
-        if did.refusal:
-            raise _refuse(did.refusal, did.detail)
-        return did.length
+        room: WriteableBuffer = view if len(view) else array("q", [0])
+        return _accepted(_read(self._at, lo, hi, ctypes.byref(_address(room)), len(view)), lo, hi).length
 
     def __iter__(self) -> Iterator[int]:
         """The elements in order. Raises RuntimeError where the vector is edited meanwhile."""
@@ -129,11 +117,17 @@ class _Elements(_Handle, collections.abc.Sequence[int]):
     # Within.
 
     def _index(self, index: int) -> int:
-        return _place(operator.index(index), self)
+        return _place(_whole(index, "the index"), self)
 
-    def _range(self, lo: int, hi: Optional[int]) -> tuple[int, int]:
-        return _ends(operator.index(lo), None if hi is None else operator.index(hi), self)
+    def _range(self, lo: Optional[int], hi: Optional[int]) -> tuple[int, int]:
+        return _ends(0 if lo is None else _whole(lo, "the start of the range"), None if hi is None else _whole(hi, "the end of the range"), self)
 
     def _room(self, lo: int, hi: int) -> int:
         """How long a buffer C is given: none where the range is refused, which C does before it looks at the length."""
         return hi - lo if lo <= hi <= len(self) else 0
+
+
+def _counted(told: _Count) -> int:
+    if told.refusal:
+        raise _refuse(told.refusal)
+    return told.value

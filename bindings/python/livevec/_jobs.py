@@ -41,7 +41,7 @@ class Job(_Handle):
     version: int
 
     def run(self) -> Outcome:
-        """Computes it. It can be run once: then it is Closed, as is one that no vector filled in."""
+        """Computes it, from eight elements or summaries: O(1). It can be run once: then it is Closed, as is one that no vector filled in."""
         if not hasattr(self, "node"):
             raise _refuse(Closed.number)
         outcome = Outcome(self.node, self.version)

@@ -2,7 +2,7 @@
 from __future__ import annotations
 
 import enum
-from typing import Union
+from typing import Literal, Union
 
 
 class Kind(enum.Enum):
@@ -16,11 +16,18 @@ class Kind(enum.Enum):
     AUTOMATON = 5
 
 
+# kinds as a type checker tells them apart, by what their values are: a number, a number or None, a map, states
+_Summed = Literal["sum", Kind.SUM]
+_Chosen = Literal["least", "greatest", "best", Kind.LEAST, Kind.GREATEST, Kind.BEST]
+_Mapped = Literal["affine", Kind.AFFINE]
+_Stated = Literal["automaton", Kind.AUTOMATON]
+_Value = Union[int, None, tuple[int, ...]]
+
 _KINDS = {it.name.lower(): it for it in Kind}
 
 
 def _kind_of(kind: Union[Kind, str]) -> Kind:
-    found = kind if isinstance(kind, Kind) else _KINDS.get(kind)
+    found = kind if isinstance(kind, Kind) else _KINDS.get(kind) if isinstance(kind, str) else None
     if found is None:
-        raise ValueError(f"{kind!r} is not a kind: these are {', '.join(_KINDS)}")
+        raise ValueError(f"{kind!r} is not a kind: a kind is a livevec.Kind, or one of these names: {', '.join(_KINDS)}")
     return found

@@ -12,7 +12,7 @@ from ._library import _call, _size, _u32
 from ._limits import _MOST_U32, MOST_QUERIES
 from ._refusals import Busy, _refuse
 from ._structures import _Reduced, _Slot, _Values
-from ._values import _value_of, _values_of
+from ._values import _value_of
 from ._vector import Vector
 
 _NAME_BYTES = 16
@@ -104,7 +104,7 @@ class Queries(_Handle):
     def watch(self, name: str, kind: Union[Kind, str], lo: int = 0, hi: Optional[int] = None) -> None:
         """Registers a query: what a kind, a `Kind` or its name, says of the elements from `lo` up to `hi`, or up to the end however far it is.
 
-        The range may reach past the end: what of it exists is asked. Raises BadName, BadRange, NameTaken, TooMany, NoMemory; ValueError of what
+        The range may reach past the end: what of it exists is asked. O(q) of q queries. Raises BadName, BadRange, NameTaken, TooMany, NoMemory; ValueError of what
         is no kind, and of an end below 0, since a query has no end to count from."""
         of = _kind_of(kind)
         start, end = _reach(lo), _MOST_U32 if hi is None else _reach(hi)
@@ -114,23 +114,24 @@ class Queries(_Handle):
         self._kinds[name] = of
 
     def unwatch(self, name: str) -> None:
-        """Forgets a query; the others keep their order, and what they were told. Raises BadName, NoSuchName."""
+        """Forgets a query; the others keep their order, and what they were told. O(q). Raises BadName, NoSuchName."""
         refusal = _unwatch(self._at, *_named(name))
         if refusal:
             raise _refuse(refusal)
         del self._kinds[name]
 
     def answer(self, vector: Vector, name: str) -> Answered:
-        """The answer of a query now, by a vector. Nothing counts as told by it.
+        """The answer of a query now, by a vector. Nothing counts as told by it. Costs what `Vector.value` does.
 
         Raises BadName, NoSuchName, and BadKind where the vector is of another kind."""
         did = _answer(self._at, _vector(vector)._at, *_named(name))
         if did.refusal:
             raise _refuse(did.refusal, did.detail)
-        return Answered(did.edit, _value_of(self._kinds[name], _values_of(did.values)))
+        return Answered(did.edit, _value_of(self._kinds[name], did.values))
 
     def notes(self, vector: Vector) -> list[Note]:
-        """A note of each query, in order, whose answer by a vector is another than it was told last. Each then counts as told its answer.
+        """A note of each query, in order, whose answer by a vector is another than it was told last. Each then counts as told its answer. Costs
+        what `Vector.value` does, for each query.
 
         Raises BadKind where the vector is of one kind and another is among the queries: nothing is told then, and its `detail` is which query it
         is, counted from 0."""
@@ -182,4 +183,4 @@ def _vector(vector: Vector) -> Vector:
 
 def _note_of(raw: _Note) -> Note:
     kind = Kind(raw.kind)
-    return Note(raw.name.decode(), kind, raw.edit, _value_of(kind, _values_of(raw.values)))
+    return Note(raw.name.decode(), kind, raw.edit, _value_of(kind, raw.values))

@@ -1,13 +1,14 @@
 """Indices and ranges as C takes them, one or many."""
 from __future__ import annotations
 
-import operator
+import sys
 from array import array
-from typing import Any, Iterable, Optional, Sequence, Sized
+from typing import Any, Iterable, Optional, Sized
 
-from ._buffers import _as_buffer, _is_masked
+from ._buffers import _as_buffer, _view_of
 from ._limits import _MOST_U32
-from ._refusals import BadRange, OutOfRange, _refuse
+from ._numbers import _whole
+from ._refusals import BadRange, OutOfRange, _refuse, _words_of
 
 
 def _place(index: int, holder: Sized) -> int:
@@ -26,43 +27,62 @@ def _ends(lo: int, hi: Optional[int], holder: Sized) -> tuple[int, int]:
     lo, hi = max(lo + size, 0) if lo < 0 else lo, hi + size * (hi < 0)
     # C can't be given what is before the start or above its numbers; which of the two is greater is kept
     if min(lo, hi) < 0 or max(lo, hi) > _MOST_U32:
-        raise _refuse(BadRange.number) if lo > hi else _refuse(OutOfRange.number, size)
+        number = BadRange.number if lo > hi else OutOfRange.number
+        raise _refuse(number, 0 if lo > hi else size, given=_words_of(number, (lo, hi)))
     return lo, hi
 
 
 def _as_places(indices: Iterable[int], holder: Sized) -> array[int]:
     """Indices as C wants them, side by side, where a negative one counts from the end. What C can't be given it is given as one that it refuses."""
-    buffer = _as_buffer(indices)
-    try:
-        return array("I", buffer.tolist())
-    except OverflowError:
-        return array("I", (_place(index, holder) for index in buffer.tolist()))
+    buffer = _as_buffer(indices, "indices")
+    quick = _low_words(buffer)
+    return array("I", (_place(index, holder) for index in buffer.tolist())) if quick is None else quick
 
 
-def _as_pairs(ranges: Iterable[Sequence[Optional[int]]], holder: Sized) -> array[int]:
+def _as_pairs(rows: list[Any], holder: Sized) -> array[int]:
     """The ends of ranges as C wants them, a start and then its end, as `_ends` has them. What C can't be given it is given as one that it refuses."""
-    rows = _as_rows(ranges)
     try:
         return array("I", [end for lo, hi in rows for end in (lo, hi)])
     except (OverflowError, TypeError):
         return array("I", [end for lo, hi in rows for end in _given(lo, hi, holder)])
 
 
-def _as_rows(ranges: Iterable[Sequence[Optional[int]]]) -> list[Any]:
+def _as_table(ranges: Any) -> Optional[memoryview]:
+    """Ranges as a buffer of two columns, where they come in one."""
+    view = _view_of(ranges, "ranges")
+    if view is not None and (view.ndim != 2 or view.shape is None or view.shape[1] != 2 or view.format.lstrip("@") not in tuple("bBhHiIlLqQ")):
+        raise ValueError(f"ranges are pairs of whole numbers: a buffer of them has two columns, in this machine's order, and this one's shape is "
+                         f"{view.shape}, its format {view.format!r}")
+    return view
+
+
+def _as_rows(ranges: Any) -> list[Any]:
     """Pairs, of a buffer of two columns or of anything else that can be gone through."""
-    if _is_masked(ranges):
-        raise TypeError("a masked array may lack ends: hand in its filled()")
+    if isinstance(ranges, memoryview):
+        return list(ranges.tolist())
+    return [_as_row(row, place) for place, row in enumerate(ranges)]
+
+
+def _as_row(row: Any, place: int) -> tuple[Any, ...]:
     try:
-        view = memoryview(ranges)  # type: ignore[arg-type]
+        pair = tuple(row)
     except TypeError:
-        rows: list[Any] = [tuple(row) for row in ranges]
-    else:
-        if view.ndim != 2 or view.shape is None or view.shape[1] != 2 or view.format.lstrip("@") not in tuple("bBhHiIlLqQ"):
-            raise ValueError("ranges are pairs of whole numbers: a buffer of them has two columns, in this machine's order")
-        rows = view.tolist()
-    if any(len(row) != 2 for row in rows):
-        raise ValueError("a range is a pair of its start and its end")
-    return rows
+        raise TypeError(f"ranges[{place}] is a pair of a start and an end, not {row!r}") from None
+    if len(pair) != 2:
+        raise ValueError(f"ranges[{place}] is a pair of a start and an end, not {row!r}")
+    return pair
+
+
+def _low_words(view: memoryview) -> Optional[array[int]]:
+    """Numbers of 64 or 32 bits as C wants the indices of a vector, unless one of 64 is below 0 or above 2**32; no Python number is made of any."""
+    if view.itemsize not in (4, 8) or not view.nbytes or sys.byteorder != "little":
+        return None
+    words: Any = memoryview(view.tobytes()).cast("I")
+    if view.itemsize == 8:
+        if any(words[1::2].tobytes()):
+            return None
+        words = words[0::2]
+    return array("I", words.tobytes())
 
 
 def _given(lo: Optional[int], hi: Optional[int], holder: Sized) -> tuple[int, int]:
@@ -70,7 +90,7 @@ def _given(lo: Optional[int], hi: Optional[int], holder: Sized) -> tuple[int, in
     if lo is None:
         lo = 0
     try:
-        return _ends(operator.index(lo), None if hi is None else operator.index(hi), holder)
+        return _ends(_whole(lo, "the start of a range"), None if hi is None else _whole(hi, "the end of a range"), holder)
     except BadRange:
         return 1, 0
     except OutOfRange:

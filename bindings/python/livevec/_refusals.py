@@ -1,7 +1,7 @@
 """Why the library refuses calls: an exception for each of its numbers."""
 from __future__ import annotations
 
-from typing import TYPE_CHECKING, Any
+from typing import TYPE_CHECKING, Any, Protocol, TypeVar
 
 if TYPE_CHECKING:
     from ._transcripts import Verdict
@@ -13,20 +13,25 @@ class Refusal(Exception):
     `number` is the number that the library's rules give it. `detail` is the size of an OutOfRange, the limit of a TooLarge, the wanted length
     of a ShortBuffer and the other edit of an Outrun, else 0.
     `pushed` is how many elements were taken by the `extend`, or written by the `write_many`, that was refused: none; or how many samples by the
-    `push_many`. `place` is which of many writes, pushes or questions was refused, counted from 0.
+    `push_many`. `place` is which of many writes, pushes or questions was refused, counted from 0. `given` names what of the call was wrong, as
+    "index 7" or "the range 5 to 3", where that is known.
     """
 
     number: int = 0
     says: str = "refused"
 
-    def __init__(self, detail: int = 0, pushed: int = 0, place: int = 0) -> None:
+    def __init__(self, detail: int = 0, pushed: int = 0, place: int = 0, given: str = "") -> None:
         self.detail = detail
         self.pushed = pushed
         self.place = place
-        super().__init__(self.says.format(detail=detail))
+        self.given = given
+        super().__init__(self._said(self.says.format(detail=detail)))
+
+    def _said(self, says: str) -> str:
+        return f"{self.given}: {says}" if self.given else says
 
     def __reduce__(self) -> tuple[Any, ...]:
-        return type(self), (self.detail, self.pushed, self.place)
+        return type(self), (self.detail, self.pushed, self.place, self.given)
 
 
 class Worn(Refusal, OverflowError):
@@ -221,14 +226,14 @@ class NotKept(Refusal, IndexError):
 
     number, says = 3, "out of range"
 
-    def __init__(self, first: int = 0, size: int = 0, place: int = 0) -> None:
-        super().__init__(place=place)
-        self.args = (f"out of range: kept are the indices from {first} up to {size}",)
+    def __init__(self, first: int = 0, size: int = 0, place: int = 0, given: str = "") -> None:
+        super().__init__(place=place, given=given)
+        self.args = (self._said(f"out of range: kept are the indices from {first} up to {size}"),)
         self.first = first
         self.size = size
 
     def __reduce__(self) -> tuple[Any, ...]:
-        return type(self), (self.first, self.size, self.place)
+        return type(self), (self.first, self.size, self.place, self.given)
 
 
 class Earlier(Refusal, ValueError):
@@ -250,7 +255,35 @@ _REFUSALS = {it.number: it for it in (Worn, Empty, OutOfRange, TooLarge, Full, N
                                       NameTaken, NoSuchName, TooMany, BadName, NotInOrder, NoFront, NotSaved)}
 
 
-def _refuse(number: int, detail: int = 0, pushed: int = 0, place: int = 0) -> Refusal:
-    made = _REFUSALS.get(number, Refusal)(detail, pushed, place)
+def _refuse(number: int, detail: int = 0, pushed: int = 0, place: int = 0, given: str = "") -> Refusal:
+    made = _REFUSALS.get(number, Refusal)(detail, pushed, place, given)
     made.number = number
     return made
+
+
+# which refusals are of an index or a range that was given
+_PLACED = (3, 7)
+
+
+def _words_of(number: int, given: tuple[int, ...]) -> str:
+    """What of a call was wrong, in words: an index, or the two ends of a range."""
+    if number not in _PLACED or not given:
+        return ""
+    return f"index {given[0]}" if len(given) == 1 else f"the range {given[0]} to {given[1]}"
+
+
+class _Answer(Protocol):
+    """What tells whether a call was refused, and a size or a limit."""
+
+    refusal: int
+    detail: int
+
+
+_Told = TypeVar("_Told", bound=_Answer)
+
+
+def _accepted(told: _Told, *given: int) -> _Told:
+    """An answer that was not refused; else raises, and names the index or the range that was given."""
+    if told.refusal:
+        raise _refuse(told.refusal, told.detail, given=_words_of(told.refusal, given))
+    return told

@@ -10,7 +10,7 @@ from ._buffers import _address, _as_column
 from ._calls import _columns_exclusive, _columns_inclusive, _scan_exclusive, _scan_inclusive
 from ._elements import _Elements
 from ._kinds import Kind, _kind_of
-from ._refusals import _refuse
+from ._refusals import _accepted
 from ._structures import _Scanned, _Values
 from ._values import Values, _values_of
 
@@ -71,18 +71,18 @@ class _Scans(_Elements):
     __slots__ = ()
 
     def scan_inclusive(self, lo: int = 0, hi: Optional[int] = None) -> Scan:
-        """The values of each beginning of a range, the element itself included. Raises BadRange, OutOfRange, MemoryError."""
+        """The values of each beginning of a range, the element itself included. Linear. Raises BadRange, OutOfRange, MemoryError."""
         return self._scan(_scan_inclusive, lo, hi)
 
     def scan_exclusive(self, lo: int = 0, hi: Optional[int] = None) -> Scan:
-        """The values of each beginning of a range, the element itself excluded. Raises BadRange, OutOfRange, MemoryError."""
+        """The values of each beginning of a range, the element itself excluded. Linear. Raises BadRange, OutOfRange, MemoryError."""
         return self._scan(_scan_exclusive, lo, hi)
 
     def scan_inclusive_by(self, kind: Union[Kind, str], lo: int = 0, hi: Optional[int] = None) -> Column:
         """The running values of a range by one kind, the element itself included, as one column.
 
-        One call of C goes over the elements once, and keeps nothing. Other threads run meanwhile; beside a call of theirs at this vector, the
-        second of the two raises Busy. Raises BadRange, OutOfRange, MemoryError; ValueError of what is no kind."""
+        One call of C goes over the elements once, so it is linear, and keeps nothing. Other threads run meanwhile; of it and an edit of theirs at this
+        vector, the second raises Busy. Raises BadRange, OutOfRange, MemoryError; ValueError of what is no kind."""
         return self._column(_columns_inclusive, _kind_of(kind), lo, hi)
 
     def scan_exclusive_by(self, kind: Union[Kind, str], lo: int = 0, hi: Optional[int] = None) -> Column:
@@ -107,9 +107,7 @@ class _Scans(_Elements):
         lo, hi = self._range(lo, hi)
         length = self._room(lo, hi)
         room = bytearray(max(length, 1) * ctypes.sizeof(_Values))
-        did = call(self._at, lo, hi, ctypes.byref(_address(room)), length)
-        if did.refusal:
-            raise _refuse(did.refusal, did.detail)
+        did = _accepted(call(self._at, lo, hi, ctypes.byref(_address(room)), length), lo, hi)
         return Scan(did.edit, room, did.length)
 
     def _column(self, calls: dict[str, Callable[..., _Scanned]], kind: Kind, lo: int, hi: Optional[int]) -> Column:
@@ -118,9 +116,7 @@ class _Scans(_Elements):
         of, count = _CELLS[kind]
         width = count * struct.calcsize(of)
         room = bytearray(max(length, 1) * width)
-        did = calls[kind.name.lower()](self._at, lo, hi, ctypes.byref(_address(room)), length)
-        if did.refusal:
-            raise _refuse(did.refusal, did.detail)
+        did = _accepted(calls[kind.name.lower()](self._at, lo, hi, ctypes.byref(_address(room)), length), lo, hi)
         cells = memoryview(room)[: did.length * width]
         # no view of several dimensions has none of its rows
         return Column(did.edit, cells.cast(of) if count == 1 or not cells else cells.cast(of, [did.length, count]))
@@ -131,7 +127,5 @@ class _Scans(_Elements):
         lo, hi = self._range(lo, hi)
         length = view.nbytes // (count * struct.calcsize(of))
         # an address is needed also where there is nothing to write
-        did = calls[kind.name.lower()](self._at, lo, hi, ctypes.byref(_address(view if length else bytearray(16))), length)
-        if did.refusal:
-            raise _refuse(did.refusal, did.detail)
-        return did.length
+        room: WriteableBuffer = view if length else bytearray(16)
+        return _accepted(calls[kind.name.lower()](self._at, lo, hi, ctypes.byref(_address(room)), length), lo, hi).length

@@ -33,6 +33,9 @@ class Series(_ByIndex):
     without `hi`; where no `lo` is given they start at `first`, and where no `hi` is given they go up to `size`. No index counts from the end. An answer
     equals the plain left fold of the range after the last edit, by all six kinds.
 
+    Two series are equal where their elements are, whatever their indices and edits, so that a series has no hash. A copy, also one by `copy` or by
+    `pickle`, has the same elements under the same indices, and goes on at the same edit.
+
     `elements` are pushed at the start; `save` gives it as bytes, of which `Series.load` makes one again. Raises NoMemory. The memory is given back by
     `close`, at the end of a `with`, or with the object. Threads are as with a `Vector`; scans, `save` and `load` release the interpreter's lock.
     """
@@ -51,7 +54,8 @@ class Series(_ByIndex):
     # Edits.
 
     def push(self, value: int) -> int:
-        """Puts an element at the end, and gives its index. Raises Worn, Full, NoMemory; OverflowError where it does not fit 64 bits."""
+        """Puts an element at the end, and gives its index. O(1) amortised, and as much again for each tree. Raises Worn, Full, NoMemory; OverflowError
+        where it does not fit 64 bits."""
         return self._edited(_push(self._at, _as_i64(value))).place
 
     def append(self, value: int) -> None:
@@ -60,6 +64,7 @@ class Series(_ByIndex):
 
     def extend(self, values: Iterable[int]) -> None:
         """Pushes each element in order, all of them or none, by one call of C. What is given, and how it is read, is as `Vector.extend` says.
+        Linear in how many they are.
 
         Raises Worn or Full as the first push that would be refused, then NoMemory: nothing has changed then, so that its `pushed` is 0.
         """
@@ -75,21 +80,27 @@ class Series(_ByIndex):
         return self
 
     def write_many(self, indices: Iterable[int], values: Iterable[int]) -> None:
-        """Writes each value under the index of the same place, in order, by one call of C. Each is an edit of its own. An index may come twice: the
-        later value stays. Values are taken as `extend` takes elements.
+        """Writes each value under the index of the same place, in order, by one call of C. Each is an edit of its own, and costs what `write` does. An
+        index may come twice: the later value stays. Values are taken as `extend` takes elements.
 
         All writes are made, or none. Raises Worn or NotKept where one is refused: its `place` says which. Raises ValueError unless there are as
         many values as indices.
         """
-        places, elements = self._indices(indices), _as_buffer(values)
-        length = len(places)
+        # of an index below 0 C makes one that is never kept; a copy, for C looks at them twice while other threads run
+        places, elements = bytearray(_as_buffer(indices, "indices")), _as_buffer(values, "values")
+        length = len(places) // 8
         if length != len(elements):
             raise ValueError(f"there are {length} indices and {len(elements)} values")
         rows: tuple[WriteableBuffer, WriteableBuffer] = places, elements
         did = _write_many(self._at, *(ctypes.byref(_address(row)) if length else None for row in rows), length)
         self._changes += did.done
-        _all_kept(did)
+        _all_kept(did, "indices")
 
     def swap(self, first: int, second: int) -> int:
-        """Exchanges the elements under two indices, and gives the one under the first now. Raises Worn, NotKept."""
+        """Exchanges the elements under two indices, and gives the one under the first now. O(log n). Raises Worn, NotKept."""
         return self._edited(_swap(self._at, self._index(first), self._index(second))).value
+
+    def __eq__(self, other: object) -> bool:
+        if not isinstance(other, Series):
+            return NotImplemented
+        return len(self) == len(other) and self.to_array() == other.to_array()

@@ -5,7 +5,7 @@ import ctypes
 from typing import Protocol, TypeVar
 
 from ._library import _call, _i64, _pointer, _released, _size, _u32
-from ._refusals import NotKept, _refuse
+from ._refusals import NotKept, _refuse, _words_of
 from ._structures import _Slot, _Values
 
 _u64 = ctypes.c_uint64
@@ -96,12 +96,12 @@ class _Answer(Protocol):
 _Told = TypeVar("_Told", bound=_Answer)
 
 
-def _kept(told: _Told) -> _Told:
-    """An answer that was not refused."""
+def _kept(told: _Told, *given: int) -> _Told:
+    """An answer that was not refused; else raises, and names the index or the range that was given."""
     if told.refusal == NotKept.number:
-        raise NotKept(told.first, told.size)
+        raise NotKept(told.first, told.size, given=_words_of(NotKept.number, given))
     if told.refusal:
-        raise _refuse(told.refusal)
+        raise _refuse(told.refusal, given=_words_of(told.refusal, given))
     return told
 
 

@@ -1,19 +1,19 @@
-"""What a series is asked by one kind: the value of a range, or of many, and running values in columns."""
+"""What a series is asked by one kind, by the calls of C at series, and running values in columns."""
 from __future__ import annotations
 
 import ctypes
 import struct
-from typing import TYPE_CHECKING, Any, Callable, Iterable, Optional, Sequence, Union
+from typing import TYPE_CHECKING, Any, Callable, Optional, Union
 
 from ._buffers import _address, _as_column
+from ._by_kind import _addressed, _ManyByKind
 from ._kinds import Kind, _kind_of
 from ._library import _call, _pointer, _released, _size, _u32
-from ._refusals import NotKept, _refuse
+from ._refusals import _PLACED, NotKept, _refuse
 from ._scans import _CELLS, Column
 from ._series_calls import _kept, _SeriesReduced, _SeriesScanned, _slot, _u64
 from ._series_ranges import _SeriesRanges
 from ._structures import _Values
-from ._values import Values, _value_of, _values_in, _values_of
 
 if TYPE_CHECKING:
     from _typeshed import WriteableBuffer
@@ -40,49 +40,27 @@ _columns_inclusive, _columns_exclusive = (
      for name in ("sum", "least", "greatest", "best", "affine", "automaton")} for way in ("inclusive", "exclusive"))
 
 
-def _all_kept(told: _SeriesMany) -> None:
+def _all_kept(told: _SeriesMany, what: str) -> None:
     """That none of many writes or questions was refused."""
+    given = f"{what}[{told.place}]" if told.refusal in _PLACED else ""
     if told.refusal == NotKept.number:
-        raise NotKept(told.first, told.size, told.place)
+        raise NotKept(told.first, told.size, told.place, given)
     if told.refusal:
-        raise _refuse(told.refusal, 0, 0, told.place)
+        raise _refuse(told.refusal, 0, 0, told.place, given)
 
 
-class _SeriesKinds(_SeriesRanges):
+class _SeriesKinds(_SeriesRanges, _ManyByKind):
     """The part of `Series` and `Samples` that answers by one kind, by that kind's tree."""
 
     __slots__ = ()
+    _index_code = "Q"
 
     def prepare(self, kind: Union[Kind, str]) -> None:
-        """Makes the tree of a kind, a `Kind` or its name, where there is none: from then on a value by that kind takes O(log n) joins, and each
-        edit renews the tree. Raises NoMemory; ValueError of what is no kind."""
+        """Makes the tree of a kind, a `Kind` or its name, where there is none, in O(n): from then on a value by that kind takes O(log n) joins, and
+        each edit renews the tree. Raises NoMemory; ValueError of what is no kind."""
         refusal = _prepare(self._at, _kind_of(kind).value)
         if refusal:
             raise _refuse(refusal)
-
-    def value(self, kind: Union[Kind, str], lo: Optional[int] = None, hi: Optional[int] = None) -> Union[int, None, tuple[int, ...]]:
-        """The value of a range by one kind, a `Kind` or its name, as `Values` has it. The kind's tree is made first, where there is none.
-
-        Raises BadRange, then NotKept, then NoMemory; ValueError of what is no kind."""
-        of = _kind_of(kind)
-        return _value_of(of, self._by_kind(of, lo, hi))
-
-    def _by_kind(self, kind: Kind, lo: Optional[int], hi: Optional[int]) -> Values:
-        return _values_of(_kept(_value(self._at, kind.value, *self._range(lo, hi))).values)
-
-    def value_many(self, kind: Union[Kind, str], ranges: Iterable[Sequence[Optional[int]]]) -> list[Union[int, None, tuple[int, ...]]]:
-        """The value of each range by one kind, by one call of C, all after the last edit. Ranges come as `Vector.value_many` takes them; where an
-        end is None it is that of what is kept. Other threads run meanwhile.
-
-        Raises BadRange or NotKept where one is refused: its `place` says which is the first. Raises NoMemory; ValueError of what is no kind or no
-        pair.
-        """
-        of, pairs = _kind_of(kind), self._pairs(ranges)
-        length = len(pairs) // 2
-        room = bytearray(max(length, 1) * ctypes.sizeof(_Values))
-        did = _value_many(self._at, of.value, ctypes.byref(_address(pairs)) if length else None, ctypes.byref(_address(room)), length)
-        _all_kept(did)
-        return _values_in(room, of)[:length]
 
     def scan_inclusive_by(
         self, kind: Union[Kind, str], lo: Optional[int] = None, hi: Optional[int] = None, *, at: Optional[int] = None, most: Optional[int] = None,
@@ -116,6 +94,24 @@ class _SeriesKinds(_SeriesRanges):
 
     # Within.
 
+    def _start(self) -> int:
+        return self.first
+
+    def _valued(self, kind: Kind, lo: Optional[int], hi: Optional[int]) -> _Values:
+        start, end = self._range(lo, hi)
+        return _kept(_value(self._at, kind.value, start, end), start, end).values
+
+    def _quick(self, view: memoryview) -> Optional[bytearray]:
+        # a copy, for C looks at them twice while other threads run, which may write to what the caller has
+        return bytearray(view.tobytes()) if view.itemsize == 8 and view.nbytes else None
+
+    def _asked_many(self, kind: Kind, pairs: WriteableBuffer, answers: bytearray, length: int, is_last: bool) -> Optional[int]:
+        did = _value_many(self._at, kind.value, _addressed(pairs, length), ctypes.byref(_address(answers)), length)
+        if did.refusal and not is_last and did.refusal in _PLACED:
+            return None
+        _all_kept(did, "ranges")
+        return did.edit
+
     def _column(
         self, calls: dict[str, Callable[..., _SeriesScanned]], kind: Kind, lo: Optional[int], hi: Optional[int], at: Optional[int], most: Optional[int],
     ) -> Column:
@@ -123,7 +119,7 @@ class _SeriesKinds(_SeriesRanges):
         of, count = _CELLS[kind]
         width = count * struct.calcsize(of)
         room = bytearray(max(length, 1) * width)
-        did = _kept(calls[kind.name.lower()](self._at, lo, at, hi, ctypes.byref(_address(room)), length))
+        did = _kept(calls[kind.name.lower()](self._at, lo, at, hi, ctypes.byref(_address(room)), length), lo, hi)
         cells = memoryview(room)[: did.length * width]
         # no view of several dimensions has none of its rows
         return Column(did.edit, cells.cast(of) if count == 1 or not cells else cells.cast(of, [did.length, count]))
@@ -136,4 +132,5 @@ class _SeriesKinds(_SeriesRanges):
         lo, at, hi, _ = self._piece(lo, hi, at, None)
         length = view.nbytes // (count * struct.calcsize(of))
         # an address is needed also where there is nothing to write
-        return _kept(calls[kind.name.lower()](self._at, lo, at, hi, ctypes.byref(_address(view if length else bytearray(16))), length)).length
+        room: WriteableBuffer = view if length else bytearray(16)
+        return _kept(calls[kind.name.lower()](self._at, lo, at, hi, ctypes.byref(_address(room)), length), lo, hi).length

@@ -38,20 +38,21 @@ _where_last_at_most = _call("livevec_series_where_last_at_most", _SeriesFound, _
 
 
 class _SeriesPlaces(_SeriesKinds):
-    """The part of `Series` and `Samples` that tells where something stands. A search makes the tree of its kind first, where there is none."""
+    """The part of `Series` and `Samples` that tells where something is. A search costs what `value` does: O(log n), by the tree of its kind, which is
+    made first, in O(n), where there is none."""
 
     __slots__ = ()
 
     def where_least(self, lo: Optional[int] = None, hi: Optional[int] = None) -> Optional[Placed]:
-        """The first of the least elements, and where it stands; None of an empty range. Raises BadRange, NotKept, NoMemory."""
+        """The first of the least elements, and where it is; None of an empty range. O(log n). Raises BadRange, NotKept, NoMemory."""
         return self._placed(_where_least, lo, hi)
 
     def where_greatest(self, lo: Optional[int] = None, hi: Optional[int] = None) -> Optional[Placed]:
-        """The first of the greatest elements, and where it stands; None of an empty range. Raises BadRange, NotKept, NoMemory."""
+        """The first of the greatest elements, and where it is; None of an empty range. O(log n). Raises BadRange, NotKept, NoMemory."""
         return self._placed(_where_greatest, lo, hi)
 
     def where_best(self, lo: Optional[int] = None, hi: Optional[int] = None) -> Optional[BestRun]:
-        """Where the best run stands: of several the one that ends first, and of those the shortest; None of an empty range. Raises BadRange,
+        """Where the best run is: of several the one that ends first, and of those the shortest; None of an empty range. O(log n). Raises BadRange,
         NotKept, NoMemory."""
         found = self._found(_where_best, *self._range(lo, hi))
         return BestRun(found.lo, found.hi, (found.sum_high << 64) + found.sum_low) if found else None
@@ -59,7 +60,7 @@ class _SeriesPlaces(_SeriesKinds):
     def where_reaches(self, sum: int, lo: Optional[int] = None, hi: Optional[int] = None) -> Optional[int]:
         """The least end, from `lo` to `hi`, up to which the elements from `lo` on add up to `sum` or more; None where at no end they do.
 
-        Elements may be negative, and no sum wraps. It asks the kind of best runs. Raises BadRange, NotKept, NoMemory; OverflowError of a sum that
+        Elements may be negative, and no sum wraps. O(log n), by the kind of best runs. Raises BadRange, NotKept, NoMemory; OverflowError of a sum that
         doesn't fit 64 bits."""
         found = self._found(_where_reaches, *self._range(lo, hi), _as_i64(sum, "the sum"))
         return found.hi if found else None
@@ -70,7 +71,7 @@ class _SeriesPlaces(_SeriesKinds):
         return self._index_of(_where_reaches_back, sum, lo, hi)
 
     def where_first_at_least(self, bound: int, lo: Optional[int] = None, hi: Optional[int] = None) -> Optional[int]:
-        """The index of the first element of a range that is at least `bound`; None where no element is. It asks the kind of the greatest. Raises
+        """The index of the first element of a range that is at least `bound`; None where no element is. O(log n), by the kind of the greatest. Raises
         BadRange, NotKept, NoMemory; OverflowError of a bound that doesn't fit 64 bits."""
         return self._index_of(_where_first_at_least, bound, lo, hi)
 

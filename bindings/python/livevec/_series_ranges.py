@@ -1,15 +1,13 @@
 """Which indices of a series are kept, and its ranges as C takes them, one or many."""
 from __future__ import annotations
 
-import operator
 from array import array
-from typing import Iterable, Optional, Sequence
+from typing import Any, Optional
 
-from ._buffers import _as_buffer
 from ._handle import _Handle
 from ._limits import _MOST_U64
-from ._ranges import _as_rows
-from ._refusals import BadRange, NotKept
+from ._numbers import _whole
+from ._refusals import BadRange, NotKept, _words_of
 from ._series_calls import _count_size, _counted, _first
 
 
@@ -20,35 +18,28 @@ class _SeriesRanges(_Handle):
 
     @property
     def first(self) -> int:
-        """The index of the first element that is kept; where none is, that of the next that is pushed."""
+        """The index of the first element that is kept; where none is, that of the next that is pushed. O(1)."""
         return _counted(_first(self._at))
 
     @property
     def size(self) -> int:
-        """The index behind the last element."""
+        """The index behind the last element. O(1)."""
         return _counted(_count_size(self._at))
 
     # Within.
 
     def _index(self, index: int) -> int:
         """An index as C is given it: what no index is, as a negative one, is given as one that is never kept."""
-        index = operator.index(index)
+        index = _whole(index, "the index")
         return index if 0 <= index <= _MOST_U64 else _MOST_U64
 
-    def _indices(self, indices: Iterable[int]) -> array[int]:
-        """Indices as C wants them, side by side. What C can't be given it is given as one that it refuses."""
-        given = _as_buffer(indices).tolist()
-        try:
-            return array("Q", given)
-        except OverflowError:
-            return array("Q", [self._index(index) for index in given])
-
     def _range(self, lo: Optional[int], hi: Optional[int]) -> tuple[int, int]:
-        start, end = self.first if lo is None else operator.index(lo), self.size if hi is None else operator.index(hi)
+        start = self.first if lo is None else _whole(lo, "the start of the range")
+        end = self.size if hi is None else _whole(hi, "the end of the range")
         if end < start:
-            raise BadRange()
+            raise BadRange(given=_words_of(BadRange.number, (start, end)))
         if start < 0 or end > _MOST_U64:
-            raise NotKept(self.first, self.size)
+            raise NotKept(self.first, self.size, given=_words_of(NotKept.number, (start, end)))
         return start, end
 
     def _room(self, lo: int, hi: int) -> int:
@@ -58,15 +49,14 @@ class _SeriesRanges(_Handle):
     def _piece(self, lo: Optional[int], hi: Optional[int], at: Optional[int], most: Optional[int]) -> tuple[int, int, int, int]:
         """A piece of a scan as C wants it: its range's start, where it goes on, the range's end; and how many values it has."""
         lo, hi = self._range(lo, hi)
-        at = lo if at is None else operator.index(at)
+        at = lo if at is None else _whole(at, "at")
         if not lo <= at <= hi:
-            raise BadRange()
+            raise BadRange(given=f"at {at} of the range {lo} to {hi}")
         length = self._room(lo, hi) and hi - at
-        return lo, at, hi, length if most is None else min(length, max(operator.index(most), 0))
+        return lo, at, hi, length if most is None else min(length, max(_whole(most, "most"), 0))
 
-    def _pairs(self, ranges: Iterable[Sequence[Optional[int]]]) -> array[int]:
+    def _pairs(self, rows: list[Any]) -> array[int]:
         """The ends of ranges as C wants them, a start and then its end. What C can't be given it is given as one that it refuses."""
-        rows = _as_rows(ranges)
         try:
             return array("Q", [end for lo, hi in rows for end in (lo, hi)])
         except (OverflowError, TypeError):

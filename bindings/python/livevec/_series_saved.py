@@ -36,11 +36,11 @@ class _SeriesSaved(_SeriesPlaces):
 
     @property
     def saved_length(self) -> int:
-        """How many bytes it is saved as: 88, and 8 for each element, 16 for each sample."""
+        """How many bytes it is saved as: 88, and 8 for each element, 16 for each sample. O(1)."""
         return _counted(_saved_length(self._at))
 
     def save(self) -> bytes:
-        """It as bytes, which `load` takes. Trees aren't saved. The layout is told in docs/formats.md of livevec's repository. Other threads run
+        """It as bytes, which `load` takes. Linear. Trees aren't saved. The layout is told in docs/formats.md of livevec's repository. Other threads run
         meanwhile. Raises MemoryError."""
         saved = bytearray(self.saved_length)
         self.save_into(saved)
@@ -58,7 +58,7 @@ class _SeriesSaved(_SeriesPlaces):
 
     @classmethod
     def load(cls: type[_Whole], saved: ReadableBuffer) -> _Whole:
-        """What has these bytes: the same elements under the same indices, and the next edit has the next number. Raises NotSaved where they are
+        """What has these bytes: the same elements under the same indices, and the next edit has the next number. Linear. Raises NotSaved where they are
         not exactly those that `save` gives, and NoMemory."""
         return cls.load_pieces((saved,))
 

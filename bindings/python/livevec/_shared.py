@@ -7,18 +7,20 @@ import threading
 import weakref
 from typing import Any, Callable, Iterator, Optional, TypeVar, Union
 
+from ._by_kind import _ByKind
 from ._calls import _slot
-from ._kinds import Kind, _kind_of
+from ._kinds import Kind
 from ._library import _call, _released, _u32
+from ._numbers import _whole
 from ._queries import Queries, _vector
 from ._ranges import _ends
-from ._refusals import Busy, Closed, NoMemory, _refuse
+from ._refusals import Busy, Closed, NoMemory, _accepted, _refuse
 from ._shared_edits import _SharedEdits
 from ._shared_state import _Seat, _State
 from ._shared_workers import _work
-from ._structures import _Reduced
+from ._structures import _Reduced, _Values
 from ._subscribers import Subscriber
-from ._values import Reduced, _value_of, _values_of
+from ._values import Reduced, _values_of
 from ._vector import Vector
 
 # Calls that release the interpreter's lock: the lock of the shared vector keeps them apart.
@@ -28,7 +30,7 @@ _value = _call("livevec_value", _Reduced, _slot, _u32, _u32, _u32, by=_released)
 _Result = TypeVar("_Result")
 
 
-class SharedVector(_SharedEdits):
+class SharedVector(_ByKind, _SharedEdits):
     """A `Vector` that threads share, by a lock.
 
         >>> from livevec import Queries, SharedVector, Vector
@@ -44,7 +46,8 @@ class SharedVector(_SharedEdits):
         Receipt(edit=3, told=2)
         40
 
-    Edits and questions are those of a `Vector`, each under the lock for one call; an edit gives a `Receipt`. `locked` takes the lock for several.
+    Edits and questions are those of a `Vector`, each under the lock for one call: they cost what those do, with the wait for the lock. An edit gives a
+    `Receipt`. `locked` takes the lock for several.
     `start_workers` starts threads that compute summaries beside them, without the lock, and a `Subscriber` sleeps until an edit changes what it
     asks. Calls into C that take long release the interpreter's lock.
 
@@ -84,32 +87,12 @@ class SharedVector(_SharedEdits):
         """The elements from the last one on, all after one edit: they are copied once, under the lock."""
         return reversed(self._read(lambda vector: vector.to_array()))
 
-    def sum(self, lo: int = 0, hi: Optional[int] = None) -> int:
-        """As `Vector.sum`."""
-        total = self.value(Kind.SUM, lo, hi)
-        assert isinstance(total, int)
-        return total
-
-    def least(self, lo: int = 0, hi: Optional[int] = None) -> Optional[int]:
-        """As `Vector.least`."""
-        return _one(self.value(Kind.LEAST, lo, hi))
-
-    def greatest(self, lo: int = 0, hi: Optional[int] = None) -> Optional[int]:
-        """As `Vector.greatest`."""
-        return _one(self.value(Kind.GREATEST, lo, hi))
-
-    def best(self, lo: int = 0, hi: Optional[int] = None) -> Optional[int]:
-        """As `Vector.best`."""
-        return _one(self.value(Kind.BEST, lo, hi))
-
-    def value(self, kind: Union[Kind, str], lo: int = 0, hi: Optional[int] = None) -> Union[int, None, tuple[int, ...]]:
-        """As `Vector.value`."""
-        of = _kind_of(kind)
-        did = self._asked(_value, lo, hi, of.value)
-        return _value_of(of, _values_of(did.values))
+    def total(self, lo: Optional[int] = None, hi: Optional[int] = None) -> int:
+        """As `Vector.total`: the exact sum, after one edit."""
+        return self._read(lambda vector: vector.total(lo, hi))
 
     def reduce(self, lo: int = 0, hi: Optional[int] = None) -> Reduced:
-        """As `Vector.reduce`, which tells after which edit the values are so."""
+        """As `Vector.reduce`, which tells after which edit the values are so. Linear in what no worker or question computed before."""
         did = self._asked(_reduce, lo, hi)
         return Reduced(did.edit, did.cells, did.summaries, _values_of(did.values))
 
@@ -212,20 +195,17 @@ class SharedVector(_SharedEdits):
 
     # Within.
 
+    def _valued(self, kind: Kind, lo: Optional[int], hi: Optional[int]) -> _Values:
+        return self._asked(_value, 0 if lo is None else lo, hi, kind.value).values
+
     def _asked(self, call: Callable[..., _Reduced], lo: int, hi: Optional[int], *first: int) -> _Reduced:
-        lo, hi = operator.index(lo), None if hi is None else operator.index(hi)
-        did = self._read(lambda vector: call(vector._at, *first, *_ends(lo, hi, vector)))
-        if did.refusal:
-            raise _refuse(did.refusal, did.detail)
-        return did
+        did: _Reduced
+        start, end = _whole(lo, "the start of the range"), None if hi is None else _whole(hi, "the end of the range")
+        ends, did = self._read(lambda vector: (ends := _ends(start, end, vector), call(vector._at, *first, *ends)))
+        return _accepted(did, *ends)
 
     def _read(self, call: Callable[[Vector], _Result]) -> _Result:
         state = self._state
         state.check()
         with state.lock:
             return call(state.open())
-
-
-def _one(value: Union[int, None, tuple[int, ...]]) -> Optional[int]:
-    assert not isinstance(value, tuple)
-    return value

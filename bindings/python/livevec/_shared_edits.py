@@ -8,9 +8,9 @@ from typing import Callable, Iterable, NamedTuple, Union
 from ._buffers import _address, _as_buffer
 from ._calls import _slot
 from ._library import _call, _i64, _pointer, _released, _size, _u32
-from ._numbers import _as_i64, _as_u32
+from ._numbers import _as_i64, _as_u32, _whole
 from ._ranges import _as_places, _place
-from ._refusals import _refuse
+from ._refusals import _accepted, _refuse
 from ._shared_state import _State
 from ._structures import _Edited, _Many, _Pushed
 from ._vector import Vector
@@ -51,7 +51,7 @@ class _SharedEdits:
 
     def write(self, index: int, value: int) -> Receipt:
         """As `Vector.write`; the receipt has the element before."""
-        did = self._edited(_write, _as_i64(value), places=(operator.index(index),))
+        did = self._edited(_write, _as_i64(value), places=(_whole(index, "the index"),))
         return Receipt(did.edit, did.value)
 
     def __setitem__(self, index: int, value: int) -> None:
@@ -111,9 +111,7 @@ class _SharedEdits:
             if not did.refusal:
                 vector._changes += 1
                 state.changed()
-        if did.refusal:
-            raise _refuse(did.refusal, did.detail)
-        return did
+        return _accepted(did, *(places if len(places) == 1 else ()))
 
     def _many(self, call: Callable[[Vector], tuple[Union[_Pushed, _Many], int]]) -> int:
         """Many edits by one call, which tells how many were made."""

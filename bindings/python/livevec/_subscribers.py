@@ -27,7 +27,8 @@ class Subscriber:
         self._rested = 0.0
 
     def look(self) -> list[Note]:
-        """The notes that there are now; none where nothing has changed. It neither sleeps nor pauses."""
+        """The notes that there are now; none where nothing has changed. It neither sleeps nor pauses. Costs what `Queries.notes`
+        does, under the lock."""
         self._state.check()
         with self._state.lock:
             return self._looked()

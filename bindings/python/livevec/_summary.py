@@ -14,6 +14,10 @@ from ._structures import _Opened, _Summarised
 from ._values import Values, _values_of
 
 
+# where the total lies among a summary's bytes, as docs/engines.md has their layout
+_TOTAL = slice(56, 72)
+
+
 class Summary:
     """What a list of elements comes to by each of the six kinds, as plain bytes that travel: between threads, processes and machines.
 
@@ -43,7 +47,7 @@ class Summary:
 
     @classmethod
     def from_bytes(cls, sent: Union[bytes, bytearray, memoryview]) -> Summary:
-        """The summary of such bytes, from wherever they come. Raises OtherVersion, also where they are not SUMMARY_BYTES many, then Damaged."""
+        """The summary of such bytes, from wherever they come. O(1). Raises OtherVersion, also where they are not SUMMARY_BYTES many, then Damaged."""
         made = cls.__new__(cls)
         made._bytes = memoryview(sent).tobytes()
         if len(made._bytes) != SUMMARY_BYTES:
@@ -58,21 +62,27 @@ class Summary:
         return made
 
     def join(self, right: Summary) -> Summary:
-        """The summary of these elements, and then those of `right`. Its edit is not told. Raises OtherTable, then TooLong."""
+        """The summary of these elements, and then those of `right`. Its edit is not told. O(1). Raises OtherTable, then TooLong."""
         if not isinstance(right, Summary):
             raise TypeError(f"a Summary is wanted, not a {type(right).__name__}")
         return Summary._of(_summary_join(self._bytes, right._bytes))
 
     def extended(self, elements: Iterable[int]) -> Summary:
-        """The summary of these elements, and then others, which `Vector.extend` would take. Its edit is not told. Raises TooLong."""
+        """The summary of these elements, and then others, which `Vector.extend` would take. Its edit is not told. Linear in the others. Raises
+        TooLong."""
         made = Summary.__new__(Summary)
         made._bytes = _extended(self._bytes, elements)
         return made
 
     @property
     def values(self) -> Values:
-        """The values of the elements."""
+        """The values of the elements. O(1)."""
         return _values_of(self._opened().values)
+
+    @property
+    def total(self) -> int:
+        """The sum of the elements, exact however large it is: it never wraps, as `values.sum` may. O(1)."""
+        return int.from_bytes(self._bytes[_TOTAL], "little", signed=True)
 
     @property
     def count(self) -> int:

@@ -108,7 +108,7 @@ _PIECE = 4096
 
 
 def journal(vector: Vector, start: int = 0) -> list[JournalEdit]:
-    """The accepted edits of a vector behind the first `start`, in order: all of them from 0 on."""
+    """The accepted edits of a vector behind the first `start`, in order: all of them from 0 on. Linear."""
     at, found = _as_u32(start, "start"), []
     piece = (_Edit * _PIECE)()
     while True:
@@ -122,7 +122,7 @@ def journal(vector: Vector, start: int = 0) -> list[JournalEdit]:
 
 
 def transcript(vector: Vector, answers: Iterable[Recorded] = ()) -> str:
-    """The transcript of all edits of a vector and of answers, which rise by their edits.
+    """The transcript of all edits of a vector and of answers, which rise by their edits. Linear in both.
 
     It is sound where each answer is true, which is for `audit` to say. Raises NotInOrder and NoMemory; ValueError of what is no kind."""
     rows = [_recorded(*it) for it in answers]
@@ -166,6 +166,7 @@ def _verdict(told: _Audited) -> Verdict:
 
 def audit(text: Union[str, bytes, bytearray, memoryview]) -> Verdict:
     """What an audit says of a transcript: each edit is made anew, and each answer computed plainly, by the automaton of a new vector.
+    Linear in the text, and each answer in its range.
 
     Raises TooLong of more than 2**30 bytes, and NoMemory."""
     whole = _as_bytes(text)

@@ -2,9 +2,9 @@
 from __future__ import annotations
 
 import ctypes
-from typing import Any, NamedTuple, Optional, Union
+from typing import Any, NamedTuple, Optional
 
-from ._kinds import Kind
+from ._kinds import Kind, _Value
 from ._structures import _Values
 
 
@@ -60,17 +60,31 @@ def _values_of(raw: _Values) -> Values:
     return Values(_signed(raw.sum), least, greatest, best, (raw.affine_a, raw.affine_b), tuple(raw.automaton))
 
 
-def _value_of(kind: Kind, values: Values) -> Union[int, None, tuple[int, ...]]:
-    """The value of a kind among those of all."""
-    value: Union[int, None, tuple[int, ...]] = getattr(values, kind.name.lower())
-    return value
+def _value_of(kind: Kind, raw: _Values) -> _Value:
+    """The value of a kind among those of all, as `Values` has it."""
+    if kind is Kind.SUM:
+        return _signed(raw.sum)
+    if kind is Kind.AFFINE:
+        return raw.affine_a, raw.affine_b
+    if kind is Kind.AUTOMATON:
+        return tuple(raw.automaton)
+    if not raw.any:
+        return None
+    return (raw.best_high << 64) + raw.best_low if kind is Kind.BEST else raw.least if kind is Kind.LEAST else raw.greatest
 
 
-def _values_in(room: bytearray, kind: Kind) -> list[Union[int, None, tuple[int, ...]]]:
+def _cells_in(room: bytearray, kind: Kind) -> list[Any]:
+    """The cells of a kind in the `_Values` that lie in a buffer side by side, as columns of words of 64 bits."""
+    # no step of a view of a format that is told by name has a type of its own
+    words: Any = memoryview(room).cast("q")
+    return [words[_WORDS[name] :: ctypes.sizeof(_Values) // 8] for name in _CELL_WORDS[kind]]
+
+
+def _values_in(room: bytearray, kind: Kind) -> list[_Value]:
     """The value of a kind in each of the `_Values` that lie in a buffer side by side."""
     if kind in (Kind.AFFINE, Kind.AUTOMATON):
         size = ctypes.sizeof(_Values)
-        return [_value_of(kind, _values_of(_Values.from_buffer(room, at))) for at in range(0, len(room), size)]
+        return [_value_of(kind, _Values.from_buffer(room, at)) for at in range(0, len(room), size)]
     # words of 64 bits, so that a row of them is read at once; the sum is read as one with a sign
     step = ctypes.sizeof(_Values) // 8
 
@@ -89,4 +103,8 @@ def _values_in(room: bytearray, kind: Kind) -> list[Union[int, None, tuple[int, 
 
 
 # ctypes doesn't tell that its fields have offsets
-_WORDS: dict[str, int] = {name: getattr(_Values, name).offset // 8 for name in ("sum", "least", "greatest", "best_low", "best_high")}
+_WORDS: dict[str, int] = {
+    name: getattr(_Values, name).offset // 8 for name in ("sum", "least", "greatest", "best_low", "best_high", "affine_a", "automaton")}
+# where a cell of a column lies: the two numbers of affine are one word, and the eight states
+_CELL_WORDS = {Kind.SUM: ("sum",), Kind.LEAST: ("least",), Kind.GREATEST: ("greatest",), Kind.BEST: ("best_low", "best_high"),
+               Kind.AFFINE: ("affine_a",), Kind.AUTOMATON: ("automaton",)}

@@ -69,7 +69,7 @@ class Vector(_Edits, _Questions, _Scans, _Claims):
     # Copies.
 
     def copy(self: _SomeVector) -> _SomeVector:
-        """A vector of its own with the same elements, limits, table and kind. Raises NoMemory.
+        """A vector of its own with the same elements, limits, table and kind. Linear. Raises NoMemory.
 
         Its edits are the pushes of its elements, so that their numbers begin anew: a vector that is worn goes on as its copy."""
         return _remade(type(self), self.to_array(), *self._limits)

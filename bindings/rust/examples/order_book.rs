@@ -26,7 +26,7 @@ impl Book {
         match words[..] {
             [] | ["#", ..] => return Ok(None),
             ["level", net] => drop(self.levels.push(net.parse()?)?),
-            ["net", index, net] => drop(self.levels.write(index.parse()?, net.parse()?)?),
+            ["net", index, net] => drop(self.levels.write(index.parse::<usize>()?, net.parse()?)?),
             ["drop"] => drop(self.levels.pop()?),
             ["trade", price] => drop(self.trades.push(price.parse()?)?),
             ["book"] => return Ok(Some(self.thickest()?)),

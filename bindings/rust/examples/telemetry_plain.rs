@@ -4,14 +4,14 @@ mod day;
 
 use std::collections::VecDeque;
 use std::convert::Infallible;
-use std::ops::Range;
 
 use day::{Store, Window};
+use livevec::Sample;
 
 /// The samples of a sensor, and how many were forgotten before them.
 #[derive(Clone, Default)]
 struct Last {
-    samples: VecDeque<i64>,
+    samples: VecDeque<Sample>,
     forgotten: usize,
 }
 
@@ -27,47 +27,38 @@ impl Store for Plain {
         Ok(Plain { sensors: vec![Last::default(); sensors] })
     }
 
-    fn take(&mut self, sensor: usize, samples: &[i64]) -> Result<(), Infallible> {
+    fn take(&mut self, sensor: usize, samples: &[Sample]) -> Result<(), Infallible> {
         self.sensors[sensor].samples.extend(samples);
         Ok(())
     }
 
-    fn correct(&mut self, sensor: usize, number: usize, sample: i64) -> Result<(), Infallible> {
+    fn correct(&mut self, sensor: usize, number: usize, value: i64) -> Result<(), Infallible> {
         let Last { samples, forgotten } = &mut self.sensors[sensor];
         if number >= *forgotten {
-            samples[number - *forgotten] = sample;
+            samples[number - *forgotten].value = value;
         }
         Ok(())
     }
 
-    fn forget(&mut self, sensor: usize, before: usize) -> Result<(), Infallible> {
+    fn forget(&mut self, sensor: usize, before: i64) -> Result<(), Infallible> {
         let Last { samples, forgotten } = &mut self.sensors[sensor];
-        samples.drain(..before - *forgotten);
-        *forgotten = before;
+        while samples.front().is_some_and(|sample| sample.time < before) {
+            samples.pop_front();
+            *forgotten += 1;
+        }
         Ok(())
     }
 
-    fn kept(&self, sensor: usize) -> Range<usize> {
-        let Last { samples, forgotten } = &self.sensors[sensor];
-        *forgotten..forgotten + samples.len()
-    }
-
-    fn window(&self, sensor: usize, from: usize, to: usize) -> Result<Window, Infallible> {
-        let Last { samples, forgotten } = &self.sensors[sensor];
-        let window = || samples.range(from - forgotten..to - forgotten).copied();
-        Ok(Window { sum: window().sum(), least: window().min(), greatest: window().max() })
-    }
-
-    fn highs(&self, sensor: usize) -> Result<Vec<i64>, Infallible> {
-        let mut high = i64::MIN;
-        Ok(self.sensors[sensor]
-            .samples
-            .iter()
-            .map(|sample| {
-                high = high.max(*sample);
-                high
-            })
-            .collect())
+    fn last(&self, sensor: usize, seconds: u64, hot: i64) -> Result<Window, Infallible> {
+        let samples = &self.sensors[sensor].samples;
+        let newest = samples.back().expect("there are some").time;
+        let window = || samples.range(samples.partition_point(|sample| sample.time <= newest - seconds as i64)..);
+        Ok(Window {
+            samples: window().len(),
+            sum: window().map(|sample| sample.value).sum(),
+            greatest: window().map(|sample| sample.value).max().expect("there are some"),
+            hot: window().find(|sample| sample.value >= hot).copied(),
+        })
     }
 }
 

@@ -34,13 +34,13 @@ pub struct Batch {
 }
 
 impl Batch {
-    /// How many jobs there are: one at least.
+    /// How many jobs there are: one at least. O(1).
     #[allow(clippy::len_without_is_empty)]
     pub fn len(&self) -> u32 {
         self.jobs
     }
 
-    /// Computes all. Refused with `NoMemory`; the jobs are let go then, and since none is claimed, the vector has them still.
+    /// Computes all. Linear. Refused with `NoMemory`; the jobs are let go then, and since none is claimed, the vector has them still.
     pub fn run(mut self) -> Result<BatchOutcome, Refusal> {
         self.raw.run()?;
         Ok(BatchOutcome { raw: self.raw, jobs: self.jobs })
@@ -67,14 +67,14 @@ impl fmt::Debug for BatchOutcome {
 
 impl Vector {
     /// A job for each block that wants one, of at most `limit` from block `first` on; none where none wants one. Block n is of the elements from
-    /// index 8 * n on. Nothing is claimed: threads that share the work ask for blocks apart. Refused with `NoMemory` alone.
+    /// index 8 * n on. Nothing is claimed: threads that share the work ask for blocks apart. Linear in what is copied. Refused with `NoMemory` alone.
     pub fn copy_blocks(&self, first: u32, limit: u32) -> Result<Option<Batch>, Refusal> {
         let copied = self.raw.copy_blocks(first, limit)?;
         Ok(copied.map(|(jobs, raw)| Batch { raw, jobs }))
     }
 
     /// Takes in what a batch gave, each where [`vouches_for`](Vector::vouches_for) would say yes, and tells what became of them. No answer
-    /// changes by it. Takes no memory, and is refused by a vector never.
+    /// changes by it. Linear in the batch. Takes no memory, and is refused by a vector never.
     pub fn take_in(&mut self, outcomes: BatchOutcome) -> Result<Taken, Refusal> {
         let did = self.raw.accept_blocks(outcomes.raw)?;
         Ok(Taken { installed: did.installed, held: did.held, stale: did.stale, strangers: did.strangers })

@@ -2,8 +2,9 @@
 
 use std::fmt;
 
+use crate::indices::narrow;
 use crate::values::ends;
-use crate::{Indices, Kind, Limits, Popped, Pushed, Refusal, Value, Values, Written, raw};
+use crate::{AsIndex, Indices, Kind, Limits, Popped, Pushed, Refusal, Value, Values, Written, raw};
 
 /// A growable vector of elements of 16 bits that up to eight threads edit and reduce at once, without a lock.
 ///
@@ -60,7 +61,7 @@ impl Board {
         Ok(Board { raw: raw::Board::new(kind as u32, limits.buckets(), limits.edits(), seats)?, kind })
     }
 
-    /// A seat of the board: one that nobody has yet, or one that was dropped. Refused with `NoMemory`, `NoSeat`.
+    /// A seat of the board: one that nobody has yet, or one that was dropped. O(1). Refused with `NoMemory`, `NoSeat`.
     pub fn sit(&mut self) -> Result<Seat, Refusal> {
         Ok(Seat { raw: self.raw.sit()?, kind: self.kind })
     }
@@ -70,7 +71,7 @@ impl Board {
         self.kind
     }
 
-    /// Closes a board whose seats are all dropped. Refused with `NoMemory`, `SeatsOut`; the board then comes back as it was.
+    /// Closes a board whose seats are all dropped. Linear. Refused with `NoMemory`, `SeatsOut`; the board then comes back as it was.
     ///
     /// ```
     /// use livevec::{Board, Kind, Refusal};
@@ -140,27 +141,27 @@ pub struct Seat {
 }
 
 impl Seat {
-    /// Puts an element at the end. Refused with `TooWide`, `Worn`, `Full`, `Contended`.
+    /// Puts an element at the end. O(1) a try. Refused with `TooWide`, `Worn`, `Full`, `Contended`.
     pub fn push(&mut self, value: i64, tries: u32) -> Result<Pushed, Refusal> {
         self.raw.push(value, tries).map(|did| Pushed { edit: did.edit, index: did.place })
     }
 
-    /// Drops the last element. Refused with `Worn`, `Empty`, `Contended`, `Overtaken`.
+    /// Drops the last element. O(1) a try. Refused with `Worn`, `Empty`, `Contended`, `Overtaken`.
     pub fn pop(&mut self, tries: u32) -> Result<Popped, Refusal> {
         self.raw.pop(tries).map(|did| Popped { edit: did.edit, value: did.value })
     }
 
-    /// Overwrites an element. Refused with `TooWide`, `Worn`, `OutOfRange`, `Contended`, `Overtaken`.
-    pub fn write(&mut self, index: u32, value: i64, tries: u32) -> Result<Written, Refusal> {
-        self.raw.write(index, value, tries).map(|did| Written { edit: did.edit, before: did.value })
+    /// Overwrites an element. O(1) a try. Refused with `TooWide`, `Worn`, `OutOfRange`, `Contended`, `Overtaken`.
+    pub fn write(&mut self, index: impl AsIndex, value: i64, tries: u32) -> Result<Written, Refusal> {
+        self.raw.write(narrow(index), value, tries).map(|did| Written { edit: did.edit, before: did.value })
     }
 
-    /// The element at an index. Refused with `OutOfRange`, `Overtaken`.
-    pub fn get(&self, index: u32) -> Result<i64, Refusal> {
-        self.raw.get(index)
+    /// The element at an index. O(1). Refused with `OutOfRange`, `Overtaken`.
+    pub fn get(&self, index: impl AsIndex) -> Result<i64, Refusal> {
+        self.raw.get(narrow(index))
     }
 
-    /// How many elements there are. Another seat may change it at once.
+    /// How many elements there are. O(1). Another seat may change it at once.
     pub fn len(&self) -> u32 {
         self.raw.size()
     }
@@ -170,7 +171,8 @@ impl Seat {
         self.len() == 0
     }
 
-    /// The value of a range by the board's kind, of the elements as they were after one edit. An open end is that of the size just before.
+    /// The value of a range by the board's kind, of the elements as they were after one edit. Linear: it reads each element, or one summary for
+    /// each block of eight that [`refresh`](Seat::refresh) has computed. An open end is that of the size just before.
     /// Refused with `BadRange`, `OutOfRange`, `Overtaken`.
     pub fn reduce(&self, range: impl Indices) -> Result<Told, Refusal> {
         let (lo, hi) = ends(range, || self.len());
@@ -179,7 +181,7 @@ impl Seat {
         Ok(Told { edit: raw.edit, cells: raw.cells, summaries: raw.summaries, value })
     }
 
-    /// Computes the summary of a block, the eight elements from index `8 * block` on, so that reductions read less. No answer changes.
+    /// Computes the summary of a block, the eight elements from index `8 * block` on, so that reductions read less. No answer changes. O(1).
     /// Refused with `OutOfRange` where not all eight are there, and with `Overtaken`.
     ///
     /// ```
@@ -230,18 +232,18 @@ impl Closed {
         self.len() == 0
     }
 
-    /// The element at an index. Refused with `OutOfRange` alone.
-    pub fn get(&self, index: u32) -> Result<i64, Refusal> {
-        self.raw.closed_get(index)
+    /// The element at an index. O(1). Refused with `OutOfRange` alone.
+    pub fn get(&self, index: impl AsIndex) -> Result<i64, Refusal> {
+        self.raw.closed_get(narrow(index))
     }
 
-    /// Fills the front of a buffer with all elements, and gives that front. Refused with `ShortBuffer` alone.
+    /// Fills the front of a buffer with all elements, and gives that front. Linear. Refused with `ShortBuffer` alone.
     pub fn read_into<'a>(&self, buffer: &'a mut [i64]) -> Result<&'a mut [i64], Refusal> {
         let length = self.raw.closed_read(buffer)?;
         Ok(&mut buffer[..length])
     }
 
-    /// All elements. Refused with `NoMemory` alone.
+    /// A copy of all elements. Linear. Refused with `NoMemory` alone.
     pub fn to_vec(&self) -> Result<Vec<i64>, Refusal> {
         let length = self.len() as usize;
         let mut elements = Vec::new();

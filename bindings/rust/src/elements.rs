@@ -1,10 +1,9 @@
-//! Iterators over the elements of a vector.
+//! Iterators over the elements of a vector, or of a series.
 
-use std::borrow::Borrow;
 use std::fmt;
 use std::iter::FusedIterator;
 
-use crate::Vector;
+use crate::{Series, Vector};
 
 /// The elements of a range of a [`Vector`], which can't be edited meanwhile.
 pub type Elements<'a> = Through<&'a Vector>;
@@ -13,34 +12,63 @@ pub type Elements<'a> = Through<&'a Vector>;
 pub type IntoElements = Through<Vector>;
 
 // So many elements are read by one call.
-const AT_ONCE: u32 = 128;
+const AT_ONCE: u64 = 128;
 
-/// The iterator over a vector's elements, which has the vector or borrows it: [`Elements`] and [`IntoElements`].
+/// The iterator over a vector's elements, or a series', which has it or borrows it: [`Elements`], [`IntoElements`], and those of
+/// [`series`](crate::series). It reads 128 elements by one call, and takes no memory.
 pub struct Through<V> {
-    vector: V,
+    of: V,
     // what is still to be given: those of `read` from `given` on up to `filled`, then lo..hi
-    lo: u32,
-    hi: u32,
+    lo: u64,
+    hi: u64,
     read: [i64; AT_ONCE as usize],
     given: usize,
     filled: usize,
 }
 
-impl<V: Borrow<Vector>> Through<V> {
-    // The range lies within the vector.
-    pub(crate) fn new(vector: V, lo: u32, hi: u32) -> Through<V> {
-        Through { vector, lo, hi, read: [0; AT_ONCE as usize], given: 0, filled: 0 }
+mod source {
+    /// What has elements in a range of indices.
+    pub trait Source {
+        /// Puts those of a range into a buffer, and tells how many they are.
+        fn fill(&self, lo: u64, hi: u64, room: &mut [i64]) -> usize;
+    }
+}
+
+use source::Source;
+
+impl Source for Vector {
+    fn fill(&self, lo: u64, hi: u64, room: &mut [i64]) -> usize {
+        self.raw.read(lo as u32, hi as u32, room).expect("the range lies within the vector")
+    }
+}
+
+impl Source for Series {
+    fn fill(&self, lo: u64, hi: u64, room: &mut [i64]) -> usize {
+        self.raw.read(lo, hi, room).expect("the range is kept").length as usize
+    }
+}
+
+impl<V: Source> Source for &V {
+    fn fill(&self, lo: u64, hi: u64, room: &mut [i64]) -> usize {
+        (**self).fill(lo, hi, room)
+    }
+}
+
+impl<V: Source> Through<V> {
+    // The range lies within what it is of.
+    pub(crate) fn new(of: V, lo: u64, hi: u64) -> Through<V> {
+        Through { of, lo, hi, read: [0; AT_ONCE as usize], given: 0, filled: 0 }
     }
 
     fn fill(&mut self) {
         let upto = self.hi.min(self.lo + AT_ONCE);
         self.given = 0;
-        self.filled = self.vector.borrow().raw.read(self.lo, upto, &mut self.read).expect("the range lies within the vector");
+        self.filled = self.of.fill(self.lo, upto, &mut self.read);
         self.lo = upto;
     }
 }
 
-impl<V: Borrow<Vector>> Iterator for Through<V> {
+impl<V: Source> Iterator for Through<V> {
     type Item = i64;
 
     fn next(&mut self) -> Option<i64> {
@@ -61,11 +89,13 @@ impl<V: Borrow<Vector>> Iterator for Through<V> {
     }
 }
 
-impl<V: Borrow<Vector>> DoubleEndedIterator for Through<V> {
+impl<V: Source> DoubleEndedIterator for Through<V> {
     fn next_back(&mut self) -> Option<i64> {
         if self.lo < self.hi {
             self.hi -= 1;
-            return Some(self.vector.borrow().raw.get(self.hi).expect("the range lies within the vector"));
+            let mut one = [0];
+            self.of.fill(self.hi, self.hi + 1, &mut one);
+            return Some(one[0]);
         }
         if self.given == self.filled {
             return None;
@@ -75,10 +105,10 @@ impl<V: Borrow<Vector>> DoubleEndedIterator for Through<V> {
     }
 }
 
-impl<V: Borrow<Vector>> ExactSizeIterator for Through<V> {}
-impl<V: Borrow<Vector>> FusedIterator for Through<V> {}
+impl<V: Source> ExactSizeIterator for Through<V> {}
+impl<V: Source> FusedIterator for Through<V> {}
 
-impl<V: Borrow<Vector>> fmt::Debug for Through<V> {
+impl<V: Source> fmt::Debug for Through<V> {
     fn fmt(&self, f: &mut fmt::Formatter<'_>) -> fmt::Result {
         f.debug_struct("Elements").field("len", &self.len()).finish_non_exhaustive()
     }
@@ -98,7 +128,7 @@ impl IntoIterator for Vector {
     type IntoIter = IntoElements;
 
     fn into_iter(self) -> IntoElements {
-        let size = self.len();
+        let size = self.len().into();
         Through::new(self, 0, size)
     }
 }

@@ -1,11 +1,45 @@
-//! Ranges of indices, as calls take them.
+//! Indices and ranges of indices, as calls take them.
 
 use std::ops::{Bound, Range, RangeBounds, RangeFrom, RangeFull, RangeInclusive, RangeTo, RangeToInclusive};
 
-/// A range of indices: `..`, `3..`, `..8`, `2..8`, `2..=7`, `..=7` and pairs of [`Bound`]s, of `u32`, `usize` or `i32`.
+/// An index, or a count of elements: a `usize`, a `u64`, a `u32`, or an `i32`.
 ///
-/// `i32` is there for numbers that are written out, whose type nothing else tells. A range that no vector has, as one with a negative index or
-/// one above `u32::MAX`, is refused as any that goes past the end.
+/// `i32` is there for numbers that are written out, whose type nothing else tells. What no vector or series has, as a negative index, is refused as
+/// any that is past the end. It can't be implemented elsewhere.
+///
+/// ```
+/// use livevec::{Refusal, Series, Vector};
+///
+/// # fn main() -> Result<(), Refusal> {
+/// let (mut prices, mut readings) = (Vector::try_from([300, 120])?, Series::try_from([300, 120])?);
+/// let (place, number): (usize, u64) = (1, 0);
+/// assert_eq!((prices.get(place)?, prices.get(number)?, prices.get(1_u32)?, prices.get(0)?), (120, 300, 120, 300));
+/// assert_eq!((prices.write(place, 7)?.before, readings.write(place, 7)?.before), (120, 120));
+/// assert_eq!(prices.get(usize::MAX), Err(Refusal::OutOfRange { size: 2 }));
+/// assert_eq!(readings.get(-1), Err(Refusal::NotKept { first: 0, size: 2 }));
+/// # Ok(())
+/// # }
+/// ```
+pub trait AsIndex: Copy + sealed::Sealed {
+    /// The number itself.
+    #[doc(hidden)]
+    fn exact(self) -> i128;
+}
+
+/// An index as C takes that of a vector; what C can't be given is given as one that it refuses.
+pub(crate) fn narrow(index: impl AsIndex) -> u32 {
+    u32::try_from(index.exact()).unwrap_or(u32::MAX)
+}
+
+/// An index as C takes that of a series; what C can't be given is given as one that it refuses.
+pub(crate) fn wide(index: impl AsIndex) -> u64 {
+    u64::try_from(index.exact()).unwrap_or(u64::MAX)
+}
+
+/// A range of indices: `..`, `3..`, `..8`, `2..8`, `2..=7`, `..=7` and pairs of [`Bound`]s, of any [`AsIndex`].
+///
+/// A range that no vector or series has, as one with a negative index, is refused as any that goes past the end. An end that is left out is that
+/// of what there is: of a series what is kept.
 ///
 /// ```
 /// use livevec::{Refusal, Vector};
@@ -22,7 +56,7 @@ use std::ops::{Bound, Range, RangeBounds, RangeFrom, RangeFull, RangeInclusive, 
 /// # }
 /// ```
 ///
-/// It can't be implemented elsewhere. A range that is a `RangeBounds<u32>` of another type is handed in as
+/// It can't be implemented elsewhere. A range of another type that is a `RangeBounds` is handed in as
 /// `(range.start_bound().cloned(), range.end_bound().cloned())`.
 pub trait Indices: sealed::Sealed {
     /// The start and the end, excluded, where they are told.
@@ -34,31 +68,23 @@ mod sealed {
     pub trait Sealed {}
 }
 
-/// What an index may be given as.
-trait Number: Copy {
-    fn exact(self) -> i128;
+macro_rules! are_numbers {
+    ($($number:ty)*) => {
+        $(
+            impl sealed::Sealed for $number {}
+            impl AsIndex for $number {
+                fn exact(self) -> i128 {
+                    const { assert!(<$number>::BITS <= 64) };
+                    self as i128
+                }
+            }
+        )*
+    };
 }
 
-impl Number for u32 {
-    fn exact(self) -> i128 {
-        self.into()
-    }
-}
+are_numbers!(u32 u64 usize i32);
 
-impl Number for i32 {
-    fn exact(self) -> i128 {
-        self.into()
-    }
-}
-
-impl Number for usize {
-    fn exact(self) -> i128 {
-        const { assert!(usize::BITS <= 64) };
-        self as i128
-    }
-}
-
-fn ends_of<N: Number>(range: &impl RangeBounds<N>) -> (Option<i128>, Option<i128>) {
+fn ends_of<N: AsIndex>(range: &impl RangeBounds<N>) -> (Option<i128>, Option<i128>) {
     let lo = match range.start_bound() {
         Bound::Included(lo) => Some(lo.exact()),
         Bound::Excluded(before) => Some(before.exact() + 1),
@@ -87,6 +113,12 @@ macro_rules! are_indices {
                     ends_of::<$number>(&self)
                 }
             }
+            impl sealed::Sealed for $range<&$number> {}
+            impl Indices for $range<&$number> {
+                fn ends(self) -> (Option<i128>, Option<i128>) {
+                    ends_of::<$number>(&self)
+                }
+            }
         )*
     };
 }
@@ -94,7 +126,7 @@ macro_rules! are_indices {
 /// The type that pairs of bounds have.
 type Bounds<N> = (Bound<N>, Bound<N>);
 
-are_indices!(Range RangeFrom RangeTo RangeInclusive RangeToInclusive Bounds: u32 usize i32);
+are_indices!(Range RangeFrom RangeTo RangeInclusive RangeToInclusive Bounds: u32 u64 usize i32);
 
 impl sealed::Sealed for RangeFull {}
 impl Indices for RangeFull {

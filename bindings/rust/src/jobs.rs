@@ -5,23 +5,25 @@ use std::fmt;
 use crate::{Accepted, Node, Refusal, Vector, raw};
 
 impl Vector {
-    /// Computes at most so many summaries in place, the least node first, and tells how many. No answer changes by it.
+    /// Computes at most so many summaries in place, the least node first, and tells how many. No answer changes by it. Linear in how
+    /// many they are: of eight elements or summaries each.
     pub fn refresh(&mut self, jobs: u32) -> u32 {
         self.raw.refresh(jobs)
     }
 
-    /// A job for the least node that wants one, if there is one. Refused with `NoMemory` alone. See [`Job`].
+    /// A job for the least node that wants one, if there is one. O(log n). Refused with `NoMemory` alone. See [`Job`].
     pub fn claim(&mut self) -> Result<Option<Job>, Refusal> {
         let claimed = self.raw.claim()?;
         Ok(claimed.map(|(told, raw)| Job { raw, node: Node { level: told.level, number: told.number }, version: told.version }))
     }
 
     /// Whether [`deliver`](Vector::deliver) would take an outcome: yes for each of a job of this vector, however late.
+    /// O(1).
     pub fn vouches_for(&self, outcome: &Outcome) -> bool {
         self.raw.vouches_for(&outcome.raw)
     }
 
-    /// Delivers an outcome. It may be late or come twice: no answer changes by that. Refused with `Stranger` where it is not one of this
+    /// Delivers an outcome. It may be late or come twice: no answer changes by that. O(log n). Refused with `Stranger` where it is not one of this
     /// vector's jobs, as [`vouches_for`](Vector::vouches_for) says.
     pub fn deliver(&mut self, outcome: &Outcome) -> Result<Accepted, Refusal> {
         let did = self.raw.accept(&outcome.raw)?;
@@ -78,7 +80,7 @@ impl Job {
         self.version
     }
 
-    /// Computes it. Takes no memory.
+    /// Computes it, from eight elements or summaries: O(1). Takes no memory.
     pub fn run(self) -> Outcome {
         Outcome { raw: self.raw.run(), node: self.node, version: self.version }
     }

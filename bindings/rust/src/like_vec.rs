@@ -1,10 +1,10 @@
 //! What a vector has as `std`'s `Vec` has it, where it can: made of elements, emptied, cloned, compared.
 
-use crate::{Refusal, Stopped, Truncated, Vector};
+use crate::{Refusal, RefusedAt, Truncated, Vector};
 
 /// Made of elements, and into them again.
 impl Vector {
-    /// A vector of the greatest limits with what an iterator gives. Refused with `Full`, `Worn`, `NoMemory`, where nothing is left. It never
+    /// A vector of the greatest limits with what an iterator gives. Linear. Refused with `Full`, `Worn`, `NoMemory`, where nothing is left. It never
     /// panics; `collect` does where this is refused.
     ///
     /// ```
@@ -23,7 +23,7 @@ impl Vector {
         Ok(made)
     }
 
-    /// All elements. Refused with `NoMemory` alone.
+    /// A copy of all elements. Linear. Refused with `NoMemory` alone.
     pub fn to_vec(&self) -> Result<Vec<i64>, Refusal> {
         let length = self.len() as usize;
         let mut elements = Vec::new();
@@ -33,7 +33,7 @@ impl Vector {
         Ok(elements)
     }
 
-    /// A vector of its own with the same elements, limits, table and kind. Refused with `NoMemory` alone.
+    /// A vector of its own with the same elements, limits, table and kind. Linear. Refused with `NoMemory` alone.
     ///
     /// Its edits are the pushes of its elements, so that their numbers begin anew: a vector that is worn goes on as its clone.
     ///
@@ -62,16 +62,16 @@ impl Vector {
         Ok(made)
     }
 
-    /// Drops all elements, by one edit. Refused with `Worn`, `NoMemory`, in this order. It gives no memory back.
+    /// Drops all elements, by one edit. O(1). Refused with `Worn`, `NoMemory`, in this order. It gives no memory back.
     pub fn clear(&mut self) -> Result<Truncated, Refusal> {
         self.truncate(0)
     }
 }
 
 /// What an extension that can't be refused says of a refusal.
-fn pushed(answer: Result<u32, Stopped>) {
-    if let Err(stopped) = answer {
-        panic!("{stopped}");
+fn pushed(answer: Result<u32, RefusedAt>) {
+    if let Err(refused) = answer {
+        panic!("{refused}");
     }
 }
 
@@ -137,7 +137,7 @@ impl TryFrom<Vec<i64>> for Vector {
     }
 }
 
-/// By elements: limits, edits and tables may differ.
+/// By elements: limits, edits and tables may differ. Linear.
 impl PartialEq for Vector {
     fn eq(&self, other: &Vector) -> bool {
         self.len() == other.len() && self.iter().eq(other)

@@ -26,8 +26,8 @@ pub struct BestRun {
 }
 
 impl Vector {
-    /// The first of the least elements, and where it stands; none of an empty range. Keeps what it computes and is refused as
-    /// [`value`](Vector::value).
+    /// The first of the least elements, and where it stands; none of an empty range. Costs what [`value`](Vector::value) does, and is
+    /// refused as it is.
     ///
     /// ```
     /// # fn main() -> Result<(), livevec::Refusal> {
@@ -42,15 +42,15 @@ impl Vector {
         Ok(self.raw.find(Sought::Least, lo, hi)?.map(|found| Placed { index: found.lo, value: found.value }))
     }
 
-    /// The first of the greatest elements, and where it stands; none of an empty range. Keeps what it computes and is refused as
-    /// [`value`](Vector::value).
+    /// The first of the greatest elements, and where it stands; none of an empty range. Costs what [`value`](Vector::value) does, and is
+    /// refused as it is.
     pub fn where_greatest(&self, range: impl Indices) -> Result<Option<Placed>, Refusal> {
         let (lo, hi) = ends(range, || self.len());
         Ok(self.raw.find(Sought::Greatest, lo, hi)?.map(|found| Placed { index: found.lo, value: found.value }))
     }
 
-    /// Where the best run stands: of several the one that ends first, and of those the shortest. There is none of an empty range. Keeps
-    /// what it computes and is refused as [`value`](Vector::value).
+    /// Where the best run stands: of several the one that ends first, and of those the shortest. There is none of an empty range. Costs
+    /// what [`value`](Vector::value) does, and is refused as it is.
     pub fn where_best(&self, range: impl Indices) -> Result<Option<BestRun>, Refusal> {
         let (lo, hi) = ends(range, || self.len());
         let told = self.raw.find(Sought::Best, lo, hi)?;
@@ -58,7 +58,7 @@ impl Vector {
     }
 
     /// The least end up to which the elements of a range, from its start on, add up to `sum` or more; none where the whole range doesn't
-    /// reach it at any end. Elements may be negative, and no sum wraps. Keeps what it computes and is refused as [`value`](Vector::value).
+    /// reach it at any end. Elements may be negative, and no sum wraps. Costs what [`value`](Vector::value) does, and is refused as it is.
     ///
     /// ```
     /// # fn main() -> Result<(), livevec::Refusal> {
@@ -86,8 +86,8 @@ impl Vector {
         self.index_of(Sought::ReachesBack(sum), range)
     }
 
-    /// The index of the first element of a range that is at least `bound`; none where no element is. Keeps what it computes and is refused as
-    /// [`value`](Vector::value).
+    /// The index of the first element of a range that is at least `bound`; none where no element is. Costs what [`value`](Vector::value) does, and is
+    /// refused as it is.
     ///
     /// ```
     /// # fn main() -> Result<(), livevec::Refusal> {

@@ -53,7 +53,7 @@ pub struct Note {
     pub value: Value,
 }
 
-/// The answer of a standing query.
+/// An answer by one kind: of a standing query, or of [`Vector::value_at_edit`].
 #[derive(Clone, Copy, Debug, PartialEq, Eq, Hash)]
 pub struct Answered {
     /// After which edit it is so: the last one that was accepted.
@@ -72,6 +72,7 @@ impl Queries {
     }
 
     /// Registers a query: what a kind says of a range, which may reach past the end: what of it exists is asked, also where it has no end.
+    /// O(q) of q queries.
     /// Refused with `BadName`, `BadRange`, `NameTaken`, `TooMany` (past [`MOST`](Queries::MOST)), `NoMemory`, in this order.
     pub fn watch(&mut self, name: &str, kind: Kind, range: impl Indices) -> Result<(), Refusal> {
         let (lo, hi) = reach(range);
@@ -86,7 +87,7 @@ impl Queries {
         Ok(())
     }
 
-    /// Forgets a query; the others keep their order, and what they were told. Refused with `BadName`, `NoSuchName`, in this order.
+    /// Forgets a query; the others keep their order, and what they were told. O(q). Refused with `BadName`, `NoSuchName`, in this order.
     pub fn unwatch(&mut self, name: &str) -> Result<(), Refusal> {
         self.raw.unwatch(name.as_bytes())?;
         let name = padded(name);
@@ -94,7 +95,7 @@ impl Queries {
         Ok(())
     }
 
-    /// The answer of a query now, by a vector. Nothing counts as told by it. Refused with `BadName`, `NoSuchName`, and `BadKind` where the
+    /// The answer of a query now, by a vector. Nothing counts as told by it. Costs what [`Vector::value`] does. Refused with `BadName`, `NoSuchName`, and `BadKind` where the
     /// vector is of another kind, in this order.
     ///
     /// ```
@@ -117,7 +118,7 @@ impl Queries {
     }
 
     /// A note of each query, in the order in which they were named, whose answer by a vector is another than it was told last. Each then
-    /// counts as told its answer. Refused with `BadKind` where the vector is of one kind and another is among the queries, then with
+    /// counts as told its answer. Costs what [`Vector::value`] does, for each query. Refused with `BadKind` where the vector is of one kind and another is among the queries, then with
     /// `NoMemory`: nothing is told then.
     pub fn notes(&mut self, vector: &mut Vector) -> Result<Vec<Note>, Refusal> {
         // room first: what was told once isn't told again

@@ -1,24 +1,29 @@
 //! What a vector is asked of a range: all six values, one, or a summary that travels.
 
 use crate::values::ends;
-use crate::{Indices, Kind, Reduced, Refusal, RefusedAt, Summary, Value, Values, Vector, raw};
+use crate::{Answered, Indices, Kind, Reduced, Refusal, RefusedAt, Summary, Value, Values, Vector, raw};
 
 impl Vector {
-    /// All six values of a range. What is computed is kept, so that the same question costs at most 98 reads until an edit touches it.
+    /// All six values of a range. What is computed is kept: O(log n), and at most as much again for each edit since the last question, so O(n) at
+    /// first. The same question costs at most 98 reads until an edit touches it. Where one value is wanted, [`value`](Vector::value) does a
+    /// sixth of that.
     /// Refused with `BadRange`, `OutOfRange`, in this order.
     pub fn ask(&self, range: impl Indices) -> Result<Reduced, Refusal> {
         let (lo, hi) = ends(range, || self.len());
         self.raw.ask(lo, hi).map(Reduced::of)
     }
 
-    /// All six values of a range, as [`ask`](Vector::ask) gives them, but nothing is kept.
+    /// All six values of a range, as [`ask`](Vector::ask) gives them, but nothing is kept: linear in the range each time, but for what `ask`,
+    /// [`value`](Vector::value), [`refresh`](Vector::refresh) or a delivered outcome kept before. It is for a reader that is to leave everything as it
+    /// is; else `ask` is the call. Refused as `ask` is.
     pub fn reduce(&self, range: impl Indices) -> Result<Reduced, Refusal> {
         let (lo, hi) = ends(range, || self.len());
         self.raw.reduce(lo, hi).map(Reduced::of)
     }
 
     /// The value of a range by one kind. It computes that kind alone, and keeps what it computes by that kind alone: where one kind is wanted, this
-    /// is quicker than [`ask`](Vector::ask). Refused with `BadRange`, `OutOfRange`, in this order.
+    /// is quicker than [`ask`](Vector::ask). O(log n), and at most as much again for each edit since the last question by that kind, so O(n) at
+    /// first. Refused with `BadRange`, `OutOfRange`, in this order.
     ///
     /// ```
     /// use livevec::{Kind, Value, Vector};
@@ -34,7 +39,25 @@ impl Vector {
         Ok(Value::of(kind, self.values(kind, range)?))
     }
 
-    /// The value of each range by one kind, by one call, all after the last edit. All ranges are looked at first: where one is refused, with
+    /// The same, with the number of the edit after which it is so. Costs and is refused as [`value`](Vector::value).
+    ///
+    /// ```
+    /// use livevec::{Answered, Kind, Value, Vector};
+    ///
+    /// # fn main() -> Result<(), livevec::Refusal> {
+    /// let prices = Vector::try_from([300, 120, 500, 80])?;
+    /// assert_eq!(prices.value_at_edit(Kind::Sum, ..2)?, Answered { edit: 4, value: Value::Sum(420) });
+    /// # Ok(())
+    /// # }
+    /// ```
+    pub fn value_at_edit(&self, kind: Kind, range: impl Indices) -> Result<Answered, Refusal> {
+        let (lo, hi) = ends(range, || self.len());
+        let told = self.raw.value(kind as u32, lo, hi)?;
+        Ok(Answered { edit: told.edit, value: Value::of(kind, Values::of_raw(told.values)) })
+    }
+
+    /// The value of each range by one kind, by one call, all after the last edit. Each costs what
+    /// [`value`](Vector::value) does. All ranges are looked at first: where one is refused, with
     /// `BadRange` or `OutOfRange`, [`RefusedAt::place`] tells the first that is. Refused with `NoMemory` too.
     ///
     /// ```
@@ -65,29 +88,30 @@ impl Vector {
         Ok(values)
     }
 
-    /// What the elements of a range come to after the last edit, as bytes that travel: see [`Summary`]. Nothing is kept of it here.
+    /// What the elements of a range come to after the last edit, as bytes that travel: see [`Summary`]. Nothing is kept of it here, so it costs
+    /// what [`reduce`](Vector::reduce) does.
     /// Refused with `BadRange`, `OutOfRange`, in this order.
     pub fn summary(&self, range: impl Indices) -> Result<Summary, Refusal> {
         let (lo, hi) = ends(range, || self.len());
         self.raw.summary(lo, hi).map(Summary::of_raw)
     }
 
-    /// The sum, which wraps where it does not fit an `i64`. Keeps what it computes and is refused as [`value`](Vector::value).
+    /// The sum, which wraps where it does not fit an `i64`. Costs what [`value`](Vector::value) does, and is refused as it is.
     pub fn sum(&self, range: impl Indices) -> Result<i64, Refusal> {
         Ok(self.values(Kind::Sum, range)?.sum)
     }
 
-    /// The least element; none of an empty range. Keeps what it computes and is refused as [`value`](Vector::value).
+    /// The least element; none of an empty range. Costs what [`value`](Vector::value) does, and is refused as it is.
     pub fn least(&self, range: impl Indices) -> Result<Option<i64>, Refusal> {
         Ok(self.values(Kind::Least, range)?.least)
     }
 
-    /// The greatest element; none of an empty range. Keeps what it computes and is refused as [`value`](Vector::value).
+    /// The greatest element; none of an empty range. Costs what [`value`](Vector::value) does, and is refused as it is.
     pub fn greatest(&self, range: impl Indices) -> Result<Option<i64>, Refusal> {
         Ok(self.values(Kind::Greatest, range)?.greatest)
     }
 
-    /// The greatest total of one or more neighbours; none of an empty range. Keeps what it computes and is refused as [`value`](Vector::value).
+    /// The greatest total of one or more neighbours; none of an empty range. Costs what [`value`](Vector::value) does, and is refused as it is.
     pub fn best(&self, range: impl Indices) -> Result<Option<i128>, Refusal> {
         Ok(self.values(Kind::Best, range)?.best)
     }

@@ -1,12 +1,13 @@
 //! Samples: values with times, and what is asked of a window of time.
 
 use std::fmt;
-use std::ops::{Range, RangeBounds};
+use std::ops::Range;
 
+use crate::indices::wide;
 use crate::series::{Dropped, Lent, Popped, Pushed, Series, Written};
-use crate::{Kind, Refusal, RefusedAt, Value, Values, raw};
+use crate::{AsIndex, Indices, Kind, Refusal, RefusedAt, Value, Values, raw};
 
-/// Values with times that do not fall, in a unit of the caller's, for windows of time.
+/// Values with times that do not fall, in a unit of the caller's (seconds, say, or nanoseconds), for windows of time.
 ///
 /// Each sample has an index, as an element of a [`Series`] has, and one count of edits is of both. The values are a series, which is lent by
 /// [`values`](Samples::values): all that a series is asked by index it is asked there. A window of time is a range of indices, which
@@ -28,6 +29,13 @@ use crate::{Kind, Refusal, RefusedAt, Value, Values, raw};
 /// # Ok(())
 /// # }
 /// ```
+///
+/// They may be sent to another thread, and can't be shared by `&`: a question may make a tree.
+///
+/// ```compile_fail
+/// fn shared<T: Sync>(_: T) {}
+/// shared(livevec::Samples::new().unwrap());
+/// ```
 pub struct Samples {
     values: Series,
 }
@@ -42,7 +50,7 @@ pub struct Sample {
 }
 
 impl Samples {
-    /// No samples yet. Refused with `NoMemory` alone.
+    /// No samples yet. O(1). Refused with `NoMemory` alone.
     pub fn new() -> Result<Samples, Refusal> {
         raw::series::Series::new_samples().map(Samples::of_raw)
     }
@@ -51,23 +59,23 @@ impl Samples {
         Samples { values: Series { raw } }
     }
 
-    /// The values, as a series: what is asked by index.
+    /// The values, as a series: what is asked by index. They are lent, and stay the samples'. O(1).
     pub fn values(&self) -> &Series {
         &self.values
     }
 
     /// The values of a range without a copy, as [`Series::lend`] has them.
-    pub fn lend(&mut self, range: impl RangeBounds<u64>) -> Result<Lent<'_>, Refusal> {
+    pub fn lend(&mut self, range: impl Indices) -> Result<Lent<'_>, Refusal> {
         self.values.lend(range)
     }
 
-    /// Puts a sample at the end. Refused with `Worn`, `Full`, `Earlier`, `NoMemory`, in this order.
+    /// Puts a sample at the end. O(1) amortised, and as much again for each tree. Refused with `Worn`, `Full`, `Earlier`, `NoMemory`, in this order.
     pub fn push(&mut self, time: i64, value: i64) -> Result<Pushed, Refusal> {
         self.values.raw.push_sample(time, value).map(|did| Pushed { edit: did.edit, index: did.place })
     }
 
-    /// Pushes each value with the time at the same place, in order, by one call, up to the first that is refused. Tells the number of the last
-    /// edit.
+    /// Pushes each value with the time at the same place, in order, by one call, up to the first that is refused. Linear. Tells the number of the
+    /// last edit.
     ///
     /// Refused with `ShortBuffer` unless there are as many values as times, then as the first push that is refused: [`RefusedAt::done`] tells
     /// how many were pushed before it.
@@ -91,50 +99,51 @@ impl Samples {
         self.values.raw.push_samples(times, values)
     }
 
-    /// Drops the last sample, and tells its value. Refused with `Worn`, `Empty`, in this order.
+    /// Drops the last sample, and tells its value. O(log n). Refused with `Worn`, `Empty`, in this order.
     pub fn pop(&mut self) -> Result<Popped, Refusal> {
         self.values.pop()
     }
 
-    /// Overwrites the value of a sample, whose time stays. Refused with `Worn`, `NotKept`, in this order.
-    pub fn write(&mut self, index: u64, value: i64) -> Result<Written, Refusal> {
+    /// Overwrites the value of a sample, whose time stays. O(log n) for each tree. Refused with `Worn`, `NotKept`, in this order.
+    pub fn write(&mut self, index: impl AsIndex, value: i64) -> Result<Written, Refusal> {
         self.values.write(index, value)
     }
 
-    /// Drops the samples from an index on. Refused with `Worn`, `NotKept`, in this order.
-    pub fn truncate(&mut self, size: u64) -> Result<Dropped, Refusal> {
+    /// Drops the samples from an index on. O(log n). Refused with `Worn`, `NotKept`, in this order.
+    pub fn truncate(&mut self, size: impl AsIndex) -> Result<Dropped, Refusal> {
         self.values.truncate(size)
     }
 
-    /// Drops the samples before an index, as [`Series::expire`] does elements. Refused with `Worn`, `NotKept`, in this order.
-    pub fn expire(&mut self, index: u64) -> Result<Dropped, Refusal> {
+    /// Drops the samples before an index, as [`Series::expire`] does elements. O(1) amortised. Refused with `Worn`, `NotKept`, in this order.
+    pub fn expire(&mut self, index: impl AsIndex) -> Result<Dropped, Refusal> {
         self.values.expire(index)
     }
 
-    /// Drops the samples that were taken before a time. It takes no memory, and gives memory back. Refused with `Worn`.
+    /// Drops the samples that were taken before a time. O(log n). It takes no memory, and gives memory back. Refused with `Worn`.
     pub fn expire_before(&mut self, time: i64) -> Result<Dropped, Refusal> {
         self.values.raw.expire_before(time).map(|did| Dropped { edit: did.edit, dropped: did.place })
     }
 
-    /// Makes the tree of a kind, as [`Series::prepare`] does. Refused with `NoMemory`.
+    /// Makes the tree of a kind, as [`Series::prepare`] does, in O(n). Refused with `NoMemory`.
     pub fn prepare(&mut self, kind: Kind) -> Result<(), Refusal> {
         self.values.prepare(kind)
     }
 
-    /// The sample under an index. Refused with `NotKept` alone.
-    pub fn get(&self, index: u64) -> Result<Sample, Refusal> {
-        self.values.raw.sample(index).map(|(time, value)| Sample { time, value })
+    /// The sample under an index. O(1). Refused with `NotKept` alone.
+    pub fn get(&self, index: impl AsIndex) -> Result<Sample, Refusal> {
+        self.values.raw.sample(wide(index)).map(|(time, value)| Sample { time, value })
     }
 
-    /// Puts the times of a range of indices into a buffer, as [`Series::read_into`] does the values.
-    pub fn times_into(&self, range: impl RangeBounds<u64>, buffer: &mut [i64]) -> Result<usize, Refusal> {
-        let (lo, hi) = self.values.ends(&range);
+    /// Puts the times of a range of indices into a buffer, as [`Series::read_into`] does the values, and refused as that. Linear in
+    /// the piece.
+    pub fn times_into(&self, range: impl Indices, buffer: &mut [i64]) -> Result<usize, Refusal> {
+        let (lo, hi) = self.values.ends(range);
         self.values.raw.times(lo, hi, buffer).map(|did| did.length as usize)
     }
 
-    /// A copy of the times of a range of indices. Refused with `BadRange`, `NotKept`, `NoMemory`, in this order.
-    pub fn times(&self, range: impl RangeBounds<u64>) -> Result<Vec<i64>, Refusal> {
-        let (lo, hi) = self.values.ends(&range);
+    /// A copy of the times of a range of indices. Linear. Refused with `BadRange`, `NotKept`, `NoMemory`, in this order.
+    pub fn times(&self, range: impl Indices) -> Result<Vec<i64>, Refusal> {
+        let (lo, hi) = self.values.ends(range);
         self.values.raw.times(lo, hi, &mut [])?;
         let length = (hi - lo) as usize;
         let mut times = raw::roomy(length)?;
@@ -155,14 +164,14 @@ impl Samples {
         lo..hi
     }
 
-    /// The value by one kind of the samples whose times are in a range. The kind's tree is made first, where there is none. Refused with
+    /// The value by one kind of the samples whose times are in a range. O(log n): the kind's tree is made first, in O(n), where there is none. Refused with
     /// `BadRange`, `NoMemory`, in this order.
     pub fn value(&self, kind: Kind, times: Range<i64>) -> Result<Value, Refusal> {
         let told = self.values.raw.value_between(kind as u32, times.start, times.end)?;
         Ok(Value::of(kind, Values::of_raw(told.values)))
     }
 
-    /// The same of the last `span` of time. Refused with `NoMemory`.
+    /// The same of the last `span` of time, at the same cost. Refused with `NoMemory`.
     pub fn value_of_last(&self, kind: Kind, span: u64) -> Result<Value, Refusal> {
         let told = self.values.raw.value_of_last(kind as u32, span)?;
         Ok(Value::of(kind, Values::of_raw(told.values)))

@@ -7,7 +7,7 @@ use crate::values::ends;
 use crate::{Indices, Refusal, Values, Vector, raw};
 
 impl Vector {
-    /// The values of each beginning of a range, the element itself included. Refused with `BadRange`, `OutOfRange`, `NoMemory`, in this order.
+    /// The values of each beginning of a range, the element itself included. Linear in the range. Refused with `BadRange`, `OutOfRange`, `NoMemory`, in this order.
     ///
     /// ```
     /// # fn main() -> Result<(), livevec::Refusal> {
@@ -25,7 +25,7 @@ impl Vector {
         self.raw.scan(lo, hi, true).map(|(edit, values)| Scan { edit, values })
     }
 
-    /// The values of each beginning of a range, the element itself excluded. Refused as [`scan_inclusive`](Vector::scan_inclusive) is.
+    /// The values of each beginning of a range, the element itself excluded. Linear in the range. Refused as [`scan_inclusive`](Vector::scan_inclusive) is.
     pub fn scan_exclusive(&self, range: impl Indices) -> Result<Scan, Refusal> {
         let (lo, hi) = ends(range, || self.len());
         self.raw.scan(lo, hi, false).map(|(edit, values)| Scan { edit, values })

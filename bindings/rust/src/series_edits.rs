@@ -1,9 +1,5 @@
 //! What the edits of a series tell.
 
-use std::fmt;
-
-use crate::Refusal;
-
 /// An accepted push.
 #[derive(Clone, Copy, Debug, PartialEq, Eq, Hash)]
 pub struct Pushed {
@@ -47,27 +43,4 @@ pub struct Dropped {
     pub edit: u64,
     /// How many elements were dropped.
     pub dropped: u64,
-}
-
-/// A list of pushes of which one was refused: none of them was made.
-#[derive(Clone, Copy, Debug, PartialEq, Eq, Hash)]
-pub struct Stopped {
-    /// How many elements were pushed: none.
-    pub pushed: usize,
-    /// Why the first one that was refused was.
-    pub refusal: Refusal,
-}
-
-impl fmt::Display for Stopped {
-    fn fmt(&self, f: &mut fmt::Formatter<'_>) -> fmt::Result {
-        write!(f, "{} pushed: {}", self.pushed, self.refusal)
-    }
-}
-
-impl std::error::Error for Stopped {}
-
-impl From<Stopped> for Refusal {
-    fn from(stopped: Stopped) -> Refusal {
-        stopped.refusal
-    }
 }

@@ -1,9 +1,8 @@
 //! Questions at a [`Series`] by one kind, and its running values by one kind, written into a slice of the caller's.
 
-use std::ops::RangeBounds;
-
-use crate::series::Series;
-use crate::{Column, Kind, Refusal, RefusedAt, Value, Values, raw};
+use crate::indices::wide;
+use crate::series::{Answered, Series};
+use crate::{AsIndex, Column, Indices, Kind, Refusal, RefusedAt, Value, Values, raw};
 
 /// What a piece of a scan into a column came to: the cells that were written, at the column's front, which are those after this edit.
 #[derive(Debug, PartialEq, Eq)]
@@ -15,14 +14,14 @@ pub struct Filled<'a, Cell> {
 }
 
 impl Series {
-    /// Makes the tree of a kind, where there is none: from then on a value by that kind takes O(log n) joins, and each edit renews the tree.
+    /// Makes the tree of a kind, where there is none, in O(n): from then on a value by that kind takes O(log n) joins, and each edit renews the tree.
     /// Refused with `NoMemory`, and nothing has changed then.
     pub fn prepare(&mut self, kind: Kind) -> Result<(), Refusal> {
         self.raw.prepare(kind as u32)
     }
 
-    /// Writes each value under the index of the same place, in order, by one call. An index may come twice: the later value stays. Tells the
-    /// number of the last edit.
+    /// Writes each value under the index of the same place, in order, by one call. An index may come twice: the later value stays. Each
+    /// costs what [`write`](Series::write) does. Tells the number of the last edit.
     ///
     /// All writes are made, or none. Refused with `ShortBuffer` unless there are as many values as indices, then with what the first write that
     /// is refused is refused with: `Worn`, `NotKept`.
@@ -48,12 +47,12 @@ impl Series {
         self.raw.write_many(indices, values)
     }
 
-    pub(crate) fn by_kind(&self, kind: Kind, range: impl RangeBounds<u64>) -> Result<Values, Refusal> {
-        let (lo, hi) = self.ends(&range);
+    pub(crate) fn by_kind(&self, kind: Kind, range: impl Indices) -> Result<Values, Refusal> {
+        let (lo, hi) = self.ends(range);
         Ok(Values::of_raw(self.raw.value(kind as u32, lo, hi)?.values))
     }
 
-    /// The value of a range by one kind, whose tree is made first, where there is none. Refused with `BadRange`, `NotKept`, `NoMemory`, in
+    /// The value of a range by one kind, in O(log n), by its tree, which is made first, in O(n), where there is none. Refused with `BadRange`, `NotKept`, `NoMemory`, in
     /// this order.
     ///
     /// ```
@@ -67,12 +66,19 @@ impl Series {
     /// # Ok(())
     /// # }
     /// ```
-    pub fn value(&self, kind: Kind, range: impl RangeBounds<u64>) -> Result<Value, Refusal> {
+    pub fn value(&self, kind: Kind, range: impl Indices) -> Result<Value, Refusal> {
         Ok(Value::of(kind, self.by_kind(kind, range)?))
     }
 
-    /// The value of each range by one kind, by one call, all after the last edit. All ranges are looked at first: where one is refused, with
-    /// `BadRange` or `NotKept`, [`RefusedAt::place`] tells the first that is. Refused with `NoMemory` too.
+    /// The same, with the number of the edit after which it is so. Costs and is refused as [`value`](Series::value).
+    pub fn value_at_edit(&self, kind: Kind, range: impl Indices) -> Result<Answered, Refusal> {
+        let (lo, hi) = self.ends(range);
+        let told = self.raw.value(kind as u32, lo, hi)?;
+        Ok(Answered { edit: told.edit, value: Value::of(kind, Values::of_raw(told.values)) })
+    }
+
+    /// The value of each range by one kind, by one call, all after the last edit; each costs what [`value`](Series::value) does. All ranges
+    /// are looked at first: where one is refused, with `BadRange` or `NotKept`, [`RefusedAt::place`] tells the first that is. Refused with `NoMemory` too.
     ///
     /// ```
     /// use livevec::{Kind, Refusal, Series, Value};
@@ -88,11 +94,11 @@ impl Series {
     /// # Ok(())
     /// # }
     /// ```
-    pub fn value_many<R: RangeBounds<u64>>(&self, kind: Kind, ranges: impl IntoIterator<Item = R>) -> Result<Vec<Value>, RefusedAt> {
+    pub fn value_many<R: Indices>(&self, kind: Kind, ranges: impl IntoIterator<Item = R>) -> Result<Vec<Value>, RefusedAt> {
         let ranges = ranges.into_iter();
         let mut asked = raw::roomy(ranges.size_hint().0).map_err(RefusedAt::of_all)?;
         for range in ranges {
-            let (lo, hi) = self.ends(&range);
+            let (lo, hi) = self.ends(range);
             asked.try_reserve(1).map_err(|_| RefusedAt::of_all(Refusal::NoMemory))?;
             asked.push(raw::series::Ends { lo, hi });
         }
@@ -126,31 +132,31 @@ impl Series {
     /// ```
     pub fn scan_inclusive_into<'a, K: Column>(
         &self,
-        range: impl RangeBounds<u64>,
-        at: u64,
+        range: impl Indices,
+        at: impl AsIndex,
         column: &'a mut [K::Cell],
     ) -> Result<Filled<'a, K::Cell>, Refusal> {
-        self.fill_column::<K>(true, range, at, column)
+        self.fill_column::<K>(true, range, wide(at), column)
     }
 
     /// The same, each without the element itself. Refused as [`scan_inclusive_into`](Series::scan_inclusive_into) is.
     pub fn scan_exclusive_into<'a, K: Column>(
         &self,
-        range: impl RangeBounds<u64>,
-        at: u64,
+        range: impl Indices,
+        at: impl AsIndex,
         column: &'a mut [K::Cell],
     ) -> Result<Filled<'a, K::Cell>, Refusal> {
-        self.fill_column::<K>(false, range, at, column)
+        self.fill_column::<K>(false, range, wide(at), column)
     }
 
     fn fill_column<'a, K: Column>(
         &self,
         inclusive: bool,
-        range: impl RangeBounds<u64>,
+        range: impl Indices,
         at: u64,
         column: &'a mut [K::Cell],
     ) -> Result<Filled<'a, K::Cell>, Refusal> {
-        let (lo, hi) = self.ends(&range);
+        let (lo, hi) = self.ends(range);
         let did = self.raw.scan_into::<K>(inclusive, lo, at, hi, column)?;
         Ok(Filled { edit: did.edit, cells: &mut column[..did.length as usize] })
     }

@@ -1,9 +1,9 @@
 //! Elements of a series where they lie.
 
 use std::fmt;
-use std::ops::{Deref, RangeBounds};
+use std::ops::Deref;
 
-use crate::{Refusal, Series, raw};
+use crate::{Indices, Refusal, Series, raw};
 
 /// Elements of a [`Series`], or values of [`Samples`](crate::Samples), where they lie: a slice that is lent, until this is dropped.
 pub struct Lent<'a> {
@@ -31,8 +31,8 @@ impl Series {
     /// readings.push(1);
     /// drop(lent);
     /// ```
-    pub fn lend(&mut self, range: impl RangeBounds<u64>) -> Result<Lent<'_>, Refusal> {
-        let (lo, hi) = self.ends(&range);
+    pub fn lend(&mut self, range: impl Indices) -> Result<Lent<'_>, Refusal> {
+        let (lo, hi) = self.ends(range);
         Ok(Lent { raw: self.raw.lend(lo, hi)? })
     }
 }

@@ -1,12 +1,12 @@
 //! Where in a range of a [`Series`] something stands.
 
-use std::ops::{Range, RangeBounds};
+use std::ops::Range;
 
-use crate::Refusal;
 use crate::places::total;
 use crate::raw::Sought;
 use crate::raw::series::Found;
 use crate::series::Series;
+use crate::{Indices, Refusal};
 
 /// An element, and the index at which it stands.
 #[derive(Debug, Clone, Copy, PartialEq, Eq, Hash)]
@@ -27,8 +27,8 @@ pub struct BestRun {
 }
 
 impl Series {
-    /// The first of the least elements, and where it stands; none of an empty range. As [`value`](Series::value), a search makes the tree of
-    /// its kind first, where there is none, here that of the least, and is refused with `BadRange`, `NotKept`, `NoMemory`, in this order.
+    /// The first of the least elements, and where it stands; none of an empty range. A search costs what [`value`](Series::value)
+    /// does: it makes the tree of its kind first, where there is none, here that of the least. It is refused with `BadRange`, `NotKept`, `NoMemory`, in this order.
     ///
     /// ```
     /// # fn main() -> Result<(), livevec::Refusal> {
@@ -40,18 +40,18 @@ impl Series {
     /// # Ok(())
     /// # }
     /// ```
-    pub fn where_least(&self, range: impl RangeBounds<u64>) -> Result<Option<Placed>, Refusal> {
+    pub fn where_least(&self, range: impl Indices) -> Result<Option<Placed>, Refusal> {
         Ok(self.found(Sought::Least, range)?.map(Placed::of))
     }
 
     /// The first of the greatest elements, and where it stands; none of an empty range. Else as [`where_least`](Series::where_least).
-    pub fn where_greatest(&self, range: impl RangeBounds<u64>) -> Result<Option<Placed>, Refusal> {
+    pub fn where_greatest(&self, range: impl Indices) -> Result<Option<Placed>, Refusal> {
         Ok(self.found(Sought::Greatest, range)?.map(Placed::of))
     }
 
     /// Where the best run stands: of several the one that ends first, and of those the shortest. There is none of an empty range. It asks the
     /// kind of best runs, and is refused as [`where_least`](Series::where_least).
-    pub fn where_best(&self, range: impl RangeBounds<u64>) -> Result<Option<BestRun>, Refusal> {
+    pub fn where_best(&self, range: impl Indices) -> Result<Option<BestRun>, Refusal> {
         let told = self.found(Sought::Best, range)?;
         Ok(told.map(|found| BestRun { range: found.lo..found.hi, sum: total(found.sum_high, found.sum_low) }))
     }
@@ -68,13 +68,13 @@ impl Series {
     /// # Ok(())
     /// # }
     /// ```
-    pub fn where_reaches(&self, range: impl RangeBounds<u64>, sum: i64) -> Result<Option<u64>, Refusal> {
+    pub fn where_reaches(&self, range: impl Indices, sum: i64) -> Result<Option<u64>, Refusal> {
         Ok(self.found(Sought::Reaches(sum), range)?.map(|found| found.hi))
     }
 
     /// The greatest start from which on the elements of a range, up to its end, do; none where they do from no start. Else as
     /// [`where_reaches`](Series::where_reaches).
-    pub fn where_reaches_back(&self, range: impl RangeBounds<u64>, sum: i64) -> Result<Option<u64>, Refusal> {
+    pub fn where_reaches_back(&self, range: impl Indices, sum: i64) -> Result<Option<u64>, Refusal> {
         self.index_of(Sought::ReachesBack(sum), range)
     }
 
@@ -89,31 +89,31 @@ impl Series {
     /// # Ok(())
     /// # }
     /// ```
-    pub fn where_first_at_least(&self, range: impl RangeBounds<u64>, bound: i64) -> Result<Option<u64>, Refusal> {
+    pub fn where_first_at_least(&self, range: impl Indices, bound: i64) -> Result<Option<u64>, Refusal> {
         self.index_of(Sought::FirstAtLeast(bound), range)
     }
 
     /// The same of the first element that is at most `bound`. It asks the kind of the least.
-    pub fn where_first_at_most(&self, range: impl RangeBounds<u64>, bound: i64) -> Result<Option<u64>, Refusal> {
+    pub fn where_first_at_most(&self, range: impl Indices, bound: i64) -> Result<Option<u64>, Refusal> {
         self.index_of(Sought::FirstAtMost(bound), range)
     }
 
     /// The same of the last element that is at least `bound`.
-    pub fn where_last_at_least(&self, range: impl RangeBounds<u64>, bound: i64) -> Result<Option<u64>, Refusal> {
+    pub fn where_last_at_least(&self, range: impl Indices, bound: i64) -> Result<Option<u64>, Refusal> {
         self.index_of(Sought::LastAtLeast(bound), range)
     }
 
     /// The same of the last element that is at most `bound`. It asks the kind of the least.
-    pub fn where_last_at_most(&self, range: impl RangeBounds<u64>, bound: i64) -> Result<Option<u64>, Refusal> {
+    pub fn where_last_at_most(&self, range: impl Indices, bound: i64) -> Result<Option<u64>, Refusal> {
         self.index_of(Sought::LastAtMost(bound), range)
     }
 
-    fn found(&self, what: Sought, range: impl RangeBounds<u64>) -> Result<Option<Found>, Refusal> {
-        let (lo, hi) = self.ends(&range);
+    fn found(&self, what: Sought, range: impl Indices) -> Result<Option<Found>, Refusal> {
+        let (lo, hi) = self.ends(range);
         self.raw.find(what, lo, hi)
     }
 
-    fn index_of(&self, what: Sought, range: impl RangeBounds<u64>) -> Result<Option<u64>, Refusal> {
+    fn index_of(&self, what: Sought, range: impl Indices) -> Result<Option<u64>, Refusal> {
         Ok(self.found(what, range)?.map(|found| found.lo))
     }
 }

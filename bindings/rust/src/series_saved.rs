@@ -9,12 +9,12 @@ use crate::{Refusal, Samples, Series, raw};
 const AT_ONCE: usize = 1 << 16;
 
 impl Series {
-    /// How many bytes [`save`](Series::save) gives: 88, and 8 for each element. Of the values of [`Samples`] it is 16 for each.
+    /// How many bytes [`save`](Series::save) gives: 88, and 8 for each element. Of the values of [`Samples`] it is 16 for each. O(1).
     pub fn saved_len(&self) -> u64 {
         self.raw.saved_length()
     }
 
-    /// The series as bytes, which [`load`](Series::load) takes. Trees aren't saved. The layout is told in `docs/formats.md` of the repository.
+    /// The series as bytes, which [`load`](Series::load) takes. Linear. Trees aren't saved. The layout is told in `docs/formats.md` of the repository.
     /// Refused with `NoMemory`.
     ///
     /// ```
@@ -60,7 +60,7 @@ impl Series {
         }
     }
 
-    /// The series that has these bytes: the same elements under the same indices, and the next edit has the next number. Refused with
+    /// The series that has these bytes: the same elements under the same indices, and the next edit has the next number. Linear. Refused with
     /// `NotSaved` where they are not exactly those of a series, and with `NoMemory`.
     pub fn load(bytes: &[u8]) -> Result<Series, Refusal> {
         let mut loading = Loading::new(false)?;
@@ -76,7 +76,7 @@ impl Series {
 }
 
 impl Samples {
-    /// The samples as bytes, which [`load`](Samples::load) takes; `values().save_into(..)` gives them in pieces. Refused with `NoMemory`.
+    /// The samples as bytes, which [`load`](Samples::load) takes; `values().save_into(..)` gives them in pieces. Linear. Refused with `NoMemory`.
     pub fn save(&self) -> Result<Vec<u8>, Refusal> {
         self.values().save()
     }

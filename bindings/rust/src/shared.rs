@@ -7,13 +7,14 @@ use std::sync::atomic::Ordering;
 use crate::shared_lock::Lock;
 use crate::shared_subscriber::Subscriber;
 use crate::{
-    Indices, Kind, Popped, Pushed, Queries, Reduced, Refusal, RefusedAt, Reserved, Stopped, Swapped, Truncated, Value, Vector, Written,
-    shared_workers,
+    Answered, AsIndex, Indices, Kind, Popped, Pushed, Queries, Reduced, Refusal, RefusedAt, Reserved, Swapped, Truncated, Value, Vector,
+    Written, shared_workers,
 };
 
 /// A [`Vector`] that threads share: each clone is a handle of the same vector.
 ///
-/// Edits and questions take a lock for one call; [`with`](Shared::with) takes it for several. Workers compute summaries beside them, without the
+/// Edits and questions take a lock for one call, and cost what those of a [`Vector`] do, with the wait for it; [`with`](Shared::with) takes it for
+/// several. Workers compute summaries beside them, without the
 /// lock, and [`Subscriber`]s sleep until an edit changes what they ask. Each edit tells its number, so that who edits has a receipt.
 ///
 /// ```
@@ -76,32 +77,32 @@ impl Shared {
     }
 
     /// As [`Vector::write`].
-    pub fn write(&self, index: u32, value: i64) -> Result<Written, Refusal> {
+    pub fn write(&self, index: impl AsIndex, value: i64) -> Result<Written, Refusal> {
         self.edit(|vector| vector.write(index, value))
     }
 
     /// As [`Vector::swap`].
-    pub fn swap(&self, first: u32, second: u32) -> Result<Swapped, Refusal> {
+    pub fn swap(&self, first: impl AsIndex, second: impl AsIndex) -> Result<Swapped, Refusal> {
         self.edit(|vector| vector.swap(first, second))
     }
 
     /// As [`Vector::truncate`].
-    pub fn truncate(&self, elements: u32) -> Result<Truncated, Refusal> {
+    pub fn truncate(&self, elements: impl AsIndex) -> Result<Truncated, Refusal> {
         self.edit(|vector| vector.truncate(elements))
     }
 
     /// As [`Vector::reserve`].
-    pub fn reserve(&self, elements: u32) -> Result<Reserved, Refusal> {
+    pub fn reserve(&self, elements: impl AsIndex) -> Result<Reserved, Refusal> {
         self.edit(|vector| vector.reserve(elements))
     }
 
     /// As [`Vector::extend_from_slice`]: no other edit comes between. Tells the number of the last edit.
-    pub fn extend_from_slice(&self, values: &[i64]) -> Result<u32, Stopped> {
+    pub fn extend_from_slice(&self, values: &[i64]) -> Result<u32, RefusedAt> {
         let told = self.lock.edit(|vector| {
             let told = vector.extend_from_slice(values);
-            (told, told.map_or_else(|stopped| stopped.pushed > 0, |_| !values.is_empty()))
+            (told, told.is_ok() && !values.is_empty())
         });
-        told.unwrap_or_else(|refusal| Err(Stopped { pushed: 0, refusal }))
+        told.unwrap_or_else(|refusal| Err(RefusedAt::of_all(refusal)))
     }
 
     /// As [`Vector::write_many`]: no other edit comes between. Tells the number of the last edit.
@@ -114,7 +115,7 @@ impl Shared {
     }
 
     /// As [`Vector::get`].
-    pub fn get(&self, index: u32) -> Result<i64, Refusal> {
+    pub fn get(&self, index: impl AsIndex) -> Result<i64, Refusal> {
         self.lock.read(|vector| vector.get(index))?
     }
 
@@ -156,6 +157,16 @@ impl Shared {
     /// As [`Vector::value`].
     pub fn value(&self, kind: Kind, range: impl Indices) -> Result<Value, Refusal> {
         self.lock.read(|vector| vector.value(kind, range))?
+    }
+
+    /// As [`Vector::value_at_edit`]: by [`edits`](Shared::edits) another thread's later edit may be told.
+    pub fn value_at_edit(&self, kind: Kind, range: impl Indices) -> Result<Answered, Refusal> {
+        self.lock.read(|vector| vector.value_at_edit(kind, range))?
+    }
+
+    /// As [`Vector::total`]: the exact sum.
+    pub fn total(&self, range: impl Indices) -> Result<i128, Refusal> {
+        self.lock.read(|vector| vector.total(range))?
     }
 
     /// As [`Vector::reduce`], which tells after which edit the values are so.

@@ -32,7 +32,7 @@ impl Subtree {
         self.number
     }
 
-    /// Computes all. Refused with `NoMemory`; the job is let go then, and since nothing is claimed by it, the vector has the work still.
+    /// Computes all, of 4,096 elements. Refused with `NoMemory`; the job is let go then, and since nothing is claimed by it, the vector has the work still.
     pub fn run(mut self) -> Result<SubtreeOutcome, Refusal> {
         self.raw.run()?;
         Ok(SubtreeOutcome { raw: self.raw, number: self.number })

@@ -32,6 +32,9 @@ pub struct Summary {
     bytes: raw::SummaryBytes,
 }
 
+// where the total lies among the bytes, as docs/engines.md of the repository has their layout
+const TOTAL: std::ops::Range<usize> = 56..72;
+
 impl Summary {
     /// How many bytes a summary has.
     pub const BYTES: usize = size_of::<raw::SummaryBytes>();
@@ -40,7 +43,7 @@ impl Summary {
         Summary { bytes }
     }
 
-    /// The summary of no elements, by the automaton of [`Vector::new`](crate::Vector::new). Joined with another on either side it changes
+    /// The summary of no elements, O(1), by the automaton of [`Vector::new`](crate::Vector::new). Joined with another on either side it changes
     /// nothing of it but that its edit is no longer told.
     pub fn empty() -> Summary {
         Summary { bytes: raw::summary_of_nothing() }
@@ -51,7 +54,7 @@ impl Summary {
         raw::summary_of_nothing_with_table(table).map(Summary::of_raw)
     }
 
-    /// The summary of the elements of a slice, by the automaton of [`Vector::new`](crate::Vector::new). Refused with `TooLong` alone.
+    /// The summary of the elements of a slice, by the automaton of [`Vector::new`](crate::Vector::new). Linear. Refused with `TooLong` alone.
     ///
     /// ```
     /// # fn main() -> Result<(), livevec::Refusal> {
@@ -64,12 +67,12 @@ impl Summary {
         Summary::empty().extended(elements)
     }
 
-    /// The summary of these elements, and then those of a slice. Its edit is not told. Refused with `TooLong` alone.
+    /// The summary of these elements, and then those of a slice, in which it is linear. Its edit is not told. Refused with `TooLong` alone.
     pub fn extended(&self, elements: &[i64]) -> Result<Summary, Refusal> {
         raw::extended(&self.bytes, elements).map(Summary::of_raw)
     }
 
-    /// The summary of these elements, and then those of `right`. Its edit is not told. Refused with `OtherTable`, `TooLong`, in this order.
+    /// The summary of these elements, and then those of `right`. O(1). Its edit is not told. Refused with `OtherTable`, `TooLong`, in this order.
     ///
     /// ```
     /// use livevec::{Refusal, Summary};
@@ -88,12 +91,25 @@ impl Summary {
         raw::joined(&self.bytes, &right.bytes).map(Summary::of_raw)
     }
 
-    /// The values of the elements.
+    /// The values of the elements. O(1).
     pub fn values(&self) -> Values {
         Values::of_raw(self.opened().values)
     }
 
-    /// How many elements it is of.
+    /// The sum of the elements, which is exact: it never wraps, as [`Values::sum`] may. O(1).
+    ///
+    /// ```
+    /// # fn main() -> Result<(), livevec::Refusal> {
+    /// let summary = livevec::Summary::of(&[i64::MAX, i64::MAX, 5])?;
+    /// assert_eq!(summary.total(), 2 * i128::from(i64::MAX) + 5);
+    /// # Ok(())
+    /// # }
+    /// ```
+    pub fn total(&self) -> i128 {
+        i128::from_le_bytes(self.bytes[TOTAL].try_into().expect("there are 16 bytes"))
+    }
+
+    /// How many elements it is of. O(1).
     pub fn count(&self) -> u64 {
         self.opened().count
     }
@@ -114,7 +130,7 @@ impl Summary {
         self.bytes
     }
 
-    /// The summary of such bytes, from wherever they come. Refused with `OtherVersion`, also where they are not [`Summary::BYTES`] many, and
+    /// The summary of such bytes, from wherever they come. O(1). Refused with `OtherVersion`, also where they are not [`Summary::BYTES`] many, and
     /// then with `Damaged`.
     ///
     /// ```

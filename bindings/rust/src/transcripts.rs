@@ -62,7 +62,8 @@ pub enum NotRestored {
 }
 
 impl Verdict {
-    /// Audits bytes as a transcript, by the automaton of [`Vector::new`]: each edit is made anew, and each answer computed plainly. Refused
+    /// Audits bytes as a transcript, by the automaton of [`Vector::new`]: each edit is made anew, and each answer computed plainly. Linear in
+    /// the text, and each answer in its range. Refused
     /// with `TooLong` (more than 2^30 bytes), `NoMemory`.
     ///
     /// ```
@@ -115,7 +116,7 @@ impl FrontVerdict {
 }
 
 impl Vector {
-    /// The accepted edits behind the first `from`, in order: all of them from 0 on. Refused with `NoMemory` alone.
+    /// The accepted edits behind the first `from`, in order: all of them from 0 on. Linear. Refused with `NoMemory` alone.
     ///
     /// ```
     /// use livevec::{Edit, Vector};
@@ -137,7 +138,7 @@ impl Vector {
     }
 
     /// The text of the transcript of all edits and of answers, which rise by their edits. It is sound where each answer is true, which is for
-    /// [`Verdict::of`] to say. Refused with `NotInOrder`, `NoMemory`.
+    /// [`Verdict::of`] to say. Linear in both. Refused with `NotInOrder`, `NoMemory`.
     ///
     /// ```
     /// use livevec::{Recorded, Value, Vector, Verdict};
@@ -161,7 +162,7 @@ impl Vector {
     }
 
     /// A vector with the edits of a front, made anew within limits: what follows has the numbers behind them. Its answers are audited, and not
-    /// kept.
+    /// kept. It costs what an audit does.
     ///
     /// ```
     /// use livevec::{FrontVerdict, Limits, NotRestored, Vector};

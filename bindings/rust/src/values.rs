@@ -149,43 +149,20 @@ pub enum Edit {
     Truncate(u32),
 }
 
-/// A list of pushes of which one was refused: none of them was made.
-#[derive(Clone, Copy, Debug, PartialEq, Eq, Hash)]
-pub struct Stopped {
-    /// How many elements were pushed: none.
-    pub pushed: usize,
-    /// Why the first one that was refused was.
-    pub refusal: Refusal,
-}
-
-impl fmt::Display for Stopped {
-    fn fmt(&self, f: &mut fmt::Formatter<'_>) -> fmt::Result {
-        write!(f, "{} pushed: {}", self.pushed, self.refusal)
-    }
-}
-
-impl std::error::Error for Stopped {
-    fn source(&self) -> Option<&(dyn std::error::Error + 'static)> {
-        Some(&self.refusal)
-    }
-}
-
-impl From<Stopped> for Refusal {
-    fn from(stopped: Stopped) -> Refusal {
-        stopped.refusal
-    }
-}
-
-/// Many writes, or many questions, of which one was refused.
+/// Many pushes, many writes, or many questions, of which one was refused. By `?` it becomes its [`Refusal`], so that a function has one error type.
 #[derive(Clone, Copy, Debug, PartialEq, Eq, Hash)]
 pub struct RefusedAt {
     /// Which one was refused, counted from 0; 0 where all were refused alike.
     pub place: usize,
-    /// How many writes were made: none.
+    /// How many pushes or writes were made: none, but of [`Samples::push_many`](crate::Samples::push_many), which goes up to the one that was refused.
     pub done: usize,
     /// Why it was refused.
     pub refusal: Refusal,
 }
+
+/// As it was called of pushes.
+#[deprecated(note = "it is `RefusedAt` now, whose `done` is what `pushed` was")]
+pub type Stopped = RefusedAt;
 
 impl RefusedAt {
     /// Where all were refused alike.

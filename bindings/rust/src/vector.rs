@@ -3,7 +3,7 @@
 use std::fmt;
 
 use crate::elements::Elements;
-use crate::indices::Indices;
+use crate::indices::{AsIndex, Indices, narrow};
 use crate::values::ends;
 use crate::{Edit, Kind, Limits, Popped, Pushed, Refusal, Reserved, Swapped, Truncated, Written, raw};
 
@@ -48,12 +48,12 @@ pub struct Vector {
 }
 
 impl Vector {
-    /// A vector with no elements and no edits, of the greatest limits. Refused with `NoMemory` alone.
+    /// A vector with no elements and no edits, of the greatest limits. O(1). Refused with `NoMemory` alone.
     pub fn new() -> Result<Vector, Refusal> {
         Vector::with_limits(Limits::GREATEST)
     }
 
-    /// A vector of limits of its own. Refused with `NoMemory` alone.
+    /// A vector of limits of its own. O(1). Refused with `NoMemory` alone.
     pub fn with_limits(limits: Limits) -> Result<Vector, Refusal> {
         Ok(Vector { raw: raw::Vector::new(limits.buckets(), limits.edits())?, limits, table: None, only: None })
     }
@@ -109,38 +109,39 @@ impl Vector {
         Ok(Vector { raw: raw::Vector::with_table(limits.buckets(), limits.edits(), table)?, limits, table: Some(*table), only: None })
     }
 
-    /// Puts an element at the end. Refused with `Worn`, `Full`, `NoMemory`, in this order.
+    /// Puts an element at the end. O(1) amortised. Refused with `Worn`, `Full`, `NoMemory`, in this order.
     pub fn push(&mut self, value: i64) -> Result<Pushed, Refusal> {
         self.raw.push(value).map(|did| Pushed { edit: did.edit, index: did.place })
     }
 
-    /// Drops the last element. Refused with `Worn`, `Empty`, `NoMemory`, in this order.
+    /// Drops the last element. O(1). Refused with `Worn`, `Empty`, `NoMemory`, in this order.
     pub fn pop(&mut self) -> Result<Popped, Refusal> {
         self.raw.pop().map(|did| Popped { edit: did.edit, value: did.value })
     }
 
-    /// Overwrites an element. Refused with `Worn`, `OutOfRange`, `NoMemory`, in this order.
-    pub fn write(&mut self, index: u32, value: i64) -> Result<Written, Refusal> {
-        self.raw.write(index, value).map(|did| Written { edit: did.edit, before: did.value })
+    /// Overwrites an element. O(1) amortised: the next question computes anew what it touched. Refused with `Worn`, `OutOfRange`, `NoMemory`, in this order.
+    pub fn write(&mut self, index: impl AsIndex, value: i64) -> Result<Written, Refusal> {
+        self.raw.write(narrow(index), value).map(|did| Written { edit: did.edit, before: did.value })
     }
 
-    /// Makes room for so many elements in all. Refused with `Worn`, `TooLarge`, `NoMemory`, in this order. It is an edit like any other.
-    pub fn reserve(&mut self, elements: u32) -> Result<Reserved, Refusal> {
-        self.raw.reserve(elements).map(|did| Reserved { edit: did.edit, capacity: did.place })
+    /// Makes room for so many elements in all: linear in the room. Refused with `Worn`, `TooLarge`, `NoMemory`, in this order. It is an edit
+    /// like any other.
+    pub fn reserve(&mut self, elements: impl AsIndex) -> Result<Reserved, Refusal> {
+        self.raw.reserve(narrow(elements)).map(|did| Reserved { edit: did.edit, capacity: did.place })
     }
 
-    /// Exchanges the elements at two indices, which may be one. Refused with `Worn`, `OutOfRange`, `NoMemory`, in this order.
-    pub fn swap(&mut self, first: u32, second: u32) -> Result<Swapped, Refusal> {
-        self.raw.swap(first, second).map(|did| Swapped { edit: did.edit, first: did.value })
+    /// Exchanges the elements at two indices, which may be one. O(1) amortised. Refused with `Worn`, `OutOfRange`, `NoMemory`, in this order.
+    pub fn swap(&mut self, first: impl AsIndex, second: impl AsIndex) -> Result<Swapped, Refusal> {
+        self.raw.swap(narrow(first), narrow(second)).map(|did| Swapped { edit: did.edit, first: did.value })
     }
 
-    /// Keeps so many elements, the first ones, and drops the others. Refused with `Worn`, `OutOfRange`, `NoMemory`, in this order. It gives
+    /// Keeps so many elements, the first ones, and drops the others. O(1). Refused with `Worn`, `OutOfRange`, `NoMemory`, in this order. It gives
     /// no memory back.
-    pub fn truncate(&mut self, elements: u32) -> Result<Truncated, Refusal> {
-        self.raw.truncate(elements).map(|did| Truncated { edit: did.edit, dropped: did.place })
+    pub fn truncate(&mut self, elements: impl AsIndex) -> Result<Truncated, Refusal> {
+        self.raw.truncate(narrow(elements)).map(|did| Truncated { edit: did.edit, dropped: did.place })
     }
 
-    /// Why an edit would be refused, want of memory apart, or `Ok` where it would be accepted. Changes nothing.
+    /// Why an edit would be refused, want of memory apart, or `Ok` where it would be accepted. O(1), and changes nothing.
     ///
     /// ```
     /// use livevec::{Edit, Limits, Refusal, Vector};
@@ -158,17 +159,17 @@ impl Vector {
         self.raw.verdict(edit)
     }
 
-    /// The element at an index. Refused with `OutOfRange` alone.
-    pub fn get(&self, index: u32) -> Result<i64, Refusal> {
-        self.raw.get(index)
+    /// The element at an index. O(1). Refused with `OutOfRange` alone.
+    pub fn get(&self, index: impl AsIndex) -> Result<i64, Refusal> {
+        self.raw.get(narrow(index))
     }
 
-    /// The last element, if there is one.
+    /// The last element, if there is one. O(1).
     pub fn last(&self) -> Option<i64> {
         self.get(self.len().checked_sub(1)?).ok()
     }
 
-    /// How many elements there are.
+    /// How many elements there are. O(1).
     pub fn len(&self) -> u32 {
         self.raw.size()
     }
@@ -178,17 +179,17 @@ impl Vector {
         self.len() == 0
     }
 
-    /// How many elements have room without another bucket.
+    /// How many elements have room without another bucket. O(1).
     pub fn capacity(&self) -> u32 {
         self.raw.capacity()
     }
 
-    /// The number of the last edit, which is how many were accepted.
+    /// The number of the last edit, which is how many were accepted. O(1).
     pub fn edits(&self) -> u32 {
         self.raw.edits()
     }
 
-    /// The elements, from the first on. While the iterator lives the vector can't be edited:
+    /// The elements, from the first on; O(1) for each. While the iterator lives the vector can't be edited:
     ///
     /// ```compile_fail
     /// let mut vector = livevec::Vector::new().unwrap();
@@ -207,10 +208,10 @@ impl Vector {
     /// # }
     /// ```
     pub fn iter(&self) -> Elements<'_> {
-        Elements::new(self, 0, self.len())
+        Elements::new(self, 0, self.len().into())
     }
 
-    /// The elements of a range. Refused with `BadRange`, `OutOfRange`, in this order.
+    /// The elements of a range; O(1) for each. Refused with `BadRange`, `OutOfRange`, in this order.
     pub fn elements(&self, range: impl Indices) -> Result<Elements<'_>, Refusal> {
         let (lo, hi) = ends(range, || self.len());
         if lo > hi {
@@ -220,10 +221,10 @@ impl Vector {
         if hi > size {
             return Err(Refusal::OutOfRange { size });
         }
-        Ok(Elements::new(self, lo, hi))
+        Ok(Elements::new(self, lo.into(), hi.into()))
     }
 
-    /// Fills the front of a buffer with the elements of a range, and gives that front.
+    /// Fills the front of a buffer with the elements of a range, by one call, and gives that front. Linear in the range.
     /// Refused with `BadRange`, `OutOfRange`, then `ShortBuffer`.
     pub fn read_into<'a>(&self, range: impl Indices, buffer: &'a mut [i64]) -> Result<&'a mut [i64], Refusal> {
         let (lo, hi) = ends(range, || self.len());

@@ -1,7 +1,7 @@
 //! That many pushes at a series change nothing where memory is wanting. It stands alone, for what it limits is its whole process.
 #![cfg(target_os = "linux")]
 
-use livevec::{Kind, Refusal, Series, Value, series};
+use livevec::{Kind, Refusal, RefusedAt, Series, Value};
 
 #[repr(C)]
 struct Limit {
@@ -35,7 +35,7 @@ fn want_of_memory_changes_nothing() {
     limited(pages * 4096 + (16 << 20), limit.most);
     let refused = series.extend_from_slice(&more);
     limited(limit.now, limit.most);
-    assert_eq!(refused, Err(series::Stopped { pushed: 0, refusal: Refusal::NoMemory }));
+    assert_eq!(refused, Err(RefusedAt { place: 0, done: 0, refusal: Refusal::NoMemory }));
     assert_eq!((series.size(), series.edits(), series.value(Kind::Sum, ..)), (2, 2, Ok(Value::Sum(12))));
     assert_eq!(series.extend_from_slice(&more), Ok(16_000_002));
     assert_eq!(series.sum(2..), Ok(more.iter().sum()));

@@ -7,7 +7,7 @@ use std::sync::mpsc;
 use std::thread;
 use std::time::Duration;
 
-use livevec::{Kind, Limits, Note, Queries, Refusal, RefusedAt, Shared, Stopped, Value, Vector};
+use livevec::{Kind, Limits, Note, Queries, Refusal, RefusedAt, Shared, Value, Vector};
 use plain::until;
 
 fn watching(kind: Kind) -> Queries {
@@ -50,7 +50,7 @@ fn a_subscriber_looks_sleeps_and_has_the_last_notes() {
     assert!(late.next().is_none());
 
     assert_eq!(clone.push(1), Err(Shared::CLOSED));
-    assert_eq!(clone.extend_from_slice(&[1]), Err(Stopped { pushed: 0, refusal: Shared::CLOSED }));
+    assert_eq!(clone.extend_from_slice(&[1]), Err(RefusedAt { place: 0, done: 0, refusal: Shared::CLOSED }));
     assert_eq!(clone.write_many(&[0], &[1]).unwrap_err().refusal, Shared::CLOSED);
     assert_eq!(clone.with(|vector| vector.push(1)).err(), Some(Shared::CLOSED));
     assert_eq!(clone.start_workers(1), Err(Shared::CLOSED));
@@ -90,7 +90,7 @@ fn what_is_refused_changes_nothing() {
     assert_eq!(shared.truncate(1), Err(Refusal::OutOfRange { size: 0 }));
     assert_eq!(shared.reserve(9), Err(Refusal::TooLarge { limit: 8 }));
     assert_eq!((shared.edits(), shared.is_empty(), alerts.look()), (Ok(0), Ok(true), Ok(Vec::new())));
-    assert_eq!(shared.extend_from_slice(&[2; 9]), Err(Stopped { pushed: 0, refusal: Refusal::Full }));
+    assert_eq!(shared.extend_from_slice(&[2; 9]), Err(RefusedAt { place: 8, done: 0, refusal: Refusal::Full }));
     assert_eq!((shared.edits(), alerts.look(), shared.extend_from_slice(&[2; 8])), (Ok(0), Ok(Vec::new()), Ok(8)));
     assert_eq!(told(alerts.next()), [(8, Value::Sum(16))]);
     let refused = shared.write_many(&[0, 8], &[1, 1]);

@@ -2,7 +2,7 @@
 
 mod plain;
 
-use livevec::{Kind, Limits, Refusal, RefusedAt, Stopped, Value, Vector};
+use livevec::{Kind, Limits, Refusal, RefusedAt, Value, Vector};
 use plain::{numbers, of, plain};
 
 #[test]
@@ -106,8 +106,8 @@ fn many_are_refused_by_the_first_that_is() {
         (RefusedAt { place: 1, done: 0, refusal: Refusal::Worn }, "at place 1: the limit of edits is reached".into())
     );
     assert_eq!((vector.to_vec().unwrap(), vector.edits()), (vec![6, 1, 2], 5));
-    let stopped = Stopped { pushed: 0, refusal: Refusal::Worn };
-    assert_eq!((vector.extend_from_slice(&[1, 1]), vector.try_extend([1, 1])), (Err(stopped), Err(stopped)));
+    let refused = RefusedAt { place: 1, done: 0, refusal: Refusal::Worn };
+    assert_eq!((vector.extend_from_slice(&[1, 1]), vector.try_extend([1, 1])), (Err(refused), Err(refused)));
     assert_eq!((vector.to_vec().unwrap(), vector.edits(), vector.extend_from_slice(&[])), (vec![6, 1, 2], 5, Ok(5)));
     assert_eq!((vector.try_extend([4]), vector.to_vec().unwrap()), (Ok(6), vec![6, 1, 2, 4]));
 }

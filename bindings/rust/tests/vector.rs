@@ -35,7 +35,7 @@ fn a_vector_of_one_kind_refuses_the_others() {
             assert_eq!(many.err().map_or(113, |refused| refused.refusal.number()), 113);
         }
         let clone = vector.try_clone().unwrap();
-        assert_eq!((&clone == &vector, clone.kind()), (true, Some(kind)));
+        assert_eq!((clone == vector, clone.kind()), (true, Some(kind)));
         for vector in [&vector, &clone] {
             assert_eq!((vector.ask(..).err(), vector.reduce(9..1).err()), (Some(Refusal::BadKind), Some(Refusal::BadKind)));
             assert_eq!(vector.scan_inclusive(..).err(), Some(Refusal::BadKind));
@@ -175,7 +175,7 @@ fn what_has_no_room_is_refused_or_panics() {
     assert_eq!(Vector::try_from_iter(std::iter::repeat(0)).err(), Some(Refusal::Full));
     let mut small = Vector::with_limits(Limits::new(1, 100).unwrap()).unwrap();
     let told = std::panic::catch_unwind(std::panic::AssertUnwindSafe(|| small.extend(0..10))).unwrap_err();
-    assert_eq!(told.downcast_ref::<String>().unwrap(), "0 pushed: full: there are as many elements as the limits allow");
+    assert_eq!(told.downcast_ref::<String>().unwrap(), "at place 8: full: there are as many elements as the limits allow");
     assert_eq!((small.is_empty(), small.edits()), (true, 0));
     small.extend(0..8);
     assert_eq!(small, [0, 1, 2, 3, 4, 5, 6, 7]);

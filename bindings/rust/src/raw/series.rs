@@ -29,7 +29,8 @@ pub(crate) struct Edited {
 struct PushedMany {
     refusal: u32,
     edit: u64,
-    pushed: u64,
+    // all, or none
+    _pushed: u64,
 }
 
 #[repr(C)]
@@ -147,11 +148,11 @@ impl Series {
         edited(unsafe { livevec_series_expire(self.slot.get(), index) })
     }
 
-    /// The number of the last edit; or how many were pushed, which is none, and why they were refused.
-    pub(crate) fn push_many(&mut self, values: &[i64]) -> Result<u64, (usize, Refusal)> {
+    /// The number of the last edit. Where one is refused none is pushed.
+    pub(crate) fn push_many(&mut self, values: &[i64]) -> Result<u64, Refusal> {
         // SAFETY: see above; so many elements are read from a slice that has them.
         let did = unsafe { livevec_series_push_many(self.slot.get(), values.as_ptr(), values.len()) };
-        answered(did.refusal, 0, 0, did.edit).map_err(|refusal| (did.pushed as usize, refusal))
+        answered(did.refusal, 0, 0, did.edit)
     }
 
     pub(crate) fn get(&self, index: u64) -> Result<i64, Refusal> {

@@ -11,7 +11,8 @@ struct PushedMany {
     detail: u32,
     // the last edit, which is asked for by itself
     _edit: u32,
-    pushed: u32,
+    // all, or none
+    _pushed: u32,
 }
 
 #[repr(C)]
@@ -133,11 +134,11 @@ impl Vector {
         answered(told.refusal, told.detail, ())
     }
 
-    /// How many were pushed, with the refusal that stopped it, if there was one.
-    pub(crate) fn push_many(&mut self, values: &[i64]) -> (usize, Option<Refusal>) {
+    /// Where one is refused none is pushed.
+    pub(crate) fn push_many(&mut self, values: &[i64]) -> Result<(), Refusal> {
         // SAFETY: see above; so many elements are read from a slice that has them.
         let did = unsafe { livevec_push_many(self.slot.get(), values.as_ptr(), values.len()) };
-        (did.pushed as usize, answered(did.refusal, did.detail, ()).err())
+        answered(did.refusal, did.detail, ())
     }
 
     /// The last edit, where all were written; as many values as indices are given.

@@ -1,0 +1,251 @@
+"""What is asked by one kind: the value of a range, of many ranges, and of a window that rolls over them. It is alike of a vector, a series and samples."""
+from __future__ import annotations
+
+import ctypes
+import struct
+from array import array
+from typing import TYPE_CHECKING, Any, Iterable, Optional, Sequence, Union, overload
+
+from ._buffers import _address, _as_column
+from ._kinds import _Chosen, _kind_of, _Mapped, _Stated, _Summed, _Value, Kind
+from ._numbers import _whole
+from ._ranges import _as_rows, _as_table
+from ._refusals import BadKind, ShortBuffer
+from ._scans import _CELLS, Column
+from ._structures import _Values
+from ._values import _cells_in, _signed, _value_of, _values_in
+
+if TYPE_CHECKING:
+    from _typeshed import WriteableBuffer
+
+    from ._buffers import _NumpyArray
+
+    # pairs one by one, or a buffer of two columns
+    _Ranges = Union[Iterable[Sequence[Optional[int]]], memoryview, _NumpyArray]
+
+
+class _ByKind:
+    """The part of `Vector`, `SharedVector`, `Series` and `Samples` that answers about one range by one kind.
+
+    What a question costs: of a series, O(log n) by the kind's tree, which the first question by that kind makes in O(n). Of a vector, O(log n), and
+    at most as much again for each edit since the last question by that kind: O(n) at first."""
+
+    __slots__ = ()
+
+    @overload
+    def value(self, kind: _Summed, lo: Optional[int] = None, hi: Optional[int] = None) -> int: ...
+    @overload
+    def value(self, kind: _Chosen, lo: Optional[int] = None, hi: Optional[int] = None) -> Optional[int]: ...
+    @overload
+    def value(self, kind: _Mapped, lo: Optional[int] = None, hi: Optional[int] = None) -> tuple[int, int]: ...
+    @overload
+    def value(self, kind: _Stated, lo: Optional[int] = None, hi: Optional[int] = None) -> tuple[int, ...]: ...
+    @overload
+    def value(self, kind: Union[Kind, str], lo: Optional[int] = None, hi: Optional[int] = None) -> _Value: ...
+    def value(self, kind: Union[Kind, str], lo: Optional[int] = None, hi: Optional[int] = None) -> _Value:
+        """The value of a range by one kind, a `Kind` or its name, as `Values` has it: a number of the sum; a number, or None of an empty range, of
+        the least, the greatest and the best; a pair of affine; eight states of the automaton.
+
+        Only that kind is computed. Of a series it costs O(log n) by the kind's tree, which the first question by a kind makes in O(n). A vector
+        keeps what it computes: O(log n), and at most as much again for each edit since the last question by that kind, so O(n) at first.
+
+        Raises BadRange, then OutOfRange (NotKept of a series, then NoMemory); ValueError of what is no kind."""
+        of = _kind_of(kind)
+        return _value_of(of, self._valued(of, lo, hi))
+
+    def sum(self, lo: Optional[int] = None, hi: Optional[int] = None) -> int:
+        """The sum, wherever it fits 64 bits; else modulo 2**64, as `Values.sum` has it. Costs what `value` does, and raises as it does."""
+        return _signed(self._valued(Kind.SUM, lo, hi).sum)
+
+    def least(self, lo: Optional[int] = None, hi: Optional[int] = None) -> Optional[int]:
+        """The least element; None of an empty range. Costs what `value` does, and raises as it does."""
+        values = self._valued(Kind.LEAST, lo, hi)
+        return values.least if values.any else None
+
+    def greatest(self, lo: Optional[int] = None, hi: Optional[int] = None) -> Optional[int]:
+        """The greatest element; None of an empty range. Costs what `value` does, and raises as it does."""
+        values = self._valued(Kind.GREATEST, lo, hi)
+        return values.greatest if values.any else None
+
+    def best(self, lo: Optional[int] = None, hi: Optional[int] = None) -> Optional[int]:
+        """The greatest total of one or more neighbours, which is exact; None of an empty range. Costs what `value` does, and raises as it does."""
+        values = self._valued(Kind.BEST, lo, hi)
+        return (values.best_high << 64) + values.best_low if values.any else None
+
+    # Within: by a call of its own.
+
+    def _valued(self, kind: Kind, lo: Optional[int], hi: Optional[int]) -> _Values:
+        raise NotImplementedError
+
+
+class _ManyByKind(_ByKind):
+    """The part of `Vector`, `Series` and `Samples` that answers about many ranges by one kind."""
+
+    __slots__ = ()
+    # the numbers of an index, as `array` names them
+    _index_code: str
+
+    @overload
+    def value_many(  # type: ignore[misc]
+        self, kind: _Summed, ranges: _Ranges, *, into: None = None) -> list[int]: ...
+    @overload
+    def value_many(  # type: ignore[misc]
+        self, kind: _Chosen, ranges: _Ranges, *, into: None = None) -> list[Optional[int]]: ...
+    @overload
+    def value_many(  # type: ignore[misc]
+        self, kind: _Mapped, ranges: _Ranges, *, into: None = None) -> list[tuple[int, int]]: ...
+    @overload
+    def value_many(  # type: ignore[misc]
+        self, kind: _Stated, ranges: _Ranges, *, into: None = None) -> list[tuple[int, ...]]: ...
+    @overload
+    def value_many(self, kind: Union[Kind, str], ranges: _Ranges, *, into: None = None) -> list[_Value]: ...
+    @overload
+    def value_many(self, kind: Union[Kind, str], ranges: _Ranges, *, into: Union[WriteableBuffer, _NumpyArray]) -> int: ...
+    def value_many(self, kind: Union[Kind, str], ranges: _Ranges, *, into: Any = None) -> Any:
+        """The value of each range by one kind, by one call of C, all after the last edit.
+
+        A range is a pair `lo, hi`, whose ends are taken as `value` takes them, None too. They come in a list or anything else that can be gone
+        through, or in a buffer of two columns, as a numpy array of n times 2 whole numbers, or a pandas frame of two such columns. An array of
+        int64 isn't gone through number by number. Other threads run meanwhile; of it and an edit of theirs at this object, the second raises
+        Busy.
+
+        `into` is a column that takes the values, and their number is what is given then: without it they are a list. The column is as
+        `scan_inclusive_into` wants it, and what it has behind stays; of an empty range the least, the greatest and the best are 0 there. No
+        Python number is made of a value.
+
+        Each range costs what `value` does, without the way into C and back. Raises BadRange, or OutOfRange (NotKept of a series), where a range is
+        refused: its `place` says which is the first. Raises ShortBuffer of a column with less room, and NoMemory; ValueError of what is no kind
+        or no pair; TypeError of what is no such column. What is raised leaves the column as it was."""
+        of = _kind_of(kind)
+        room = None if into is None else _as_column(into, *_CELLS[of])
+        _, answers, length = self._answers(of, ranges, room)
+        return _values_in(answers, of)[:length] if room is None else _put(answers, of, length, room)
+
+    @overload
+    def rolling(
+        self, kind: Union[Kind, str], window: int, lo: Optional[int] = None, hi: Optional[int] = None, *, into: None = None) -> Column: ...
+    @overload
+    def rolling(
+        self, kind: Union[Kind, str], window: int, lo: Optional[int] = None, hi: Optional[int] = None, *, into: Union[WriteableBuffer, _NumpyArray],
+    ) -> int: ...
+    def rolling(self, kind: Union[Kind, str], window: int, lo: Optional[int] = None, hi: Optional[int] = None, *, into: Any = None) -> Union[Column, int]:
+        """The value by one kind of the last `window` elements up to each element of a range, that one included, as one column.
+
+            >>> from livevec import Series
+            >>> Series([3, 1, 4, 1, 5]).rolling("greatest", 3).cells.tolist()
+            [3, 3, 4, 4, 5]
+
+        A window reaches back behind `lo`, as far as there are elements: so of what was pushed since the last call the new windows alone are asked
+        for. Near the first element a window has fewer. The column is as that of `scan_inclusive_by`, which numpy views without a copy; `into` is
+        one of yours, as `value_many` takes it, and how many cells were written is given then.
+
+        One call of C, which costs what `value_many` does: O(log n) for each element, whatever the window. Raises ValueError of a window below 1, and
+        what `value_many` raises."""
+        if _whole(window, "the window") < 1:
+            raise ValueError(f"a window is of 1 element or more, not of {window}")
+        of = _kind_of(kind)
+        start, lo, hi = self._start(), *self._range(lo, hi)
+        if lo == hi or self._room(lo, hi) != hi - lo:
+            # raises where that is no range of what there is
+            self._valued(of, lo, hi)
+        cut = min(max(start + window - lo, 0), hi - lo)
+        starts = array(self._index_code, [start]) * cut + array(self._index_code, range(lo + cut + 1 - window, hi + 1 - window))
+        return self._rolled(of, starts, lo, hi, into)
+
+    def total(self, lo: Optional[int] = None, hi: Optional[int] = None) -> int:
+        """The sum of a range, exact however large it is: it never wraps.
+
+        It is told by the sum modulo 2**64, the least and the greatest, so it costs three times what `value` does, and of a series makes those three
+        trees. Only where elements are so far apart that these leave it open (of n elements by more than 2**64 / n), or the vector is of one
+        kind, is the range read instead, which is linear. It is more than one call. Raises as `value`."""
+        lo, hi = self._range(lo, hi)
+        low = self._valued(Kind.SUM, lo, hi).sum
+        try:
+            least, greatest = (self._valued(kind, lo, hi) for kind in (Kind.LEAST, Kind.GREATEST))
+        except BadKind:
+            return sum(self.to_array(lo, hi))
+        lowest = (hi - lo) * least.least
+        # one number alone between these has the sum's low 64 bits
+        if (hi - lo) * greatest.greatest - lowest < 1 << 64:
+            return lowest + (low - lowest) % (1 << 64)
+        return sum(self.to_array(lo, hi))
+
+    def to_array(self, lo: Any = None, hi: Optional[int] = None) -> array[int]:
+        raise NotImplementedError
+
+    # Within: by what its parts have, the next six.
+
+    def _start(self) -> int:
+        raise NotImplementedError
+
+    def _room(self, lo: int, hi: int) -> int:
+        raise NotImplementedError
+
+    def _range(self, lo: Optional[int], hi: Optional[int]) -> tuple[int, int]:
+        raise NotImplementedError
+
+    def _pairs(self, rows: list[Any]) -> array[int]:
+        raise NotImplementedError
+
+    def _quick(self, view: memoryview) -> Optional[WriteableBuffer]:
+        """Ranges that needn't be gone through, as C wants them, where a buffer has such."""
+        raise NotImplementedError
+
+    def _asked_many(self, kind: Kind, pairs: WriteableBuffer, answers: bytearray, length: int, is_last: bool) -> Optional[int]:
+        """Asks C, and gives the last edit; None where a range was refused and that is not the last word."""
+        raise NotImplementedError
+
+    def _answers(self, kind: Kind, ranges: Any, room: Optional[memoryview]) -> tuple[int, bytearray, int]:
+        """The last edit, the `_Values` of ranges side by side, and how many they are."""
+        table = _as_table(ranges)
+        quick = None if table is None else self._quick(table)
+        length = 0 if table is None else len(table)
+        if quick is not None:
+            answers = _answers_for(kind, length, room)
+            edit = self._asked_many(kind, quick, answers, length, False)
+            if edit is not None:
+                return edit, answers, length
+        pairs = self._pairs(_as_rows(ranges if table is None else table))
+        length = len(pairs) // 2
+        answers = _answers_for(kind, length, room)
+        edit = self._asked_many(kind, pairs, answers, length, True)
+        assert edit is not None
+        return edit, answers, length
+
+    def _rolled(self, kind: Kind, starts: array[int], lo: int, hi: int, into: Any) -> Union[Column, int]:
+        """The values of the ranges from each of some starts up to each element, it included, as a column."""
+        of, count = _CELLS[kind]
+        room = None if into is None else _as_column(into, of, count)
+        pairs = array(self._index_code, bytes(2 * len(starts) * starts.itemsize))
+        pairs[0::2], pairs[1::2] = starts, array(self._index_code, range(lo + 1, hi + 1))
+        answers = _answers_for(kind, len(starts), room)
+        edit = self._asked_many(kind, pairs, answers, len(starts), True)
+        assert edit is not None
+        if room is not None:
+            return _put(answers, kind, len(starts), room)
+        cells = memoryview(bytearray(len(starts) * count * struct.calcsize(of)))
+        _put(answers, kind, len(starts), cells)
+        # no view of several dimensions has none of its rows
+        return Column(edit, cells.cast(of) if count == 1 or not cells else cells.cast(of, [len(starts), count]))
+
+
+def _answers_for(kind: Kind, length: int, room: Optional[memoryview]) -> bytearray:
+    """Room for so many answers, which are then to go into a column, if there is one. Raises ShortBuffer where that has less."""
+    of, count = _CELLS[kind]
+    if room is not None and room.nbytes < length * count * struct.calcsize(of):
+        raise ShortBuffer(length)
+    return bytearray(max(length, 1) * ctypes.sizeof(_Values))
+
+
+def _put(answers: bytearray, kind: Kind, length: int, room: memoryview) -> int:
+    """Puts the values of a kind into the front of a column."""
+    if length:
+        words = room.cast("B").cast("q")
+        columns = _cells_in(answers, kind)
+        for at, column in enumerate(columns):
+            words[at : length * len(columns) : len(columns)] = column[:length]
+    return length
+
+
+def _addressed(pairs: WriteableBuffer, length: int) -> Any:
+    return ctypes.byref(_address(pairs)) if length else None

@@ -1,0 +1,343 @@
+"""Columns in and out: of numpy, pandas and the standard library; rolling windows; copies, slices and exact totals; what is said of a caller's mistake.
+
+Expected values are worked out by hand from the rules, or by plain Python over the same numbers.
+
+usage: python3 -m unittest test_columns
+"""
+import copy
+import pickle
+import random
+import unittest
+from array import array
+
+import livevec
+from livevec import BadRange, Kind, NotKept, OutOfRange, Samples, Series, ShortBuffer, Summary, Vector, rolling
+from plain import value_of
+
+try:
+    import numpy
+except ImportError:
+    numpy = None
+try:
+    import pandas
+except ImportError:
+    pandas = None
+
+GONE = 7
+CELLS = {Kind.SUM: ("q", 1), Kind.LEAST: ("q", 1), Kind.GREATEST: ("q", 1), Kind.BEST: ("q", 2), Kind.AFFINE: ("I", 2), Kind.AUTOMATON: ("B", 8)}
+
+
+def cell(kind, elements):
+    """A cell of a column, as a list of its numbers."""
+    value = value_of(kind, elements)
+    if kind is Kind.BEST:
+        low = (value or 0) % 2**64
+        return [low - 2**64 if low >> 63 else low, (value or 0) >> 64]
+    return list(value) if isinstance(value, tuple) else [value or 0]
+
+
+def drawn(seed, count):
+    chance = random.Random(seed)
+    return [chance.choice((2**63 - 1, -2**63, *(chance.randint(-1000, 1000) for _ in range(10)))) for _ in range(count)]
+
+
+class Many(unittest.TestCase):
+    """Values of many ranges, into a column, of a vector and of a series whose first elements expired."""
+
+    def setUp(self):
+        self.all = drawn(11, 300)
+        self.vector, self.series = Vector(self.all), Series(self.all)
+        self.series.expire(GONE)
+        chance = random.Random(3)
+        self.ranges = [sorted(chance.randint(GONE, 300) for _ in range(2)) for _ in range(50)] + [[9, 9], [GONE, 300]]
+
+    def test_into_a_column(self):
+        for kind, (of, count) in CELLS.items():
+            wanted = [number for lo, hi in self.ranges for number in cell(kind, self.all[lo:hi])]
+            flat = [end for pair in self.ranges for end in pair]
+            for holder in (self.vector, self.series):
+                for ranges in (self.ranges, *(memoryview(array(code, flat)).cast("B").cast(code, [52, 2]) for code in "iIqQhl")):
+                    room = array(of, [7] * (len(wanted) + count))
+                    self.assertEqual(holder.value_many(kind, ranges, into=room), 52)
+                    self.assertEqual(room.tolist(), wanted + [7] * count)
+                    self.assertEqual(holder.value_many(kind, ranges), [value_of(kind, self.all[lo:hi]) for lo, hi in self.ranges])
+                read = memoryview(array("q", flat)).toreadonly().cast("B").cast("q", [52, 2])
+                self.assertEqual(holder.value_many(kind, read), [value_of(kind, self.all[lo:hi]) for lo, hi in self.ranges])
+                self.assertEqual(holder.value_many(kind, [], into=array(of)), 0)
+
+    def test_what_is_refused_leaves_the_column(self):
+        for holder, refusal in ((self.vector, OutOfRange), (self.series, NotKept)):
+            for code in "qIi":
+                room = array("q", [7] * 3)
+                table = memoryview(array(code, [9, 10, 8, 301, 5, 4])).cast("B").cast(code, [3, 2])
+                with self.assertRaises(refusal) as caught:
+                    holder.value_many("sum", table, into=room)
+                self.assertEqual((caught.exception.place, caught.exception.given), (1, "ranges[1]"))
+                with self.assertRaises(BadRange) as caught:
+                    holder.value_many("sum", table[2:], into=room)
+                self.assertEqual(caught.exception.place, 0)
+                with self.assertRaises(ShortBuffer) as caught:
+                    holder.value_many("sum", [(9, 10)] * 4, into=room)
+                self.assertEqual((caught.exception.detail, room.tolist()), (4, [7, 7, 7]))
+            for wrong in (array("d", [0.0]), array("i", [0]), bytes(8), [0], memoryview(array("q", [1, 2, 3, 4]))[::2]):
+                self.assertRaises(TypeError, holder.value_many, "sum", [(9, 10)], into=wrong)
+        # of a vector a number below 0 counts from the end, of a series it is no index
+        ends = memoryview(array("q", [-3, 300, 9, -1])).cast("B").cast("q", [2, 2])
+        self.assertEqual(self.vector.value_many("sum", ends), [value_of(Kind.SUM, self.all[-3:]), value_of(Kind.SUM, self.all[9:-1])])
+        self.assertEqual(self.vector.value_many("sum", memoryview(array("i", [-3, 300])).cast("B").cast("i", [1, 2])), [value_of(Kind.SUM, self.all[-3:])])
+        with self.assertRaises(NotKept) as caught:
+            self.series.value_many("sum", ends)
+        self.assertEqual(caught.exception.place, 0)
+
+    def test_exact_totals(self):
+        self.assertEqual(self.vector.total(), sum(self.all))
+        self.assertEqual(self.series.total(), sum(self.all[GONE:]))
+        for lo, hi in self.ranges:
+            self.assertEqual((self.vector.total(lo, hi), self.series.total(lo, hi)), (sum(self.all[lo:hi]),) * 2)
+        high = [2**62 + k for k in range(1000)]
+        self.assertEqual((Series(high).total(), Vector(high, kind="sum").total(), Vector([-it for it in high]).total()), (sum(high), sum(high), -sum(high)))
+        self.assertNotEqual(Series(high).sum(), sum(high))
+        for elements in (high, [-it for it in high], self.all, [5], []):
+            self.assertEqual((Summary(elements).total, Summary(elements[:3]).join(Vector(elements[3:]).summary()).total), (sum(elements),) * 2)
+        self.assertRaises(BadRange, self.series.total, 9, 8)
+        self.assertRaises(NotKept, self.series.total, 0, 9)
+        self.assertRaises(OutOfRange, self.vector.total, 0, 301)
+
+
+class Rolling(unittest.TestCase):
+    def setUp(self):
+        self.all = drawn(5, 200)
+        self.vector, self.series = Vector(self.all), Series(self.all)
+        self.series.expire(GONE)
+
+    def wanted(self, kind, window, lo, hi, first):
+        return [number for i in range(lo, hi) for number in cell(kind, self.all[max(first, i + 1 - window):i + 1])]
+
+    def test_windows_of_elements(self):
+        for kind in CELLS:
+            for holder, first in ((self.vector, 0), (self.series, GONE)):
+                for window in (1, 2, 8, 199, 200, 10**30):
+                    for lo, hi in ((first, 200), (50, 60), (150, 200), (first, first + 1), (60, 60), (200, 200)):
+                        told = holder.rolling(kind, window, lo, hi)
+                        self.assertEqual(told.edit, holder.edits)
+                        flat = told.cells.cast("B").cast(CELLS[kind][0]).tolist() if hi > lo else told.cells.tolist()
+                        self.assertEqual(flat, self.wanted(kind, window, lo, hi, first))
+                room = array(CELLS[kind][0], [7] * (200 * CELLS[kind][1]))
+                self.assertEqual(holder.rolling(kind, 8, -9 if holder is self.vector else 191, into=room), 9)
+                self.assertEqual(room.tolist()[:10 * CELLS[kind][1]], self.wanted(kind, 8, 191, 200, first) + [7] * CELLS[kind][1])
+        self.assertRaises(ShortBuffer, self.series.rolling, "sum", 3, into=array("q", [0] * 192))
+        for window in (0, -1):
+            self.assertRaises(ValueError, self.series.rolling, "sum", window)
+        self.assertRaises(TypeError, self.series.rolling, "sum", 1.5)
+        self.assertRaises(BadRange, self.vector.rolling, "sum", 3, 9, 8)
+        for lo, hi in ((GONE - 1, 20), (20, 201), (201, 201), (0, 1 << 60), (0, 0)):
+            self.assertRaises(NotKept, self.series.rolling, "sum", 3, lo, hi)
+        for lo, hi in ((20, 201), (201, 201), (0, 2**32 - 1)):
+            self.assertRaises(OutOfRange, self.vector.rolling, "sum", 3, lo, hi)
+
+    def test_windows_of_time(self):
+        chance, times = random.Random(2), []
+        for _ in self.all:
+            times.append((times[-1] if times else -50) + chance.choice((0, 0, 1, 2, 30)))
+        load = Samples(times, self.all)
+        load.expire(GONE)
+        for kind in CELLS:
+            for span in (1, 3, 60, 2**64 - 1):
+                for lo, hi in ((GONE, 200), (80, 130), (9, 9)):
+                    wanted = [number for i in range(lo, hi) for number in cell(kind, [self.all[j] for j in range(GONE, i + 1) if times[j] > times[i] - span])]
+                    told = load.rolling_span(kind, span, lo, hi)
+                    self.assertEqual(told.cells.cast("B").cast(CELLS[kind][0]).tolist() if hi > lo else told.cells.tolist(), wanted)
+        self.assertEqual(load.rolling("sum", 2, 50, 51).cells.tolist(), [value_of(Kind.SUM, self.all[49:51])])
+        self.assertRaises(ValueError, load.rolling_span, "sum", 0)
+        self.assertRaises(OverflowError, load.rolling_span, "sum", -1)
+        self.assertRaises(NotKept, load.rolling_span, "sum", 5, 0, 9)
+        # the last one's window is that of `last`
+        self.assertEqual(load.rolling_span("sum", 60)[1][-1], load.value_of_last("sum", 60))
+
+    def test_a_column_at_once(self):
+        told = rolling([3, 1, 4, 1, 5], 2, "least")
+        self.assertEqual({name: column.tolist() for name, column in told.items()}, {"least": [3, 1, 1, 1, 1]})
+        told = rolling([5, 6, 7], 10, ["sum", Kind.LEAST], times=[0, 9, 10])
+        self.assertEqual({name: column.tolist() for name, column in told.items()}, {"sum": [5, 11, 13], "least": [5, 5, 6]})
+        self.assertEqual(rolling([], 3)["sum"].tolist(), [])
+        self.assertRaises(livevec.Earlier, rolling, [1, 2], 3, times=[2, 1])
+        self.assertRaises(ValueError, rolling, [1, 2], 3, ["median"])
+
+
+class Alike(unittest.TestCase):
+    """What a series and samples have as a list, or a vector, has it."""
+
+    def test_slices(self):
+        elements = list(range(100, 130))
+        for gone in (0, 1, 7, 30):
+            series = Series(elements)
+            series.expire(gone)
+            kept = elements[gone:]
+            for start in (None, *range(0, 33, 3)):
+                for stop in (None, *range(0, 33, 4)):
+                    for step in (None, 1, 2, 5, -1, -2, -7):
+                        # as a list, whose index 0 is the series' first: what lies before it is cut
+                        back = (step or 1) < 0
+                        begin = None if start is None else start - gone
+                        end = None if stop is None else stop - gone
+                        if begin is not None and begin < 0:
+                            begin = -len(kept) - 1 if back else 0
+                        if end is not None and end < 0:
+                            end = -len(kept) - 1 if back else 0
+                        self.assertEqual(series[start:stop:step], kept[begin:end:step], (gone, start, stop, step))
+            self.assertRaises(NotKept, lambda: series[-3:])
+            self.assertRaises(NotKept, lambda: series[:-1])
+            self.assertRaises(ValueError, lambda: series[::0])
+            self.assertRaises(TypeError, lambda: series["a":])
+
+    def test_copies_and_equals(self):
+        series = Series([20, 22, 19, 25])
+        series.expire(2)
+        for other in (series.copy(), copy.copy(series), copy.deepcopy(series), pickle.loads(pickle.dumps(series))):
+            self.assertIs(type(other), Series)
+            self.assertEqual((other == series, other != series, other.first, other.size, other.edits), (True, False, 2, 4, 5))
+            self.assertEqual((other.push(7), other.edits, series.size), (4, 6, 4))
+            self.assertFalse(other == series)
+        self.assertEqual(series, Series([19, 25]))
+        self.assertNotEqual(series, Series([19, 24]))
+        self.assertNotEqual(series, [19, 25])
+        self.assertNotEqual(series, Vector([19, 25]))
+        self.assertRaises(TypeError, hash, series)
+
+        class Own(Series):
+            pass
+
+        self.assertIs(type(copy.copy(Own([1]))), Own)
+
+    def test_copies_of_samples(self):
+        load = Samples([0, 90, 91], [7, 4, 9])
+        load.expire(1)
+        for other in (load.copy(), copy.copy(load), copy.deepcopy(load), pickle.loads(pickle.dumps(load))):
+            self.assertIs(type(other), Samples)
+            self.assertEqual((other == load, other.first, other.edits, other.times().tolist(), list(other)), (True, 1, 4, [90, 91], [4, 9]))
+            other[1] = 5
+            self.assertNotEqual(other, load)
+        self.assertEqual(load, Samples([90, 91], [4, 9]))
+        self.assertNotEqual(load, Samples([90, 92], [4, 9]))
+        self.assertNotEqual(load, Series([4, 9]))
+        self.assertEqual((load[1:3], load[::-1]), ([4, 9], [9, 4]))
+
+
+class Said(unittest.TestCase):
+    """A caller's mistake is named: which argument, what was given, what there is."""
+
+    def said(self, wanted, kind, call, *arguments, **named):
+        with self.assertRaises(kind) as caught:
+            call(*arguments, **named)
+        self.assertEqual(str(caught.exception), wanted)
+        if isinstance(caught.exception, livevec.Refusal):
+            self.assertEqual(str(pickle.loads(pickle.dumps(caught.exception))), wanted)
+
+    def test_of_a_vector(self):
+        v = Vector([1, 2, 3, 4])
+        self.said("index 7: out of range: the size is 4", IndexError, lambda: v[7])
+        self.said("index -9: out of range: the size is 4", IndexError, lambda: v[-9])
+        self.said("index 4: out of range: the size is 4", OutOfRange, v.write, 4, 0)
+        self.said("index 6: out of range: the size is 4", OutOfRange, v.swap, 0, 6)
+        self.said("the range 2 to 9: out of range: the size is 4", OutOfRange, v.sum, 2, 9)
+        self.said("the range 3 to 1: a range whose start is past its end", BadRange, v.ask, 3, 1)
+        self.said("ranges[1]: out of range: the size is 4", OutOfRange, v.value_many, "sum", [(0, 4), (0, 5)])
+        self.said("indices[2]: out of range: the size is 4", OutOfRange, v.write_many, [0, 1, 4], [0, 0, 0])
+        self.said("the element is a whole number, not 1.5, which is a float", TypeError, v.push, 1.5)
+        self.said("the index is a whole number, not '0', which is a str", TypeError, v.write, "0", 1)
+        self.said("the end of the range is a whole number, not 'x', which is a str", TypeError, v.sum, 0, "x")
+        self.said("elements[1] is a whole number, not 'b', which is a str", TypeError, v.extend, [1, "b"])
+        self.said("values[0] 9223372036854775808 does not fit 64 bits: it is from -2**63 to 2**63 - 1", OverflowError, v.write_many, [0], [2**63])
+        self.said("ranges[1] is a pair of a start and an end, not 7", TypeError, v.value_many, "sum", [(0, 1), 7])
+        self.said("the column is to have whole numbers of 64 bits, and its format is 'd'", TypeError, v.value_many, "sum", [(0, 1)], into=array("d", [0]))
+        self.said("'mean' is not a kind: a kind is a livevec.Kind, or one of these names: sum, least, greatest, best, affine, automaton", ValueError, v.value, "mean")
+
+    def test_of_a_series(self):
+        s = Series([1, 2, 3, 4])
+        s.expire(2)
+        self.said("index 1: out of range: kept are the indices from 2 up to 4", IndexError, lambda: s[1])
+        self.said("the range 1 to 3: out of range: kept are the indices from 2 up to 4", NotKept, s.sum, 1, 3)
+        self.said("the range 4 to 3: a range whose start is past its end", BadRange, s.least, 4, 3)
+        self.said("ranges[0]: out of range: kept are the indices from 2 up to 4", NotKept, s.value_many, "sum", [(1, 3)])
+        self.said("index -1: out of range: kept are the indices from 2 up to 4", NotKept, lambda: s[-1:])
+        self.said("the span -5 is outside 0 to 18446744073709551615", OverflowError, Samples().last, -5)
+        self.said("the times 9 to 3: a range whose start is past its end", BadRange, Samples([1], [2]).between, 9, 3)
+        self.said("the range 9 to 3: a range whose start is past its end", BadRange, Samples([1], [2]).value_between, "sum", 9, 3)
+        self.said("until is a whole number, not None, which is a NoneType", TypeError, Samples().between, 9, None)
+
+    def test_of_a_shared_vector(self):
+        with livevec.SharedVector(Vector([1, 2])) as shared:
+            self.said("index -3: out of range: the size is 2", OutOfRange, shared.write, -3, 7)
+            self.said("the range 1 to 3: out of range: the size is 2", OutOfRange, shared.sum, 1, 3)
+            self.said("the index is a whole number, not 'x', which is a str", TypeError, shared.write, "x", 7)
+
+
+@unittest.skipIf(numpy is None, "there is no numpy")
+class Numpy(unittest.TestCase):
+    def test_out(self):
+        series, vector = Series([1, 2, 3]), Vector([4, 5])
+        series.expire(1)
+        for holder, wanted in ((series, [2, 3]), (vector, [4, 5]), (Samples([7], [8]), [8]), (Vector(), [])):
+            made = numpy.asarray(holder)
+            self.assertEqual((made.dtype, made.tolist()), (numpy.int64, wanted))
+            self.assertEqual(numpy.array(holder, dtype="float64").tolist(), [float(it) for it in wanted])
+        made = numpy.asarray(vector)
+        made[0] = 9
+        self.assertEqual(vector[0], 4)
+        self.assertRaises(ValueError, vector.__array__, copy=False)
+
+    def test_columns_without_a_copy(self):
+        sums = numpy.asarray(Series(range(10)).rolling("sum", 3).cells)
+        self.assertEqual((sums.dtype, sums.tolist()), (numpy.int64, [sum(range(max(0, i - 2), i + 1)) for i in range(10)]))
+        ends = numpy.arange(1, 11)
+        room = numpy.zeros(12, dtype=numpy.int64)
+        ranges = numpy.stack([numpy.maximum(ends - 3, 0), ends], axis=1)
+        for given in (ranges, numpy.asfortranarray(ranges), ranges.astype("uint32"), ranges.astype("int16")):
+            for holder in (Series(range(10)), Vector(range(10))):
+                room[:] = -1
+                self.assertEqual(holder.value_many("sum", given, into=room), 10)
+                self.assertEqual(room.tolist(), [*sums.tolist(), -1, -1])
+        maps = numpy.zeros((10, 2), dtype=numpy.uint32)
+        Series(range(10)).value_many("affine", ranges, into=maps)
+        self.assertEqual(maps.tolist(), [list(value_of(Kind.AFFINE, range(*pair))) for pair in ranges.tolist()])
+
+    def test_what_is_no_column(self):
+        for wrong, said in ((numpy.zeros(3), "format is 'd'"), (numpy.zeros(3, dtype="datetime64[s]"), "astype"), (numpy.zeros((2, 2), dtype="int64"), "2 dimensions")):
+            with self.assertRaisesRegex(TypeError, said):
+                Vector(wrong)
+
+
+@unittest.skipIf(pandas is None, "there is no pandas")
+class Pandas(unittest.TestCase):
+    def test_in(self):
+        column = pandas.Series([3, 1, 4], name="load")
+        times = pandas.to_datetime(["2024-01-01", "2024-01-02", "2024-01-03"]).to_series()
+        for made in (Vector(column), Series(column), Vector(column.astype("Int64")), Vector(column.astype("int32")), Samples(times.astype("int64"), column)):
+            self.assertEqual(list(made), [3, 1, 4])
+        with self.assertRaisesRegex(TypeError, "astype"):
+            Samples(times, column)
+        self.assertRaises(TypeError, Vector, pandas.Series([1, None], dtype="Int64"))
+        self.assertRaises(TypeError, Vector, column.astype("float64"))
+        frame = pandas.DataFrame({"lo": [0, 1], "hi": [2, 3]})
+        self.assertEqual(Vector(column).value_many("sum", frame), [4, 5])
+        self.assertEqual(Series(column).value_many("sum", frame[["lo", "hi"]]), [4, 5])
+
+    def test_out(self):
+        for made in (pandas.Series(Vector([3, 1])), pandas.Series(Series([3, 1])), pandas.DataFrame({"it": Series([3, 1])})["it"]):
+            self.assertEqual((str(made.dtype), made.tolist()), ("int64", [3, 1]))
+
+    def test_rolling_as_pandas_does(self):
+        chance = random.Random(1)
+        frame = pandas.DataFrame({"load": [chance.randint(-50, 50) for _ in range(500)]})
+        told = frame.assign(**rolling(frame["load"], 24, ["sum", "least", "greatest"]))
+        windows = frame["load"].rolling(24, min_periods=1)
+        for name, wanted in (("sum", windows.sum()), ("least", windows.min()), ("greatest", windows.max())):
+            self.assertEqual(told[name].tolist(), wanted.astype("int64").tolist())
+        seconds = pandas.Series([chance.choice((0, 1, 5, 90)) for _ in range(500)]).cumsum()
+        frame.index = pandas.to_datetime(seconds, unit="s")
+        told = rolling(frame["load"], 60, times=seconds)
+        self.assertEqual(told["sum"].tolist(), frame["load"].rolling("60s").sum().astype("int64").tolist())
+
+
+if __name__ == "__main__":
+    unittest.main()
