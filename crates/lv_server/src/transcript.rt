@@ -16,9 +16,7 @@ use crate::clients::Client;
 use crate::failure::{Failure, FaultPlace};
 use lv_bodies::Six;
 use lv_edits::Edit;
-use lv_hub::{
-    Begun, Hub, Minutes, NoLog, SessionPlace, Share, WithBody, run_session,
-};
+use lv_hub::{Begun, Hub, Minutes, NoLog, SessionPlace, Share, WithBody, run_session};
 use lv_script::{Claimed, Fault};
 use lv_transcript::{Queue, write_joined_transcript};
 use lv_watchers::{Leaving, Watched};
