@@ -24,14 +24,14 @@ struct Echo {
     last: u32,
 }
 
-impl LineHandler for Echo {
+impl<W: Write> LineHandler<W> for Echo {
     ghost State = { ℕ };
 
     ghost state = { λ echo. echo.last };
 
     ghost step = { λ old number line reply new. (new ≡ number) × (reply ≡ decimal number ++ 32 ∷ decimal (length line) ++ 10 ∷ []) };
 
-    fn handle<W: Write>(
+    fn handle(
         &mut self,
         number: u32,
         line: &[u8],

@@ -88,7 +88,7 @@ struct Session<'s, 'a, S, B: SeatedAs<S>, A: Answerer<S>> {
     ghost held: { LeavesHeld B.seat_of A.does answerer.now },
 }
 
-impl<'s, 'a, S, B: SeatedAs<S> + BoardBody, A: Answerer<S>> LineHandler
+impl<'s, 'a, S, B: SeatedAs<S> + BoardBody, A: Answerer<S>, W: Write> LineHandler<W>
     for Session<'s, 'a, S, B, A> {
     ghost State = { Sitting A S };
 
@@ -96,7 +96,7 @@ impl<'s, 'a, S, B: SeatedAs<S> + BoardBody, A: Answerer<S>> LineHandler
 
     ghost step = { SittingStep A.does B.the_kind };
 
-    fn handle<W: Write>(
+    fn handle(
         &mut self,
         number: u32,
         line: &[u8],

@@ -145,7 +145,7 @@ impl<'a, N: WithBody<Six>, T: Wait, L: SessionLog<N>, K: SessionStart> Model
     ghost invariant = { λ s. (s.share.parts ≡ K.holding.parts) × (K.holding.count ≤ s.share.count) × All (IsTrueAnswer s.share.seen) s.answers.items × (s.place.most ≡ K.most) × (vec_len s.answers ≤ K.most) };
 }
 
-impl<'a, N: WithBody<Six>, T: Wait, L: SessionLog<N>, K: SessionStart> LineHandler
+impl<'a, N: WithBody<Six>, T: Wait, L: SessionLog<N>, K: SessionStart, W: Write> LineHandler<W>
     for Session<'a, N, T, L, K> {
     ghost State = { SessionState };
 
@@ -153,7 +153,7 @@ impl<'a, N: WithBody<Six>, T: Wait, L: SessionLog<N>, K: SessionStart> LineHandl
 
     ghost step = { TellsLine N.limits };
 
-    fn handle<W: Write>(
+    fn handle(
         &mut self,
         number: u32,
         line: &[u8],

@@ -7,8 +7,8 @@ use crate::fault::Fault;
 use crate::reply_buffer::ReplyBuffer;
 use std::io::Write;
 
-/// Who answers lines, one after the other.
-pub trait LineHandler {
+/// Who answers lines, one after the other, into a reply buffer before a writer of type `W`.
+pub trait LineHandler<W: Write> {
     // What the answers depend on, and what they change.
     ghost State: { Type 0 };
 
@@ -20,7 +20,7 @@ pub trait LineHandler {
 
     /// Answers a line, of which it gets the first 121 bytes: puts the reply into the reply buffer, which it may
     /// send to make room. It has no other fault than `WriteFault`.
-    fn handle<W: Write>(
+    fn handle(
         &mut self,
         number: u32,
         line: &[u8],

@@ -25,7 +25,7 @@ const MOST: usize = (1 << 30) + 1;
 /// Memory is taken before anything is read or written: where there is none, the fault is `NoMemory`. A
 /// failed read is `ReadFault`; an input of more than 2^30 bytes `TooLong`; a failed write, and one that takes
 /// no byte, `WriteFault`.
-pub fn serve_lines<A: LineHandler, R: Read, W: Write>(
+pub fn serve_lines<A: LineHandler<W>, R: Read, W: Write>(
     alloc: Global,
     handler: &mut A,
     reader: &mut R,
@@ -44,7 +44,7 @@ pub fn serve_lines<A: LineHandler, R: Read, W: Write>(
 }
 
 // Serves lines by buffers that were made for it: one for what is read, and one for replies.
-fn serve_lines_by<A: LineHandler, R: Read, W: Write>(
+fn serve_lines_by<A: LineHandler<W>, R: Read, W: Write>(
     chunk: &mut [u8],
     held: &mut Vec<u8>,
     handler: &mut A,
@@ -62,7 +62,7 @@ fn serve_lines_by<A: LineHandler, R: Read, W: Write>(
 }
 
 // Serves lines whose replies go into an empty reply buffer.
-fn serve_into<A: LineHandler, R: Read, W: Write>(
+fn serve_into<A: LineHandler<W>, R: Read, W: Write>(
     chunk: &mut [u8],
     handler: &mut A,
     reader: &mut R,
@@ -87,7 +87,7 @@ fn zeros(alloc: Global, len: usize) -> Result<Vec<u8>, AllocError>
 }
 
 /// Reads chunks and feeds them, up to the end of the input. As many bytes as `most` are too many.
-pub(crate) fn read_lines<A: LineHandler, R: Read, W: Write>(
+pub(crate) fn read_lines<A: LineHandler<W>, R: Read, W: Write>(
     line_reader: &mut LineReader,
     chunk: &mut [u8],
     most: usize,

@@ -37,7 +37,7 @@ impl LineReader {
     }
 
     /// Takes bytes of the input: has the lines that they end answered, and keeps what they leave.
-    pub(crate) fn push_bytes<A: LineHandler, W: Write>(
+    pub(crate) fn push_bytes<A: LineHandler<W>, W: Write>(
         &mut self,
         handler: &mut A,
         bytes: &[u8],
@@ -64,7 +64,7 @@ impl LineReader {
     }
 
     // Ends the line that was begun with these bytes, and has it answered.
-    fn end_line<A: LineHandler, W: Write>(
+    fn end_line<A: LineHandler<W>, W: Write>(
         &mut self,
         handler: &mut A,
         piece: &[u8],
@@ -91,7 +91,7 @@ impl LineReader {
     }
 
     /// Has the line answered that was begun, where it isn't empty.
-    pub(crate) fn finish<A: LineHandler, W: Write>(
+    pub(crate) fn finish<A: LineHandler<W>, W: Write>(
         &mut self,
         handler: &mut A,
         buffer: &mut ReplyBuffer<'_, W>,

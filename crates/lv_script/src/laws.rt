@@ -14,10 +14,11 @@ ghost use Rattle.lv_script.specs.Script.{ScriptState};
 ghost use Rattle.lv_script.specs.Beginnings.{Begins};
 
 use lv_lines::LineHandler;
+use std::io::Write;
 
 /// A front of some lines is answered with a front of their text, whatever answers them; the rest goes on from the state
 /// and the number that the front came to.
-pub fn a_front_of_the_lines_gives_a_front_of_the_text<A: LineHandler>()
+pub fn a_front_of_the_lines_gives_a_front_of_the_text<A: LineHandler<W>, W: Write>()
     ensures { (old new : A.State) (n : ℕ) (xs ys : List (List ℕ)) (text : List ℕ) →
         Answered A.step old n (xs ++ ys) text new → AnsweredInParts A.step old n xs ys text new }
 {}
@@ -34,7 +35,7 @@ pub fn a_front_of_the_input_has_its_first_lines()
 {}
 
 /// The lines that a front of an input ends are answered with a front of the text that answers the whole input.
-pub fn a_front_of_the_input_gives_a_front_of_the_text<A: LineHandler>()
+pub fn a_front_of_the_input_gives_a_front_of_the_text<A: LineHandler<W>, W: Write>()
     ensures { (old new : A.State) (xs ys text : List ℕ) → Answered A.step old 1 (map (take 121) (lines_of (xs ++ ys))) text new
         → AnsweredInParts A.step old 1 (map (take 121) (whole_lines_of xs)) (map (take 121) (lines_of (unended_of xs ++ ys))) text new }
 {}

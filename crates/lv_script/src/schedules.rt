@@ -36,14 +36,14 @@ struct Player<'m> {
     machine: &'m mut Machine<Sum>,
 }
 
-impl LineHandler for Player<'_> {
+impl<W: Write> LineHandler<W> for Player<'_> {
     ghost State = { Played };
 
     ghost state = { λ p. record { machine = p.machine.now; place = p.machine.ghost_name } };
 
     ghost step = { PlayedStep };
 
-    fn handle<W: Write>(
+    fn handle(
         &mut self,
         number: u32,
         line: &[u8],

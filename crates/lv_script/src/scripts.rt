@@ -108,14 +108,14 @@ impl Model for Script {
     ghost invariant = { λ a. IsWorld six_operations a.standing.live a.issued.jobs };
 }
 
-impl LineHandler for Script {
+impl<W: Write> LineHandler<W> for Script {
     ghost State = { Bounded };
 
     ghost state = { λ s. record { script = state_of s.standing s.jobs; most = s.most } };
 
     ghost step = { BoundedStep };
 
-    fn handle<W: Write>(
+    fn handle(
         &mut self,
         number: u32,
         line: &[u8],

@@ -71,14 +71,14 @@ impl Model for SeriesScript {
     ghost invariant = { λ a. IsReady a.series a.queries (vec_capacity a.notes) };
 }
 
-impl LineHandler for SeriesScript {
+impl<W: Write> LineHandler<W> for SeriesScript {
     ghost State = { PlainSeries };
 
     ghost state = { λ s. s };
 
     ghost step = { SeriesStep };
 
-    fn handle<W: Write>(
+    fn handle(
         &mut self,
         number: u32,
         line: &[u8],

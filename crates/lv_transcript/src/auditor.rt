@@ -112,18 +112,18 @@ pub(crate) struct Auditor {
     ghost kept: { AreKept replay.folds replay.list.items },
 }
 
-impl LineHandler for Auditor {
+impl<W: Write> LineHandler<W> for Auditor {
     ghost State = { CountedState };
 
     ghost state = { λ a. counted_at a.stage a.edits a.replay.edit a.lines };
 
     ghost step = { CountedStep };
 
-    fn handle<W: Write>(
+    fn handle(
         &mut self,
         number: u32,
         line: &[u8],
-        _outbox: &mut ReplyBuffer<'_, W>,
+        _buffer: &mut ReplyBuffer<'_, W>,
     ) -> Result<(), Fault> {
         self.take_line(number, line);
         Ok(())

@@ -114,18 +114,18 @@ struct FrontAuditor {
     lines: u32,
 }
 
-impl LineHandler for FrontAuditor {
+impl<W: Write> LineHandler<W> for FrontAuditor {
     ghost State = { FrontState };
 
     ghost state = { λ a. front_at a.auditor.stage a.auditor.edits a.auditor.replay.edit a.lines };
 
     ghost step = { FrontStep };
 
-    fn handle<W: Write>(
+    fn handle(
         &mut self,
         number: u32,
         line: &[u8],
-        _outbox: &mut ReplyBuffer<'_, W>,
+        _buffer: &mut ReplyBuffer<'_, W>,
     ) -> Result<(), Fault> {
         self.auditor.take_line(number, line);
         self.auditor.reopen();

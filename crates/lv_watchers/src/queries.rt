@@ -52,18 +52,18 @@ struct Asker {
     damage: Option<Damage>,
 }
 
-impl LineHandler for Asker {
+impl<W: Write> LineHandler<W> for Asker {
     ghost State = { Asked };
 
     ghost state = { λ a. record { questions = a.questions.items; damage = a.damage } };
 
     ghost step = { AskStep };
 
-    fn handle<W: Write>(
+    fn handle(
         &mut self,
         number: u32,
         line: &[u8],
-        _outbox: &mut ReplyBuffer<'_, W>,
+        _buffer: &mut ReplyBuffer<'_, W>,
     ) -> Result<(), Fault> {
         self.take(number, read_line(line));
         Ok(())
