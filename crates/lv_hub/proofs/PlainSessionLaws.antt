@@ -7,16 +7,11 @@ use Rattle.lv_geometry.specs.Bounds.{Bounds}
 use Rattle.lv_geometry.specs.declared.refusals.Refusal.{Refusal}
 use Rattle.lv_geometry.specs.declared.refusals.Refusal.TheVariants.{NoMemory}
 use Rattle.lv_bodies.specs.declared.kinds.Kind.{Kind}
-use Rattle.lv_bodies.specs.Plain.{plain_value, program_table}
-use Rattle.lv_bodies.specs.Six.{SixSummary, six_operations}
+use Rattle.lv_bodies.specs.Plain.{plain_value}
 use Rattle.lv_bodies.specs.declared.sixes.Six.{Six}
-use Rattle.lv_bodies.proofs.SixFolds.{face_of-fold}
 use Rattle.lv_edits.specs.declared.edit.Edit.{Edit}
 use Rattle.lv_edits.specs.declared.receipt.Receipt.{Receipt}
 use Rattle.lv_edits.specs.Verdict.{verdict_of}
-use Rattle.lv_edits.specs.Ranges.{slice_of}
-use Rattle.lv_reduce.specs.declared.reductions.Answer.{Answer}
-use Rattle.lv_reduce.specs.Answer.{IsAnswer}
 use Rattle.lv_reduce.specs.Stretch.{StretchState}
 use Rattle.lv_lines.specs.declared.command.Command.{Command}
 use Rattle.lv_lines.specs.declared.command.Command.TheVariants as command
@@ -29,12 +24,14 @@ use Rattle.lv_lines.specs.Texts.{answer_text, bad_text, receipt_text, refused_te
 use Rattle.lv_lines.proofs.LineLoopLaws.{lines_served_as}
 use Rattle.lv_script.specs.PlainScript.{scan_by}
 use Rattle.lv_script.specs.Script.{edit_text}
+use Rattle.lv_standing.specs.Queries.{IsValue}
+use Rattle.lv_standing.specs.declared.notes.Answered.{Answered as Valued}
 use Rattle.lv_hub.specs.Replying.{ListsAnswer, SessionCommandAnswer, SessionLineAnswer, TellsLine, having_counted, scan_reply_text, up_to}
 use Rattle.lv_hub.specs.Session.{IsWithin, Lists, SessionState, SessionStep, kept_by}
 use Rattle.lv_hub.specs.PlainSession.{FindsNoMemory, IsTrueReply, PlainSessionStep, Seen, TrueReply, known_of, refusal_after, reply_after, seen_after, session_line_of, session_reply}
-use Rattle.lv_hub.specs.Told.{EditTold, ReductionTold, StretchTold}
+use Rattle.lv_hub.specs.Told.{EditTold, StretchTold, ValueTold}
 use Rattle.lv_hub.proofs.PrefixLaws.{prefix_length, prefix_self, prefix_trans}
-use Rattle.lv_hub.proofs.TruthLaws.{edit_lists_nothing, slice_folds}
+use Rattle.lv_hub.proofs.TruthLaws.{edit_lists_nothing}
 
 -- a list has its beginning as its first elements
 prefix_take : (xs ys : List Edit) → IsPrefix xs ys → take (length xs) ys ≡ xs
@@ -98,19 +95,18 @@ module _ (limits : Bounds) where
   }
 
   -- a reduction
-  reduction_said : (old new : SessionState) (n : ℕ) (kind : Kind) (lo hi : ℕ) (text : List ℕ) (result : Result (Answer SixSummary) Refusal) → ReductionTold six_operations limits old.seen new.seen lo hi result
+  reduction_said : (old new : SessionState) (n : ℕ) (kind : Kind) (lo hi : ℕ) (text : List ℕ) (result : Result Valued Refusal) → ValueTold limits old.seen new.seen kind lo hi result
       → ListsAnswer (up_to old new.seen) kind lo hi result text new → SaidLine old n (Do (command.Reduce kind lo hi)) text new
-  reduction_said old new n kind lo hi text (Ok answer) told lists =
-      let is : IsAnswer six_operations new.seen lo hi answer = told.answered in
-      let value = face_of-fold program_table kind answer.value (slice_of new.seen lo hi) (slice_folds limits new.seen lo hi told.within) is.value in
+  reduction_said old new n kind lo hi text (Ok answered) told lists =
+      let is : IsValue new.seen kind lo hi answered = told.answered in
       elim lists [
         | inl listed ↦
-            let text_is = listed.0 ∙ ap₂ (λ edit shown. answer_text edit kind shown) is.edit value in record {
+            let text_is = listed.0 ∙ ap₂ (λ edit shown. answer_text edit kind shown) is.edit is.value in record {
               before = new.seen;
               grown = told.seen;
               answer = inl (granted new.seen n (command.Reduce kind lo hi) text is.granted text_is, seen_more old new new.seen refl (ap (λ s. s.count) listed.1));
               within = told.within;
-              lists = inl (text_is, ap (λ s. s.answers) listed.1 ∙ ap₂ (λ edit shown. old.answers ++ record { edit = edit; kind = kind; lo = lo; hi = hi; value = shown } ∷ []) is.edit value);
+              lists = inl (text_is, ap (λ s. s.answers) listed.1 ∙ ap₂ (λ edit shown. old.answers ++ record { edit = edit; kind = kind; lo = lo; hi = hi; value = shown } ∷ []) is.edit is.value);
             }
         | inr full ↦ record {
           before = new.seen;

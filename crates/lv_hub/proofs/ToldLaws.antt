@@ -4,6 +4,7 @@ use mathlib.Core.List.{IsPrefix}
 use Rattle.lv_geometry.specs.Bounds.{Bounds}
 use Rattle.lv_geometry.specs.declared.refusals.Refusal.{Refusal}
 use Rattle.lv_bodies.specs.Body.{Operations}
+use Rattle.lv_bodies.specs.declared.kinds.Kind.{Kind}
 use Rattle.lv_edits.specs.declared.edit.Edit.{Edit}
 use Rattle.lv_edits.specs.declared.receipt.Receipt.{Receipt}
 use Rattle.lv_edits.specs.History.{History}
@@ -21,7 +22,9 @@ use Rattle.lv_reduce.specs.Cost.{IsCost}
 use Rattle.lv_live.specs.Kept.{IsLive}
 use Rattle.lv_live.specs.State.{HasClaim, LiveState, node_and_version, recorded}
 use Rattle.lv_live.specs.Step.{Reduces}
-use Rattle.lv_hub.specs.Told.{ClaimTold, EditTold, Delivers, DeliveryTold, IsStanding, IsVector, ReadsTold, ReductionTold, VouchedBy, history_of}
+use Rattle.lv_standing.specs.Queries.{IsValue}
+use Rattle.lv_standing.specs.declared.notes.Answered.{Answered}
+use Rattle.lv_hub.specs.Told.{ClaimTold, EditTold, Delivers, DeliveryTold, IsStanding, IsVector, ReadsTold, ReductionTold, ValueTold, VouchedBy, history_of}
 
 -- a vector of these limits has this history
 limits_said : (limits : Bounds) (h : History) → h.limits ≡ limits → h ≡ history_of limits h.journal
@@ -49,6 +52,16 @@ edit_told limits s t old new e result vector seen is answers =
       answers = subst (λ h. Answers h e result (history_of limits new)) before (subst (λ h. Answers s e result h) after answers);
     }
 
+-- a value
+pub value_told : (limits : Bounds) (h : History) (old new : List Edit) (kind : Kind) (lo hi : ℕ) (result : Result Answered Refusal) → IsVector limits h → IsPrefix old new → new ≡ h.journal
+    → IfOk result (λ answered. IsValue h.journal kind lo hi answered) → IfErr result (λ refusal. range_refusal h.journal lo hi ≡ Some refusal) → ValueTold limits old new kind lo hi result
+value_told limits h old new kind lo hi result vector seen is answered refused = record {
+  seen = seen;
+  within = within_said limits h new vector is;
+  answered = subst (λ es. IfOk result (λ answered. IsValue es kind lo hi answered)) (sym is) answered;
+  refused = subst (λ es. IfErr result (λ refusal. range_refusal es lo hi ≡ Some refusal)) (sym is) refused;
+}
+
 -- what a reduction answers, and the reads that it makes
 answered_of : {S : Type 0} (o : Operations S) (r : Record) (lo hi : ℕ) (result : Result (Answer S) Refusal) → Reduces o r lo hi result → IfOk result (λ answer. IsAnswer o r.edits lo hi answer)
 answered_of o r lo hi (Ok answer) reduces = reduces.0
@@ -64,21 +77,17 @@ reads_of o r lo hi (Err refusal) reduces = tt
 
 module _ {B S : Type 0} (o : B → Operations S) (limits : Bounds) (body : B) (s : LiveState B S) (old new : List Edit) (lo hi : ℕ) (vector : IsVector limits s.history) (of : s.body ≡ body) (seen : IsPrefix old new) (is : new ≡ s.history.journal) where
   -- it stands there
-  pub stands_there : IsLive (o s.body) s → IsStanding (o body) limits new s
+  stands_there : IsLive (o s.body) s → IsStanding (o body) limits new s
   stands_there live = record { limits_are = vector.limits_are; edits_are = sym is; live = subst (λ b. IsLive (o b) s) of live }
-
-  -- an answer to a range that was asked for
-  pub ask_told : (result : Result (Answer S) Refusal) → IfOk result (λ answer. IsAnswer (o s.body) s.history.journal lo hi answer) → IfErr result (λ refusal. range_refusal s.history.journal lo hi ≡ Some refusal) → ReductionTold (o body) limits old new lo hi result
-  ask_told result answered refused = record {
-    seen = seen;
-    within = within_said limits s.history new vector is;
-    answered = subst (λ b. IfOk result (λ answer. IsAnswer (o b) new lo hi answer)) of (subst (λ es. IfOk result (λ answer. IsAnswer (o s.body) es lo hi answer)) (sym is) answered);
-    refused = subst (λ es. IfErr result (λ refusal. range_refusal es lo hi ≡ Some refusal)) (sym is) refused;
-  }
 
   -- a reduction, and its reads
   pub reduction_told : (result : Result (Answer S) Refusal) → Reduces (o s.body) (recorded s) lo hi result → ReductionTold (o body) limits old new lo hi result
-  reduction_told result reduces = ask_told result (answered_of (o s.body) (recorded s) lo hi result reduces) (refused_of (o s.body) (recorded s) lo hi result reduces)
+  reduction_told result reduces = record {
+    seen = seen;
+    within = within_said limits s.history new vector is;
+    answered = subst (λ b. IfOk result (λ answer. IsAnswer (o b) new lo hi answer)) of (subst (λ es. IfOk result (λ answer. IsAnswer (o s.body) es lo hi answer)) (sym is) (answered_of (o s.body) (recorded s) lo hi result reduces));
+    refused = subst (λ es. IfErr result (λ refusal. range_refusal es lo hi ≡ Some refusal)) (sym is) (refused_of (o s.body) (recorded s) lo hi result reduces);
+  }
 
   pub reads_told : (result : Result (Answer S) Refusal) → IsLive (o s.body) s → Reduces (o s.body) (recorded s) lo hi result → ReadsTold B (o body) limits new lo hi result
   reads_told result live reduces = record { standing = s; live = stands_there live; reads = reads_of (o s.body) (recorded s) lo hi result reduces }

@@ -1,27 +1,20 @@
 -- The reductions that a session lists are true of what its share has seen.
-use Rattle.std.proofs.Common.{◌≡◌, ℕ, ◌+◌, ◌-◌, ◌≤◌, None, Option, Result, Ok, Err, OnOk, IfErr, List, [], ◌∷◌, ◌++◌, length, take, drop, slice_range, All, nat_lt, refl, sym, ap, ◌∙◌, subst, inl, inr, arith}
+use Rattle.std.proofs.Common.{◌≡◌, ℕ, ◌+◌, ◌-◌, ◌≤◌, None, Option, Result, Ok, Err, OnOk, IfErr, List, [], ◌∷◌, ◌++◌, length, take, slice_range, All, nat_lt, refl, sym, ap, ◌∙◌, subst, inl, inr, arith}
 use Rattle.std.proofs.lemmas.Bool.{cases_Bool, cond-false, cond-true, ltb-false}
-use Rattle.std.proofs.lemmas.List.{length-take, length-drop, take_all, take-append-le}
-use Rattle.std.proofs.lemmas.List.Elements.{All-get_or, All-push, All-take, All-drop, All-weaker}
+use Rattle.std.proofs.lemmas.List.{take_all, take-append-le}
+use Rattle.std.proofs.lemmas.List.Elements.{All-get_or, All-push, All-weaker}
 use Rattle.std.proofs.lemmas.List.Sorted.{IsNonDecreasingBy-push}
 use Rattle.std.proofs.lemmas.Option.{none-some}
 use mathlib.Core.List.{IsPrefix}
 use Rattle.lv_geometry.specs.Bounds.{Bounds}
-use Rattle.lv_geometry.specs.Elements.{IsElement}
 use Rattle.lv_geometry.specs.declared.refusals.Refusal.{Refusal}
 use Rattle.lv_geometry.specs.declared.refusals.Refusal.TheVariants.{BadRange, OutOfRange}
 use Rattle.lv_bodies.specs.declared.kinds.Kind.{Kind}
-use Rattle.lv_bodies.specs.Body.{CanFold}
-use Rattle.lv_bodies.specs.Plain.{plain_value, program_table}
-use Rattle.lv_bodies.specs.Six.{SixSummary, face_of, six_operations}
-use Rattle.lv_bodies.proofs.SixFolds.{face_of-fold}
+use Rattle.lv_bodies.specs.Plain.{plain_value}
 use Rattle.lv_edits.specs.declared.edit.Edit.{Edit}
 use Rattle.lv_edits.specs.declared.receipt.Receipt.{Receipt}
 use Rattle.lv_edits.specs.History.{list_of}
-use Rattle.lv_edits.specs.Kept.{IsLegalInLimits}
-use Rattle.lv_edits.specs.Ranges.{range_refusal, slice_of}
-use Rattle.lv_reduce.specs.declared.reductions.Answer.{Answer}
-use Rattle.lv_reduce.specs.Answer.{IsAnswer}
+use Rattle.lv_edits.specs.Ranges.{range_refusal}
 use Rattle.lv_lines.specs.declared.command.Command.{Command}
 use Rattle.lv_lines.specs.declared.command.Command.TheVariants as commands
 use Rattle.lv_lines.specs.declared.lines.Line.{Line}
@@ -34,7 +27,9 @@ use Rattle.lv_transcript.specs.declared.claimed.Claimed.{Claimed}
 use Rattle.lv_transcript.specs.Transcript.{AreInOrder, IsTrueAnswer}
 use Rattle.lv_hub.specs.Replying.{ListsAnswer, SessionCommandAnswer, SessionLineAnswer, TellsLine, listed_of, having_counted, up_to}
 use Rattle.lv_hub.specs.Session.{SessionState}
-use Rattle.lv_hub.specs.Told.{EditTold, ReductionTold, history_of}
+use Rattle.lv_hub.specs.Told.{EditTold, ValueTold}
+use Rattle.lv_standing.specs.Queries.{IsValue}
+use Rattle.lv_standing.specs.declared.notes.Answered.{Answered as Valued}
 use Rattle.lv_hub.proofs.PrefixLaws.{prefix_length, prefix_self, prefix_trans}
 
 -- an edit leaves a beginning of what there is
@@ -74,15 +69,6 @@ in_range edits lo hi granted =
           ]
     ]
 
--- a slice of a list within the limits may be folded
-pub slice_folds : (limits : Bounds) (edits : List Edit) (lo hi : ℕ) → IsLegalInLimits (history_of limits edits) → CanFold (slice_range (list_of edits) lo hi)
-slice_folds limits edits lo hi within =
-    let xs = list_of edits in
-    record {
-      few = omega (arith, within.few, length-take (hi - lo) (drop lo xs), length-drop lo xs);
-      elements = All-take IsElement (hi - lo) (drop lo xs) (All-drop IsElement lo xs within.elements);
-    }
-
 -- one answer more, at the last edit that is seen
 order_push : (xs ys : List Edit) (answers : List Claimed) (reduction : Claimed) → IsPrefix xs ys → reduction.edit ≡ length ys → All (IsTrueAnswer xs) answers → AreInOrder answers → AreInOrder (answers ++ reduction ∷ [])
 order_push xs ys answers reduction more last holds rises =
@@ -102,27 +88,18 @@ edit_lists_nothing s (Ok receipt) = refl
 edit_lists_nothing s (Err refusal) = refl
 
 module _ (limits : Bounds) where
-  -- an answer is true, by its edits
-  answer_true : (edits : List Edit) (kind : Kind) (lo hi : ℕ) (answer : Answer SixSummary) → IsLegalInLimits (history_of limits edits) → IsAnswer six_operations edits lo hi answer → IsTrueAnswer edits (listed_of kind lo hi answer)
-  answer_true edits kind lo hi answer within is =
-      let all : take answer.edit edits ≡ edits = take_all answer.edit edits (omega (arith, is.edit)) in
-      let range = in_range edits lo hi is.granted in
-      let value : face_of kind answer.value ≡ plain_value kind (slice_of edits lo hi) = face_of-fold program_table kind answer.value (slice_of edits lo hi) (slice_folds limits edits lo hi within) is.value in
+  -- an answer that was told is true, by its edits
+  told_true : (old new : List Edit) (kind : Kind) (lo hi : ℕ) (answered : Valued) → ValueTold limits old new kind lo hi (Ok answered) → IsTrueAnswer new (listed_of kind lo hi answered)
+  told_true old new kind lo hi answered told =
+      let is : IsValue new kind lo hi answered = told.answered in
+      let all : take answered.edit new ≡ new = take_all answered.edit new (omega (arith, is.edit)) in
+      let range = in_range new lo hi is.granted in
       record {
         edit = omega (arith, is.edit);
         range = range.range;
         end = subst (λ es. hi ≤ length (list_of es)) (sym all) range.end;
-        value = subst (λ es. face_of kind answer.value ≡ plain_value kind (slice_range (list_of es) lo hi)) (sym all) value;
+        value = subst (λ es. answered.value ≡ plain_value kind (slice_range (list_of es) lo hi)) (sym all) is.value;
       }
-
-  -- so is the answer of a reduction that was told
-  told_true : (old new : List Edit) (kind : Kind) (lo hi : ℕ) (answer : Answer SixSummary) → ReductionTold six_operations limits old new lo hi (Ok answer) → IsTrueAnswer new (listed_of kind lo hi answer)
-  told_true old new kind lo hi answer told =
-      answer_true new kind lo hi answer told.within told.answered
-
-  -- it is of the last edit that was seen
-  told_last : (old new : List Edit) (lo hi : ℕ) (answer : Answer SixSummary) → ReductionTold six_operations limits old new lo hi (Ok answer) → answer.edit ≡ length new
-  told_last old new lo hi answer told = told.answered.edit
 
   -- who has seen more, and lists nothing more, keeps
   keeps_by_more : (old new : SessionState) → IsPrefix old.seen new.seen → new.answers ≡ old.answers → Keeps old new
@@ -138,17 +115,17 @@ module _ (limits : Bounds) where
   keeps_same old new same = keeps_by_more old new (subst (IsPrefix old.seen) (sym (ap (λ s. s.seen) same)) (prefix_self old.seen)) (ap (λ s. s.answers) same)
 
   -- a reduction
-  reduction_keeps : (old new : SessionState) (kind : Kind) (lo hi : ℕ) (text : List ℕ) (result : Result (Answer SixSummary) Refusal) → ReductionTold six_operations limits old.seen new.seen lo hi result → ListsAnswer (up_to old new.seen) kind lo hi result text new → Keeps old new
-  reduction_keeps old new kind lo hi text (Ok answer) told lists =
+  reduction_keeps : (old new : SessionState) (kind : Kind) (lo hi : ℕ) (text : List ℕ) (result : Result Valued Refusal) → ValueTold limits old.seen new.seen kind lo hi result → ListsAnswer (up_to old new.seen) kind lo hi result text new → Keeps old new
+  reduction_keeps old new kind lo hi text (Ok answered) told lists =
       elim lists [
         | inl listed ↦ record {
           seen = told.seen;
           all_true = λ holds.
               subst (All (IsTrueAnswer new.seen)) (sym (ap (λ s. s.answers) listed.1))
-              (All-push (IsTrueAnswer new.seen) old.answers (listed_of kind lo hi answer) (all_true_of_more old.seen new.seen old.answers told.seen holds) (told_true old.seen new.seen kind lo hi answer told));
+              (All-push (IsTrueAnswer new.seen) old.answers (listed_of kind lo hi answered) (all_true_of_more old.seen new.seen old.answers told.seen holds) (told_true old.seen new.seen kind lo hi answered told));
           order = λ holds rises.
               subst AreInOrder (sym (ap (λ s. s.answers) listed.1))
-              (order_push old.seen new.seen old.answers (listed_of kind lo hi answer) told.seen (told_last old.seen new.seen lo hi answer told) holds rises);
+              (order_push old.seen new.seen old.answers (listed_of kind lo hi answered) told.seen told.answered.edit holds rises);
         }
         | inr not_listed ↦ keeps_by_more old new told.seen (ap (λ s. s.answers) not_listed.1)
       ]

@@ -5,11 +5,9 @@ use Rattle.lv_geometry.specs.declared.refusals.Refusal.{Refusal}
 use Rattle.lv_geometry.specs.declared.refusals.Refusal.TheVariants.{NoMemory}
 use Rattle.lv_bodies.specs.declared.kinds.Kind.{Kind}
 use Rattle.lv_bodies.specs.Plain.{plain_value}
-use Rattle.lv_bodies.specs.Six.{SixSummary, face_of, six_operations}
 use Rattle.lv_bodies.specs.declared.sixes.Six.{Six}
 use Rattle.lv_edits.specs.declared.edit.Edit.{Edit}
 use Rattle.lv_edits.specs.declared.receipt.Receipt.{Receipt}
-use Rattle.lv_reduce.specs.declared.reductions.Answer.{Answer}
 use Rattle.lv_reduce.specs.Stretch.{StretchState}
 use Rattle.lv_lines.specs.declared.command.Command.{Command}
 use Rattle.lv_lines.specs.declared.command.Command.TheVariants as commands
@@ -20,8 +18,9 @@ use Rattle.lv_lines.specs.Texts.{answer_text, bad_text, refused_text, scan_text}
 use Rattle.lv_transcript.specs.declared.claimed.Claimed.{Claimed}
 use Rattle.lv_script.specs.PlainScript.{scan_by}
 use Rattle.lv_script.specs.Script.{edit_text}
+use Rattle.lv_standing.specs.declared.notes.Answered.{Answered}
 use Rattle.lv_hub.specs.Session.{SessionState}
-use Rattle.lv_hub.specs.Told.{EditTold, ReductionTold, StretchTold}
+use Rattle.lv_hub.specs.Told.{EditTold, StretchTold, ValueTold}
 
 -- the state once the hub's edits were seen up to these
 abbrev pub up_to : SessionState → List Edit → SessionState
@@ -33,17 +32,17 @@ having_counted s (Ok receipt) = record s { count = s.count + 1 }
 having_counted s (Err refusal) = s
 
 -- a reduction as it is listed
-abbrev pub listed_of : Kind → ℕ → ℕ → Answer SixSummary → Claimed
-listed_of kind lo hi answer = record { edit = answer.edit; kind = kind; lo = lo; hi = hi; value = face_of kind answer.value }
+abbrev pub listed_of : Kind → ℕ → ℕ → Answered → Claimed
+listed_of kind lo hi answered = record { edit = answered.edit; kind = kind; lo = lo; hi = hi; value = answered.value }
 
 -- the state with one reduction more
 abbrev pub with_listed : SessionState → Claimed → SessionState
 with_listed s claim = record s { answers = s.answers ++ claim ∷ [] }
 
 -- a reduction was answered and listed; or it was refused, for its range or because the list had no room, and nothing changed
-abbrev pub ListsAnswer : SessionState → Kind → ℕ → ℕ → Result (Answer SixSummary) Refusal → List ℕ → SessionState → Type 0
-ListsAnswer old kind lo hi (Ok answer) text new =
-    ((text ≡ answer_text answer.edit kind (face_of kind answer.value)) × (new ≡ with_listed old (listed_of kind lo hi answer)))
+abbrev pub ListsAnswer : SessionState → Kind → ℕ → ℕ → Result Answered Refusal → List ℕ → SessionState → Type 0
+ListsAnswer old kind lo hi (Ok answered) text new =
+    ((text ≡ answer_text answered.edit kind answered.value) × (new ≡ with_listed old (listed_of kind lo hi answered)))
     ⊎ ((text ≡ refused_text NoMemory) × (new ≡ old))
 ListsAnswer old kind lo hi (Err refusal) text new = (text ≡ refused_text refusal) × (new ≡ old)
 
@@ -62,8 +61,8 @@ module _ (limits : Bounds) where
 
   -- a reduction is answered by its value, and listed; or by its refusal
   pub record TellsReduction (old : SessionState) (kind : Kind) (lo hi : ℕ) (text : List ℕ) (new : SessionState) : Type 0 where
-    pub result : Result (Answer SixSummary) Refusal
-    pub told : ReductionTold six_operations limits old.seen new.seen lo hi result
+    pub result : Result Answered Refusal
+    pub told : ValueTold limits old.seen new.seen kind lo hi result
     pub lists : ListsAnswer (up_to old new.seen) kind lo hi result text new
 
   -- a scan is answered by its values, of a range that was copied, or by its refusal, and changes nothing else

@@ -5,6 +5,7 @@ use Rattle.lv_geometry.specs.Bounds.{Bounds}
 use Rattle.lv_geometry.specs.declared.refusals.Refusal.{Refusal}
 use Rattle.lv_geometry.specs.declared.refusals.Refusal.TheVariants.{Stranger}
 use Rattle.lv_bodies.specs.Body.{Operations}
+use Rattle.lv_bodies.specs.declared.kinds.Kind.{Kind}
 use Rattle.lv_edits.specs.declared.edit.Edit.{Edit}
 use Rattle.lv_edits.specs.declared.receipt.Receipt.{Receipt}
 use Rattle.lv_edits.specs.History.{History}
@@ -24,6 +25,8 @@ use Rattle.lv_reduce.specs.Cost.{IsCost}
 use Rattle.lv_reduce.specs.Stretch.{IsStretch, StretchState}
 use Rattle.lv_live.specs.Kept.{IsLive}
 use Rattle.lv_live.specs.State.{HasClaim, LiveState, node_and_version, recorded}
+use Rattle.lv_standing.specs.Queries.{IsValue}
+use Rattle.lv_standing.specs.declared.notes.Answered.{Answered}
 
 -- a vector whose edits are legal, within these limits
 pub record IsVector (limits : Bounds) (h : History) : Type 0 where
@@ -52,6 +55,13 @@ pub record ReductionTold {S : Type 0} (o : Operations S) (limits : Bounds) (old 
   pub seen : IsPrefix old new
   pub within : IsLegalInLimits (history_of limits new)
   pub answered : IfOk result (λ answer. IsAnswer o new lo hi answer)
+  pub refused : IfErr result (λ refusal. range_refusal new lo hi ≡ Some refusal)
+
+-- of a hub whose edits were seen up to old: it came to new, and there a range was asked for by a kind, which gave the plain value of it
+pub record ValueTold (limits : Bounds) (old new : List Edit) (kind : Kind) (lo hi : ℕ) (result : Result Answered Refusal) : Type 0 where
+  pub seen : IsPrefix old new
+  pub within : IsLegalInLimits (history_of limits new)
+  pub answered : IfOk result (λ answered. IsValue new kind lo hi answered)
   pub refused : IfErr result (λ refusal. range_refusal new lo hi ≡ Some refusal)
 
 -- a live vector with these edits gave the answer, with the reads that its fresh nodes leave

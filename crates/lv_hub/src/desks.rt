@@ -5,11 +5,11 @@ ghost use Rattle.lv_geometry.specs.declared.nodes.Node.{Node};
 ghost use Rattle.lv_edits.specs.History.{list_of};
 ghost use Rattle.lv_edits.specs.Verdict.{Answers};
 ghost use Rattle.lv_edits.specs.Ranges.{range_refusal};
-ghost use Rattle.lv_reduce.specs.Answer.{IsAnswer};
 ghost use Rattle.lv_refresh.specs.Claim.{IsNextJob, wants_job};
 ghost use Rattle.lv_refresh.specs.Honesty.{IsHonest};
 ghost use Rattle.lv_live.specs.Kept.{IsLive};
-ghost use Rattle.lv_live.specs.State.{HasClaim, HasDelivery, SameLive, SameRefresh, node_and_version, recorded};
+ghost use Rattle.lv_live.specs.State.{HasClaim, HasDelivery, SameRefresh, node_and_version, recorded};
+ghost use Rattle.lv_standing.specs.Queries.{IsValue};
 ghost use Rattle.lv_transcript.specs.Transcript.{AreAccepted, greatest};
 ghost use Rattle.lv_hub.specs.Counting.{Counts, having_seen};
 ghost use Rattle.lv_hub.specs.Told.{Delivers, IsVector, VouchedBy};
@@ -18,22 +18,25 @@ ghost use Rattle.lv_hub.specs.Work.{left_asleep, makes_work};
 use crate::histories::{Head, HistoryPrefix, Opened};
 use crate::naming::WithBody;
 use crate::shares::Share;
-use lv_bodies::Body;
+use lv_bodies::{Automaton, Body, Kind};
 use lv_edits::{Edit, Receipt};
 use lv_geometry::{Limits, Refusal};
 use lv_live::Live;
-use lv_reduce::Answer;
 use lv_refresh::{Job, Outcome};
+use lv_standing::{Answered, apply_beside, value_beside};
 use lv_summary::Accepted;
+use lv_tree::Kinds;
 use std::alloc::Global;
 use std::marker::Model;
 use std::sync::ledger::{Blank, Book};
 
-/// What lies under a hub's lock: a live vector by the body of the hub's name, the book that counts its edits, their history with the
-/// one permit to add to it, and who sleeps beside the lock.
+/// What lies under a hub's lock: a live vector by the body of the hub's name, a tree for each kind that it was asked by, the book that
+/// counts its edits, their history with the one permit to add to it, and who sleeps beside the lock. Contracts don't see the trees, which
+/// change no answer.
 #[derive(Drop)]
 pub struct Desk<B: Body, N: WithBody<B>> {
     pub(crate) live: Live<B>,
+    pub(crate) kinds: Kinds,
     pub(crate) head: Head<N>,
     book: Book<N>,
     // At least how many workers sleep that were not woken.
@@ -46,6 +49,8 @@ pub struct Desk<B: Body, N: WithBody<B>> {
 
 impl<B: Body, N: WithBody<B>> Model for Desk<B, N> {
     ghost use Rattle.std.specs.Prelude.{◌≡◌, Some, length};
+    ghost use Rattle.lv_bodies.specs.Plain.{program_table};
+    ghost use Rattle.lv_tree.specs.Kinds.{AreReady};
     ghost use Rattle.lv_transcript.specs.Transcript.{AreAccepted, greatest};
     ghost use Rattle.lv_hub.specs.Told.{IsVector};
     ghost use Rattle.lv_hub.specs.Work.{DeskState};
@@ -54,7 +59,7 @@ impl<B: Body, N: WithBody<B>> Model for Desk<B, N> {
 
     ghost view = { λ d. record { live = d.live; asleep = d.asleep; dismissed = d.dismissed; listened = d.listened } };
 
-    ghost invariant = { λ d. (length d.live.history.journal ≡ d.book.total) × IsVector N.limits d.live.history × (d.head ≡ d.live.history.journal) × (N.body ≡ Some d.live.body) × AreAccepted greatest d.live.history.journal };
+    ghost invariant = { λ d. (length d.live.history.journal ≡ d.book.total) × IsVector N.limits d.live.history × (d.head ≡ d.live.history.journal) × (N.body ≡ Some d.live.body) × AreAccepted greatest d.live.history.journal × AreReady program_table d.live.history.journal d.kinds };
 }
 
 impl<B: Body, N: WithBody<B>> Desk<B, N> {
@@ -85,8 +90,10 @@ impl<B: Body, N: WithBody<B>> Desk<B, N> {
         let (head, prefix) = opened.named::<N>();
         let (book, token) = blank.open::<N>();
         let live = Live::new(alloc, limits, body);
+        let kinds = Kinds::new(alloc, Automaton::program());
         let desk = Desk {
             live,
+            kinds,
             head,
             book,
             asleep: 0,
@@ -110,7 +117,7 @@ impl<B: Body, N: WithBody<B>> Desk<B, N> {
         ensures rest { self.new ≡ record self.old { live = self.new.live } }
     {
         share.see(&mut self.head);
-        let receipt = self.live.apply(edit)?;
+        let receipt = apply_beside(&mut self.live, &mut self.kinds, edit)?;
         share.enter(&mut self.book);
         self.head.append(edit);
         share.see(&mut self.head);
@@ -156,19 +163,16 @@ impl<B: Body, N: WithBody<B>> Desk<B, N> {
         copy_from(self.live().journal(), from, buffer);
     }
 
-    /// The fold of the elements from index `lo` up to `hi`, keeping what is computed for it. Refused as `Live::ask` is. Takes no
+    /// The value of a kind over the elements from index `lo` up to `hi`. A short range is folded by that kind, where its elements lie; for a
+    /// longer one the kind's tree follows all edits that it hasn't followed yet. Refused with `BadRange`, then `OutOfRange`. Takes no
     /// memory.
-    pub fn ask(&mut self, lo: u32, hi: u32) -> Result<Answer<B::S>, Refusal>
-        ensures ok { IfOk result (λ answer. IsAnswer (B.operations self.old.live.body) self.old.live.history.journal lo hi answer) }
+    pub fn value(&mut self, kind: Kind, lo: u32, hi: u32) -> Result<Answered, Refusal>
+        ensures ok { IfOk result (λ answered. IsValue self.old.live.history.journal kind lo hi answered) }
         ensures err { IfErr result (λ refusal. range_refusal self.old.live.history.journal lo hi ≡ Some refusal) }
-        ensures same { SameLive self.old.live self.new.live }
-        ensures rest { self.new ≡ record self.old { live = self.new.live } }
+        ensures same { self.new ≡ self.old }
         ensures vector { IsVector N.limits self.old.live.history }
-        ensures body { N.body ≡ Some self.old.live.body }
-        ensures live { IsLive (B.operations self.old.live.body) self.old.live }
     {
-        self.live.keeps();
-        self.live.ask(lo, hi)
+        value_beside(&self.live, &mut self.kinds, kind, lo, hi)
     }
 
     /// A job for the least node that wants one, or none. Takes no memory.

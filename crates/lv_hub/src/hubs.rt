@@ -2,20 +2,20 @@
 ghost use Rattle.std.specs.Prelude.{◌≡◌, ◌↔◌, ◌<◌, ◌≤◌, true, false, [], drop, length, take, Err, Some, vec_capacity};
 ghost use mathlib.Core.List.{IsPrefix};
 ghost use Rattle.lv_transcript.specs.Transcript.{AreAccepted, greatest};
-ghost use Rattle.lv_live.specs.State.{LiveState};
 ghost use Rattle.lv_hub.specs.Counting.{Counts, having_seen};
-ghost use Rattle.lv_hub.specs.Told.{ClaimTold, EditTold, DeliveryTold, IsStanding, IsVector, ReadsTold, ReductionTold, ScanTold, StretchTold};
+ghost use Rattle.lv_hub.specs.Told.{ClaimTold, EditTold, DeliveryTold, IsVector, ReadsTold, ReductionTold, ScanTold, StretchTold, ValueTold};
 
 use crate::desks::Desk;
 use crate::histories::{HistoryPrefix, Opened};
 use crate::naming::WithBody;
 use crate::shares::Share;
-use lv_bodies::Body;
+use lv_bodies::{Body, Kind};
 use lv_edits::{Edit, Receipt};
 use lv_geometry::{Limits, Refusal};
 use lv_live::Live;
 use lv_reduce::{Answer, Scan, Stretch};
 use lv_refresh::{Job, Outcome};
+use lv_standing::Answered;
 use lv_summary::Accepted;
 use std::alloc::Global;
 use std::marker::Model;
@@ -115,23 +115,24 @@ impl<B: Body, N: WithBody<B>> Hub<B, N> {
         desk.live().reduce(lo, hi)
     }
 
-    /// The same, keeping what is computed for it: so a range that was asked for is cheap until an edit touches it. Refused as
-    /// `Live::ask` is. Takes no memory.
-    pub fn ask<R: Wait>(
+    /// The plain value of a kind over the elements from index `lo` up to `hi`, at the last edit, up to which the share sees them all. The kind
+    /// keeps a tree, which follows the edits since its last question: so a question costs O(log n), and that. Refused with `BadRange`, then
+    /// `OutOfRange`. Takes no memory.
+    pub fn value<R: Wait>(
         &self,
         rt: &R,
         share: &mut Share<N>,
+        kind: Kind,
         lo: u32,
         hi: u32,
-    ) -> Result<Answer<B::S>, Refusal>
-        ensures told { ReductionTold (B.operations self.now) N.limits share.old.seen share.new.seen lo hi result }
-        ensures live { (standing : LiveState B B.S) × IsStanding (B.operations self.now) N.limits share.new.seen standing }
+    ) -> Result<Answered, Refusal>
+        ensures told { ValueTold N.limits share.old.seen share.new.seen kind lo hi result }
         ensures share { share.new ≡ having_seen share.old share.new.seen }
         ensures bad_range { (result ≡ Err Refusal.BadRange) ↔ (hi < lo) }
     {
         let mut desk = self.desk.lock(rt);
         desk.show(share);
-        desk.ask(lo, hi)
+        desk.value(kind, lo, hi)
     }
 
     /// The running folds of the elements from index `lo` up to `hi`, each with its own, computed from a copy by several threads once

@@ -10,13 +10,14 @@ ghost use Rattle.lv_hub.specs.Session.{session_at};
 use crate::hubs::Hub;
 use crate::naming::WithBody;
 use crate::shares::Share;
-use lv_bodies::{Kind, Six, face};
+use lv_bodies::{Kind, Six};
 use lv_edits::Edit;
 use lv_geometry::Refusal;
 use lv_script::{
     Asked, Claimed, Command, Fault, LINE, Line, ReplyBuffer, Slice, put_answer, put_bad,
     put_receipt, put_refusal, put_running_scan,
 };
+use lv_standing::Answered;
 use std::alloc::Global;
 use std::io::Write;
 use std::sync::Wait;
@@ -157,18 +158,17 @@ fn put_reduction<N: WithBody<Six>, T: Wait>(
     ensures room { KeepsRoom held.old held.new }
     ensures few { vec_len answers.old ≤ place.now.most → vec_len answers.new ≤ place.now.most }
 {
-    match place.hub.ask(place.rt, share, lo, hi) {
-        Ok(answer) => {
-            let value = face(kind, answer.value);
+    match place.hub.value(place.rt, share, kind, lo, hi) {
+        Ok(Answered { edit, value }) => {
             let reduction = Claimed {
-                edit: answer.edit,
+                edit,
                 kind,
                 lo,
                 hi,
                 value,
             };
             match list(answers, place.most, reduction) {
-                Ok(()) => put_answer(held, answer.edit.into(), kind, value),
+                Ok(()) => put_answer(held, edit.into(), kind, value),
                 Err(refusal) => put_refusal(held, refusal),
             }
         }

@@ -3,4 +3,3 @@ pub mod Inner
 pub mod Queries
 pub mod QuerySets
 pub mod Standings
-pub mod SetLaws

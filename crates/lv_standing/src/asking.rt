@@ -2,14 +2,16 @@
 ghost use Rattle.std.specs.Prelude.{◌≡◌, ◌⊎◌, Some, IfOk, IfErr};
 ghost use Rattle.lv_bodies.specs.Plain.{program_table};
 ghost use Rattle.lv_edits.specs.History.{list_of};
+ghost use Rattle.lv_edits.specs.Kept.{IsLegalInLimits};
 ghost use Rattle.lv_edits.specs.Ranges.{range_refusal};
 ghost use Rattle.lv_tree.specs.Asked.{IsKindAnswer};
 ghost use Rattle.lv_tree.specs.Kinds.{AreReady, IsCaughtUp, IsNear, LeavesOthers};
 ghost use Rattle.lv_tree.specs.KindSummaries.{summary_of};
-ghost use Rattle.lv_standing.specs.Queries.{span_of};
+ghost use Rattle.lv_standing.specs.Queries.{span_of, watch_answer};
 
+use crate::queries::Query;
 use crate::spans::{Indices, Span};
-use lv_bodies::{Kind, Six};
+use lv_bodies::{Body, Kind, Shown};
 use lv_geometry::Refusal;
 use lv_live::Live;
 use lv_tree::{KindAnswer, KindSummary, Kinds};
@@ -17,8 +19,8 @@ use lv_tree::{KindAnswer, KindSummary, Kinds};
 /// The summary by a kind of the elements from index `lo` up to `hi`, which that kind has followed up to the last edit then, unless the
 /// range is short. Refused with `BadRange`, then `OutOfRange`. Takes no memory.
 #[inline(always)]
-pub fn ask_by_kind(
-    live: &Live<Six>,
+pub fn ask_by_kind<B: Body>(
+    live: &Live<B>,
     kinds: &mut Kinds,
     kind: Kind,
     lo: u32,
@@ -35,7 +37,7 @@ pub fn ask_by_kind(
 }
 
 /// The same of the elements in a span. Takes no memory.
-pub fn ask_span(live: &Live<Six>, kinds: &mut Kinds, kind: Kind, span: Span) -> KindSummary
+pub fn ask_span<B: Body>(live: &Live<B>, kinds: &mut Kinds, kind: Kind, span: Span) -> KindSummary
     requires { AreReady program_table live.now.history.journal kinds.old }
     ensures value { result ≡ summary_of kind (span_of span (list_of live.now.history.journal)) }
     ensures kept { AreReady program_table live.now.history.journal kinds.new }
@@ -46,4 +48,15 @@ pub fn ask_span(live: &Live<Six>, kinds: &mut Kinds, kind: Kind, span: Span) -> 
         Ok(answer) => answer.summary,
         Err(_) => unreachable!(),
     }
+}
+
+/// What a query answers at the last edit. Takes no memory.
+pub fn answer_beside<B: Body>(live: &Live<B>, kinds: &mut Kinds, query: &Query) -> Shown
+    requires limits { IsLegalInLimits live.now.history }
+    requires kept { AreReady program_table live.now.history.journal kinds.old }
+    ensures value { result ≡ watch_answer live.now.history.journal query.now }
+    ensures kept { AreReady program_table live.now.history.journal kinds.new }
+    ensures others { LeavesOthers query.now.kind kinds.old kinds.new }
+{
+    ask_span(live, kinds, query.kind, query.span).shown()
 }

@@ -17,6 +17,49 @@ use lv_geometry::Refusal;
 use lv_live::Live;
 use lv_tree::Kinds;
 
+/// Makes an edit, a write at once, and tells what is kept by kind of it; where many edits have waited the kinds follow them. Refused as the
+/// vector's verdict says, else with `NoMemory`, and nothing has changed then.
+pub fn apply_beside<B: Body>(
+    live: &mut Live<B>,
+    kinds: &mut Kinds,
+    edit: Edit,
+) -> Result<Receipt, Refusal>
+    requires kept { AreReady kinds.old.table live.old.history.journal kinds.old }
+    ensures answer { Answers live.old.history edit result live.new.history }
+    ensures limits { IsLegalInLimits live.new.history }
+    ensures refresh { SameRefresh live.old live.new }
+    ensures kept { AreReady kinds.old.table live.new.history.journal kinds.new }
+{
+    live.keeps();
+    if let Some(refusal) = live.verdict(&edit) {
+        return Err(refusal);
+    }
+    let receipt = edit_beside(live, kinds, edit)?;
+    kinds.follow_waiting(live.view().cells);
+    Ok(receipt)
+}
+
+/// Makes an edit that the vector's verdict allows, a write at once, and tells what is kept by kind of it. Refused as `make_beside` is.
+#[inline(always)]
+pub fn edit_beside<B: Body>(
+    live: &mut Live<B>,
+    kinds: &mut Kinds,
+    edit: Edit,
+) -> Result<Receipt, Refusal>
+    requires verdict { verdict_of live.old.history.limits live.old.history.journal edit ≡ None }
+    requires kept { AreReady kinds.old.table live.old.history.journal kinds.old }
+    ensures answer { Answers live.old.history edit result live.new.history }
+    ensures limits { IsLegalInLimits live.new.history }
+    ensures refresh { SameRefresh live.old live.new }
+    ensures kept { AreReady kinds.old.table live.new.history.journal kinds.new }
+    ensures leaves { LeavesAll kinds.old kinds.new }
+{
+    match edit {
+        Edit::Write { index, value } => write_beside(live, kinds, index, value),
+        _ => make_beside(live, kinds, edit),
+    }
+}
+
 /// Makes an edit that a vector's verdict allows, and tells what is kept by kind of it. Refused with `NoMemory` alone, and nothing has
 /// changed then: the room for what may be kept is made before the edit.
 // Inlined with all that it calls: who knows the edit's kind is left with what that kind needs.

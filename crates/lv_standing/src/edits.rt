@@ -1,15 +1,11 @@
 //! Edits of a live vector with standing queries, and what each tells.
-ghost use Rattle.std.specs.Prelude.{◌≡◌, None};
+ghost use Rattle.std.specs.Prelude.{◌≡◌};
 ghost use Rattle.lv_edits.specs.declared.edit.Edit.{Edit as AnEdit};
 ghost use Rattle.lv_edits.specs.History.{History};
-ghost use Rattle.lv_edits.specs.Kept.{IsLegalInLimits};
-ghost use Rattle.lv_edits.specs.Verdict.{Answers, verdict_of};
-ghost use Rattle.lv_live.specs.State.{SameRefresh};
-ghost use Rattle.lv_tree.specs.Kinds.{AreReady, LeavesAll};
 ghost use Rattle.lv_standing.specs.Inner.{AnswersNoted};
 ghost use Rattle.lv_standing.specs.Standings.{IsStanding};
 
-use crate::beside::{make_beside, write_beside};
+use crate::beside::{edit_beside, write_beside};
 use crate::changes::changed_by;
 use crate::notes::Note;
 use crate::queries::Query;
@@ -127,22 +123,5 @@ fn make_noted(
             tell(live, kinds, set, summaries, changed, notes);
             Ok(receipt)
         }
-    }
-}
-
-// Makes an edit that the vector's verdict allows, a write at once, and tells what is kept by kind of it.
-#[inline(always)]
-fn edit_beside(live: &mut Live<Six>, kinds: &mut Kinds, edit: Edit) -> Result<Receipt, Refusal>
-    requires verdict { verdict_of live.old.history.limits live.old.history.journal edit ≡ None }
-    requires kept { AreReady kinds.old.table live.old.history.journal kinds.old }
-    ensures answer { Answers live.old.history edit result live.new.history }
-    ensures limits { IsLegalInLimits live.new.history }
-    ensures refresh { SameRefresh live.old live.new }
-    ensures kept { AreReady kinds.old.table live.new.history.journal kinds.new }
-    ensures leaves { LeavesAll kinds.old kinds.new }
-{
-    match edit {
-        Edit::Write { index, value } => write_beside(live, kinds, index, value),
-        _ => make_beside(live, kinds, edit),
     }
 }

@@ -5,7 +5,7 @@
 //! answer it changed, or if a query has a bound, whose answer begins or ceases to be within it. The summary of each query's elements is
 //! kept by the query's own kind, so that a push costs a range that ends with it one join.
 //! What is kept by kind follows the edits at questions: an edit costs a kind something only where a query of that kind is asked after it.
-//! Who keeps kinds beside a live vector of another body makes its edits by `make_beside`, `write_beside` and their like.
+//! Who keeps kinds beside a live vector makes its edits by `apply_beside` and its like, and asks by `value_beside` and `answer_beside`.
 //! It parses no text and starts no thread.
 #![tactic(auto)]
 
@@ -23,7 +23,8 @@ mod thresholds;
 mod values;
 mod watches;
 
-pub use beside::{make_beside, push_all_beside, write_all_beside, write_beside};
+pub use asking::answer_beside;
+pub use beside::{apply_beside, make_beside, push_all_beside, write_all_beside, write_beside};
 pub use lv_bodies::Name;
 pub use notes::{Answered, Note};
 pub use queries::Query;
@@ -31,3 +32,4 @@ pub use query_set::QuerySet;
 pub use questions::{Answers, Question};
 pub use spans::{Indices, Span};
 pub use standing::Standing;
+pub use values::value_beside;

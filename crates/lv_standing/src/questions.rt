@@ -3,13 +3,12 @@ ghost use Rattle.std.specs.Prelude.{◌≡◌, ◌<◌, ℕ, Option, None, List,
 ghost use Rattle.lv_geometry.specs.declared.refusals.Refusal.{Refusal as Refused};
 ghost use Rattle.lv_bodies.specs.declared.kinds.Shown.{Shown as Value};
 ghost use Rattle.lv_edits.specs.Kept.{IsLegalInLimits};
-ghost use Rattle.lv_live.specs.State.{SameLive};
 ghost use Rattle.lv_standing.specs.Queries.{watch_answer};
-ghost use Rattle.lv_standing.specs.SetLaws.{live_answers_alike, live_may_ask_on, live_same, live_same_after_both};
 
 use crate::queries::Query;
 use crate::spans::Indices;
-use lv_bodies::{Name, Shown, Six, face};
+use crate::values::folded;
+use lv_bodies::{Name, Shown, Six};
 use lv_geometry::Refusal;
 use lv_live::Live;
 
@@ -68,26 +67,28 @@ pub trait Answers<Q> {
         ensures same { same self.old self.new };
 }
 
+// It has no trees: so what of the span exists is folded where it lies.
 impl Answers<Query> for Live<Six> {
+    ghost use Rattle.std.proofs.Common.{◌≡◌, ◌∙◌, ap, refl, subst, sym};
+
     ghost may_ask = { λ live. IsLegalInLimits live.history };
 
     ghost answer_of = { λ live q. watch_answer live.history.journal q };
 
-    ghost same = { SameLive };
+    ghost same = { λ old new. new ≡ old };
 
-    ghost same_at_once = { live_same };
+    ghost same_at_once = { λ _. refl };
 
-    ghost same_after_both = { live_same_after_both };
+    ghost same_after_both = { λ _ _ _ first second. second ∙ first };
 
-    ghost may_ask_on = { live_may_ask_on };
+    ghost may_ask_on = { λ _ _ is limits. subst (λ live. IsLegalInLimits live.history) (sym is) limits };
 
-    ghost answers_alike = { live_answers_alike };
+    ghost answers_alike = { λ _ _ q is. ap (λ live. watch_answer live.history.journal q) is };
 
-    // Of the span what exists is asked, and is cheap until an edit touches it.
     fn answer(&mut self, query: &Query) -> Shown {
         let Indices { lo, hi } = query.span.indices_in(self.size());
-        match self.ask(lo, hi) {
-            Ok(answer) => face(query.kind, answer.value),
+        match folded(self, query.kind, lo, hi) {
+            Ok(answered) => answered.value,
             Err(_) => unreachable!(),
         }
     }

@@ -29,7 +29,7 @@ use crate::notes::{Answered, Note};
 use crate::queries::Query;
 use crate::query_set::QuerySet;
 use crate::questions::Question;
-use crate::values::{SHORT, asked, folded};
+use crate::values::value_beside;
 use lv_bodies::{Automaton, Body, Kind, Name, Six, SixSummary};
 use lv_edits::{Edit, Receipt};
 use lv_geometry::{Limits, Node, Refusal};
@@ -224,10 +224,7 @@ impl Standing {
         ensures others { LeavesOthers kind self.old.kinds self.new.kinds }
         ensures caught_up { IfOk result (λ _. IsNear kind lo hi self.old.kinds ⊎ IsCaughtUp self.old.live.history.journal kind hi self.new.kinds) }
     {
-        if hi.saturating_sub(lo) <= SHORT {
-            return folded(&self.live, kind, lo, hi);
-        }
-        asked(&self.live, &mut self.kinds, kind, lo, hi)
+        value_beside(&self.live, &mut self.kinds, kind, lo, hi)
     }
 
     /// The live vector.

@@ -1,4 +1,4 @@
-//! The value of one kind over a range.
+//! The value of one kind over a range of a vector beside which kinds are kept.
 ghost use Rattle.std.specs.Prelude.{◌≡◌, ◌⊎◌, Some, IfOk, IfErr};
 ghost use Rattle.lv_bodies.specs.Plain.{program_table};
 ghost use Rattle.lv_edits.specs.Kept.{IsLegalInLimits};
@@ -8,17 +8,16 @@ ghost use Rattle.lv_standing.specs.Queries.{IsShown, IsValue};
 
 use crate::asking::ask_by_kind;
 use crate::notes::Answered;
-use lv_bodies::{Affine, Automaton, Best, Greatest, Kind, Least, Single, Six, Sum};
+use lv_bodies::{Affine, Automaton, Best, Body, Greatest, Kind, Least, Single, Sum};
 use lv_geometry::Refusal;
 use lv_live::Live;
 use lv_tree::Kinds;
 
-/// A range of at most so many elements is folded by the one kind, where they lie. That takes no longer than to look its summaries
-/// up, and far less than to compute them for all six.
-pub const SHORT: u32 = 64;
+// A range of at most so many elements is folded by the one kind, where they lie. That takes no longer than to look its summaries up.
+const SHORT: u32 = 64;
 
 /// The value of a kind over a range, folded where the elements lie.
-pub fn folded(live: &Live<Six>, kind: Kind, lo: u32, hi: u32) -> Result<Answered, Refusal>
+pub fn folded<B: Body>(live: &Live<B>, kind: Kind, lo: u32, hi: u32) -> Result<Answered, Refusal>
     requires { IsLegalInLimits live.now.history }
     ensures ok { IfOk result (λ answered. IsValue live.now.history.journal kind lo hi answered) }
     ensures err { IfErr result (λ refusal. range_refusal live.now.history.journal lo hi ≡ Some refusal) }
@@ -34,7 +33,12 @@ pub fn folded(live: &Live<Six>, kind: Kind, lo: u32, hi: u32) -> Result<Answered
 }
 
 // What the body of a kind shows of the fold.
-fn folded_by<K: Single>(live: &Live<Six>, body: &K, lo: u32, hi: u32) -> Result<Answered, Refusal>
+fn folded_by<B: Body, K: Single>(
+    live: &Live<B>,
+    body: &K,
+    lo: u32,
+    hi: u32,
+) -> Result<Answered, Refusal>
     requires { IsLegalInLimits live.now.history }
     ensures ok { IfOk result (λ answered. IsShown (K.plain body.now) live.now.history.journal lo hi answered) }
     ensures err { IfErr result (λ refusal. range_refusal live.now.history.journal lo hi ≡ Some refusal) }
@@ -48,11 +52,35 @@ fn folded_by<K: Single>(live: &Live<Six>, body: &K, lo: u32, hi: u32) -> Result<
     }
 }
 
-/// The value of a kind over a range, which that kind has followed up to the last edit then, unless the range is short. Refused with
-/// `BadRange`, then `OutOfRange`.
+/// The value of a kind over the elements from index `lo` up to `hi`, at the last edit. A short range is folded by that kind alone, where
+/// its elements lie; for a longer one the kind follows all edits that it hasn't followed yet, and what it keeps is asked. Refused with
+/// `BadRange`, then `OutOfRange`. Takes no memory.
 #[inline(always)]
-pub fn asked(
-    live: &Live<Six>,
+pub fn value_beside<B: Body>(
+    live: &Live<B>,
+    kinds: &mut Kinds,
+    kind: Kind,
+    lo: u32,
+    hi: u32,
+) -> Result<Answered, Refusal>
+    requires limits { IsLegalInLimits live.now.history }
+    requires kept { AreReady program_table live.now.history.journal kinds.old }
+    ensures ok { IfOk result (λ answered. IsValue live.now.history.journal kind lo hi answered) }
+    ensures err { IfErr result (λ refusal. range_refusal live.now.history.journal lo hi ≡ Some refusal) }
+    ensures kept { AreReady program_table live.now.history.journal kinds.new }
+    ensures others { LeavesOthers kind kinds.old kinds.new }
+    ensures caught_up { IfOk result (λ _. IsNear kind lo hi kinds.old ⊎ IsCaughtUp live.now.history.journal kind hi kinds.new) }
+{
+    if hi.saturating_sub(lo) <= SHORT {
+        return folded(live, kind, lo, hi);
+    }
+    asked(live, kinds, kind, lo, hi)
+}
+
+// The same by what the kind keeps.
+#[inline(always)]
+fn asked<B: Body>(
+    live: &Live<B>,
     kinds: &mut Kinds,
     kind: Kind,
     lo: u32,
@@ -74,8 +102,8 @@ pub fn asked(
 
 // The same. It stands apart, so that a sum that was told last pays for none of the other kinds' room on the stack.
 #[inline(never)]
-fn asked_apart(
-    live: &Live<Six>,
+fn asked_apart<B: Body>(
+    live: &Live<B>,
     kinds: &mut Kinds,
     kind: Kind,
     lo: u32,
@@ -101,8 +129,8 @@ fn asked_apart(
 
 // The same, made anew for each kind, so that no summary of another kind is moved.
 #[inline(always)]
-fn asked_by(
-    live: &Live<Six>,
+fn asked_by<B: Body>(
+    live: &Live<B>,
     kinds: &mut Kinds,
     kind: Kind,
     lo: u32,

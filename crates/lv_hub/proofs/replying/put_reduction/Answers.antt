@@ -1,7 +1,6 @@
 -- Proof of `put_reduction`: reduces a range, and lists the answer.
-use Rattle.std.proofs.Common.{◌≡◌, ◌++◌, ◌∷◌, [], Ok, Err, List, refl, ap, ◌∙◌, inl, inr}
+use Rattle.std.proofs.Common.{◌≡◌, ◌++◌, Ok, Err, List, refl, ap, ◌∙◌, inl, inr}
 use Rattle.lv_geometry.specs.declared.refusals.Refusal.TheVariants.{NoMemory}
-use Rattle.lv_bodies.specs.declared.kinds.Shown.{Shown}
 use Rattle.lv_lines.specs.Texts.{answer_text, refused_text}
 use Rattle.lv_transcript.specs.declared.claimed.Claimed.{Claimed}
 use Rattle.lv_hub.specs.Counting.{ShareState}
@@ -15,30 +14,24 @@ seen_and_listed old new answers listed is = ap (λ h. session_at h listed) is
 
 pub returns-in-Ok-list-clause-answer : goal.returns-in-Ok-list-clause-answer
 returns-in-Ok-list-clause-answer g c =
-    let answer = c.in-Ok.answer in
+    let answered = c.in-Ok.field-0 in
     let kind = c.args.kind in
-    let new = c.ask.new.share in
-    let listed : Shown → Claimed = λ value. record { edit = answer.edit; kind = kind; lo = c.args.lo; hi = c.args.hi; value = value } in (
-      answer_text answer.edit kind c.face-value.result,
+    let new = c.value.new.share in (
+      answer_text answered.edit kind answered.value,
       record {
-        result = Ok answer;
+        result = Ok answered;
         told = c.in-Ok.ensures.told;
-        lists = inl (
-          ap (answer_text answer.edit kind) c.face-value.ensures.shown,
-          ap (λ items. session_at new items) (c.in-Ok-list.ensures.listed ∙ ap (λ value. c.args.answers.now.items ++ listed value ∷ []) c.face-value.ensures.shown)
-              ∙ seen_and_listed c.args.share.now new c.args.answers.now.items _ c.in-Ok.ensures.share,
-        );
+        lists = inl (refl, ap (λ items. session_at new items) c.in-Ok-list.ensures.listed ∙ seen_and_listed c.args.share.now new c.args.answers.now.items _ c.in-Ok.ensures.share);
       },
-      c.put_answer.ensures.text ∙ ap (λ n. c.args.held.now.items ++ answer_text n kind c.face-value.result) c.into.ensures,
+      c.put_answer.ensures.text ∙ ap (λ n. c.args.held.now.items ++ answer_text n kind answered.value) c.into.ensures,
     )
 
 pub returns-in-Err-list-clause-answer : goal.returns-in-Err-list-clause-answer
 returns-in-Err-list-clause-answer g c =
-    let answer = c.in-Ok.answer in
-    let new = c.ask.new.share in (
+    let new = c.value.new.share in (
       refused_text NoMemory,
       record {
-        result = Ok answer;
+        result = Ok c.in-Ok.field-0;
         told = c.in-Ok.ensures.told;
         lists = inr (refl, ap (λ items. session_at new items) c.in-Err-list.ensures.unchanged.1 ∙ seen_and_listed c.args.share.now new c.args.answers.now.items _ c.in-Ok.ensures.share);
       },
@@ -47,7 +40,7 @@ returns-in-Err-list-clause-answer g c =
 
 pub returns-in-Err-clause-answer : goal.returns-in-Err-clause-answer
 returns-in-Err-clause-answer g c =
-    let new = c.ask.new.share in (
+    let new = c.value.new.share in (
       refused_text c.in-Err.refusal,
       record {
         result = Err c.in-Err.refusal;

@@ -7,9 +7,9 @@ use Rattle.lv_standing.proofs.RangeLaws.{range_granted}
 use Rattle.lv_standing.proofs.asking.ask_span.Goals as goal
 
 pub unreachable-requires : goal.unreachable-requires
-unreachable-requires c =
+unreachable-requires g c =
     none-some _ (sym (range_granted c.args.live.now.history.journal c.indices_in-lo.result.lo c.indices_in-lo.result.hi c.indices_in-lo.ensures.order (omega (arith, c.indices_in-lo.ensures.inside, c.size.ensures))) ∙ c.in-Err.ensures.err)
 
 pub returns-clause-value : goal.returns-clause-value
-returns-clause-value c =
+returns-clause-value g c =
     c.in-Ok.ensures.ok.summary ∙ ap (summary_of c.args.kind) (c.indices_in-lo.ensures.same (list_of c.args.live.now.history.journal) (sym c.size.ensures))

@@ -7,7 +7,7 @@ use Rattle.lv_standing.proofs.RangeLaws.{range_can_fold}
 use Rattle.lv_standing.proofs.values.asked_by.Goals as goal
 
 pub returns-clause-ok : goal.returns-clause-ok
-returns-clause-ok c =
+returns-clause-ok g c =
     let h = c.args.live.now.history in
     let is = c.in_ok-answer.ensures.ok in
     record {

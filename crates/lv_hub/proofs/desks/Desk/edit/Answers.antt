@@ -1,23 +1,26 @@
 -- Proof of `Desk::edit`: makes an edit, counts it on the share where it is accepted, and adds it to the history then.
 use Rattle.std.proofs.Common.{Some, [], ◌∷◌, ◌++◌, Ok, ap, arith, length, sym, ◌∙◌}
 use Rattle.std.proofs.lemmas.List.{length_push}
+use Rattle.lv_bodies.specs.Plain.{program_table}
+use Rattle.lv_tree.proofs.KeptLaws.{AreReady-still}
 use Rattle.lv_hub.proofs.AcceptedLaws.{all_accepted}
 use Rattle.lv_hub.proofs.WorkLaws.{no_new_wants}
 use Rattle.lv_hub.proofs.desks.Desk.edit.Goals as goal
 
--- vector, book and history have one edit more
+-- vector, book and history have one edit more, and what is kept by kind was told of it
 pub invariant_of-self-2 : goal.invariant_of-self-2
 invariant_of-self-2 g c =
     let accepts = c.in_ok-receipt.ensures.answer in
     let old = c.self.inside.live.history.journal in
     let more = ap (λ h. h.journal) accepts.journal in (
       omega (arith, ap length more, length_push old c.args.edit, c.enter.ensures.book, c.self.invariant.0),
-      record { limits_are = ap (λ h. h.limits) accepts.journal ∙ c.self.invariant.1.limits_are; within = c.apply.ensures.limits },
+      record { limits_are = ap (λ h. h.limits) accepts.journal ∙ c.self.invariant.1.limits_are; within = c.apply_beside.ensures.limits },
       c.see-2.ensures.same ∙ c.append.ensures ∙ ap (λ es. es ++ c.args.edit ∷ []) (c.see.ensures.same ∙ c.self.invariant.2) ∙ sym more,
-      c.self.invariant.3 ∙ ap Some (sym c.apply.ensures.refresh.body),
+      c.self.invariant.3 ∙ ap Some (sym c.apply_beside.ensures.refresh.body),
       all_accepted _ _ _ c.args.edit (Ok c.in_ok-receipt.receipt) c.self.invariant.1 accepts c.self.invariant.4,
+      AreReady-still program_table c.apply_beside.new.live.history.journal c.self.inside.kinds c.apply_beside.new.kinds c.self.invariant.5.kept.table_is c.apply_beside.ensures.kept,
     )
 
 pub returns-clause-quiet : goal.returns-clause-quiet
 returns-clause-quiet g c =
-    rw (← c.self.view_is) (no_new_wants g.N.Naming.limits c.self.inside.live c.apply.new.self c.args.edit (Ok c.in_ok-receipt.receipt) c.self.invariant.1 c.in_ok-receipt.ensures.answer c.apply.ensures.refresh)
+    rw (← c.self.view_is) (no_new_wants g.N.Naming.limits c.self.inside.live c.apply_beside.new.live c.args.edit (Ok c.in_ok-receipt.receipt) c.self.invariant.1 c.in_ok-receipt.ensures.answer c.apply_beside.ensures.refresh)

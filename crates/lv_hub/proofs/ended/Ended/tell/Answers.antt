@@ -9,7 +9,7 @@ put_due-requires-clause-asked c =
     each_answered c.self.inside.queries c.ask.new.self (watch_answer c.args.live.now.history.journal) c.ask.ensures.answers
 
 pub returns-clause-edit : goal.returns-clause-edit
-returns-clause-edit c = c.edit.ensures ∙ ap (λ h. length h.journal) c.ask.ensures.same.history
+returns-clause-edit c = c.edit.ensures ∙ ap (λ live. length live.history.journal) c.ask.ensures.same
 
 pub returns-clause-notes : goal.returns-clause-notes
 returns-clause-notes c =
