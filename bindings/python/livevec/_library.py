@@ -28,7 +28,7 @@ def _lying_in(folders: Iterable[str]) -> Optional[str]:
 
 
 def _known_to_the_system() -> Optional[str]:
-    for name in ("liblivevec.so.1", "liblivevec.so"):
+    for name in ("liblivevec.so.2", "liblivevec.so"):
         try:
             ctypes.PyDLL(name)
         except OSError:
