@@ -1,7 +1,7 @@
 -- What more bytes add to the lines of an input.
 use Rattle.std.proofs.Common.{◌≡◌, ◌<◌, ℕ, suc, zero, ◌+◌, ◌-◌, ◌≤◌, ◌==◌, true, false, List, [], ◌∷◌, ◌++◌, length, take, map, refl, sym, ap, ◌∙◌, inl, inr, arith, append_assoc, append-nil}
 use Rattle.std.proofs.lemmas.Bool.{cases_Bool, eqb-true}
-use Rattle.std.proofs.Math.Seq.{take-append-add}
+use Rattle.std.proofs.Math.Seq.{take-append-add, take-nil}
 use Rattle.lv_lines.specs.Input.{begun_with, put_before, lines_of, whole_lines_of, has_end, unended_of, last_line}
 
 -- ---- bytes without LF
@@ -122,11 +122,16 @@ pub last_line-some : (xs : List ℕ) → (length xs == 0) ≡ false → last_lin
 last_line-some [] some = absurd (cc)
 last_line-some (b ∷ bs) some = refl
 
--- and its first bytes, where any are kept
-pub last_line-take : (n : ℕ) (xs : List ℕ) → 0 < n → map (take n) (last_line xs) ≡ last_line (take n xs)
-last_line-take zero xs some = absurd (omega arith)
-last_line-take (suc n) [] some = refl
-last_line-take (suc n) (b ∷ bs) some = refl
+-- and where what is kept of it isn't
+pub last_line-kept : (n : ℕ) (xs kept : List ℕ) → kept ≡ take n xs → (length kept == 0) ≡ false → last_line xs ≡ xs ∷ []
+last_line-kept n [] kept is some = absurd (cc (rw (is, take-nil n) at some))
+last_line-kept n (b ∷ bs) kept is some = refl
+
+-- there is none where nothing is kept of it, if anything would be
+pub last_line-none : (n : ℕ) (xs kept : List ℕ) → 0 < n → kept ≡ take n xs → (length kept == 0) ≡ true → last_line xs ≡ []
+last_line-none n [] kept many is none = refl
+last_line-none zero (b ∷ bs) kept many is none = absurd (omega arith)
+last_line-none (suc n) (b ∷ bs) kept many is none = absurd (omega (arith, ap length is, eqb-true (length kept) 0 none))
 
 -- a byte that begins the last line
 begun_with-last_line : (b : ℕ) (bs : List ℕ) → begun_with b (last_line bs) ≡ (b ∷ bs) ∷ []
@@ -238,14 +243,6 @@ lines_of-append xs ys =
 -- the lines of an input that ends in LF are all whole
 pub lines_of-ended : (xs : List ℕ) → lines_of (xs ++ 10 ∷ []) ≡ whole_lines_of (xs ++ 10 ∷ [])
 lines_of-ended xs = rw (lines_of-parts (xs ++ 10 ∷ []), unended_of-ended xs []) (append-nil _)
-
--- one more byte that is no LF ends no line
-pub whole_lines_of-push : (xs : List ℕ) (b : ℕ) → (b == 10) ≡ false → whole_lines_of (xs ++ b ∷ []) ≡ whole_lines_of xs
-whole_lines_of-push xs b other =
-    rw (
-      whole_lines_of-append xs (b ∷ []),
-      whole_lines_of-begun (unended_of xs ++ b ∷ []) (has_end-push (unended_of xs) b (has_end-unended_of xs) other),
-    ) (append-nil _)
 
 -- one more LF ends what stood after the last
 pub whole_lines_of-push_end : (xs : List ℕ) → whole_lines_of (xs ++ 10 ∷ []) ≡ whole_lines_of xs ++ unended_of xs ∷ []

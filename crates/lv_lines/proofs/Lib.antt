@@ -2,7 +2,6 @@
 pub mod LineLoopLemmas
 pub mod LineLoopLaws
 pub mod CutWords
-pub mod ReadLinesLemmas
 pub mod InputLemmas
 pub mod LineEnds
 pub mod OutputLemmas

@@ -1,13 +1,12 @@
 -- Bytes that are fed one piece after another.
-use Rattle.std.proofs.Common.{◌≡◌, ◌==◌, true, ℕ, ◌+◌, ◌≤◌, false, List, [], ◌∷◌, ◌++◌, length, take, map, Option, refl, sym, ap, ◌∙◌, inl, inr, arith, append_assoc, append-nil}
+use Rattle.std.proofs.Common.{◌≡◌, ℕ, ◌+◌, ◌≤◌, false, List, [], ◌∷◌, ◌++◌, length, take, map, Option, refl, sym, ap, ◌∙◌, inl, inr, arith, append_assoc, append-nil}
 use Rattle.std.specs.Io.KnownBytes.{Appends}
-use Rattle.std.proofs.lemmas.List.{map-append, length-append, length-map, take-take, take_all, nil_from_length}
-use Rattle.std.proofs.lemmas.Bool.{eqb-true}
+use Rattle.std.proofs.lemmas.List.{map-append, length-append, length-map, take-take, take_all}
 use Rattle.lv_lines.specs.Input.{whole_lines_of, has_end, unended_of}
 use Rattle.lv_lines.specs.Output.{Writes, WritesFront}
 use Rattle.lv_lines.specs.Replies.{Replies, FailsToReply}
-use Rattle.lv_lines.specs.LineReader.{Point, PushesBytes, PushesBytesFront, Finishes, FinishesFront}
-use Rattle.lv_lines.proofs.InputLemmas.{whole_lines_of-append, unended_of-append, whole_lines_of-begun, unended_of-begun, whole_lines_of-ended, unended_of-ended, whole_lines_of-front, unended_of-front, has_end-unended_of, has_end-take, has_end-append_none, length-whole_lines_of-begun, last_line-some}
+use Rattle.lv_lines.specs.LineReader.{Point, PushesBytes, PushesBytesFront}
+use Rattle.lv_lines.proofs.InputLemmas.{whole_lines_of-append, unended_of-append, whole_lines_of-begun, unended_of-begun, whole_lines_of-ended, unended_of-ended, whole_lines_of-front, unended_of-front, has_end-unended_of, has_end-take, has_end-append_none, length-whole_lines_of-begun}
 use Rattle.lv_lines.proofs.OutputLemmas.{Writes-nil, Writes-trans, Writes-sent, WritesFront-after}
 use Rattle.lv_lines.proofs.ReplyLemmas.{Answered-one, Answered-append}
 
@@ -55,10 +54,6 @@ rest_ended xs ys = rw (← append_assoc xs ys (10 ∷ [])) (unended_of-ended (xs
 count_ended : (xs ys : List ℕ) → has_end xs ≡ false → has_end ys ≡ false → length (whole_lines_of (xs ++ (ys ++ 10 ∷ []))) ≡ 1
 count_ended xs ys begun none =
     rw (← append_assoc xs ys (10 ∷ []), whole_lines_of-ended (xs ++ ys) [] (has_end-append_none xs ys begun ∙ none)) refl
-
--- if nothing follows what is kept of a line, it is the line
-pub line_kept : (kept : List ℕ) → length kept ≤ 121 → take 121 (kept ++ []) ≡ kept
-line_kept kept short = ap (take 121) (append-nil kept) ∙ take_all 121 kept short
 
 module _ {S : Type 0} (step : S → ℕ → List ℕ → List ℕ → S → Type 0) where
   -- no bytes, after the beginning of a line
@@ -194,49 +189,6 @@ module _ {S : Type 0} (step : S → ℕ → List ℕ → List ℕ → S → Type
     answered = f.answered;
     written = rw (append-nil f.text) at (WritesFront-after f.written sent);
   }
-
-  -- ---- the last line
-
-  -- no line was begun
-  pub Finishes-nothing : (point : Point S) → (length point.kept == 0) ≡ true → Finishes step point point
-  Finishes-nothing point nothing = record {
-    text = [];
-    answered = rw (nil_from_length point.kept (eqb-true (length point.kept) 0 nothing)) (refl, refl);
-    written = Writes-nil point.contents point.held;
-  }
-
-  -- one was, and is answered
-  pub Finishes-line : (old new : Point S) → (length old.kept == 0) ≡ false
-      → Replies step old.state old.number old.kept new.state (λ text. Writes old.contents old.held new.contents new.held text) → Finishes step old new
-  Finishes-line old new some replied = record {
-    text = replied.reply;
-    answered = rw (last_line-some old.kept some) (Answered-one step _ _ _ _ _ replied.answered);
-    written = replied.written;
-  }
-
-  -- one was, and is not answered, or in part
-  pub FinishesFront-line : (old new : Point S) → (length old.kept == 0) ≡ false
-      → FailsToReply step old.state old.number old.kept new.state (WritesFront old.contents old.held new.contents) → FinishesFront step old new
-  FinishesFront-line old new some fails =
-      let line = last_line-some old.kept some in
-      elim fails [
-        | inl (same, before) ↦ record {
-          front = [];
-          rest = old.kept ∷ [];
-          all = line;
-          text = [];
-          answered = (refl, same);
-          written = before;
-        }
-        | inr part ↦ record {
-          front = old.kept ∷ [];
-          rest = [];
-          all = line;
-          text = part.reply;
-          answered = Answered-one step _ _ _ _ _ part.answered;
-          written = part.written;
-        }
-      ]
 
   -- ---- how many lines
 

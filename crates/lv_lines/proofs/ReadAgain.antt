@@ -1,9 +1,8 @@
 -- The text of a command is read as that command.
-use Rattle.std.proofs.Common.{◌≡◌, ℕ, ◌<◌, ◌≤◌, true, false, List, [], ◌∷◌, length, take, All, codes, lit≤, Some, None, option_map, refl, sym, ap, ◌∙◌, arith, inl, inr}
+use Rattle.std.proofs.Common.{◌≡◌, ℕ, ◌≤◌, true, false, List, [], ◌∷◌, length, All, codes, lit≤, Some, None, option_map, refl, ap, ◌∙◌, arith}
 use Rattle.std.specs.Option.{option_map_or}
 use Rattle.std.specs.Prelude.{decimal}
-use Rattle.std.proofs.lemmas.Bool.{cond-true, cond-false, le-ltb, lt-ltb, cases_lt}
-use Rattle.std.proofs.lemmas.List.{take_all, length-take-le}
+use Rattle.std.proofs.lemmas.Bool.{cond-true, cond-false, le-ltb}
 use Rattle.lv_bodies.specs.declared.kinds.Kind.{Kind}
 use Rattle.lv_bodies.specs.declared.kinds.Kind.TheVariants.{Sum, Least, Greatest, Best, Affine, Automaton}
 use Rattle.lv_edits.specs.declared.edit.Edit.TheVariants as edit
@@ -141,17 +140,3 @@ line_of-printed command fits =
     ∙ ap (λ bytes. line_in command_in (words_of bytes)) (without_cr-none (spaced words) (printed_printable command fits))
     ∙ ap (line_in command_in) (words_of-spaced words (plain_words command fits))
     ∙ line_in-command (verb_of command) (arguments_of command) command verb.no_comment (command_in-words command fits)
-
--- a line of more than 120 bytes is bad
-pub line_of-long : (bytes : List ℕ) → 120 < length bytes → line_of bytes ≡ Bad
-unfolding line_by
-line_of-long bytes long = cond-true _ _ _ (lt-ltb 120 (length bytes) long)
-
--- a line may be cut behind its 121st byte
-pub line_of-cut : (bytes : List ℕ) → line_of (take 121 bytes) ≡ line_of bytes
-line_of-cut bytes =
-    elim (cases_lt 120 (length bytes)) [
-      | inl long ↦
-          line_of-long (take 121 bytes) (omega (arith, length-take-le 121 bytes (omega arith))) ∙ sym (line_of-long bytes long)
-      | inr short ↦ ap line_of (take_all 121 bytes (omega arith))
-    ]

@@ -1,5 +1,13 @@
 -- Lines that are answered one after the other.
-use Rattle.std.proofs.Common.{◌≡◌, ℕ, suc, ◌+◌, List, [], ◌∷◌, ◌++◌, length, refl, sym, ap, ◌∙◌, arith, append_assoc, append-nil}
+use Rattle.std.proofs.Common.{◌≡◌, ℕ, suc, ◌+◌, Option, Some, Result, OnOk, IfErr, List, [], ◌∷◌, ◌++◌, length, refl, sym, ap, ◌∙◌, arith, append_assoc, append-nil}
+use Rattle.lv_lines.specs.declared.fault.Fault.{Fault}
+use Rattle.lv_lines.specs.declared.fault.Fault.TheVariants.{WriteFault}
+use Rattle.lv_lines.specs.declared.lines.Line.{Line}
+use Rattle.lv_lines.specs.declared.lines.Line.TheVariants.{Nothing, Bad, Do}
+use Rattle.lv_lines.specs.Grammar.{command_of}
+use Rattle.lv_lines.specs.Output.{Writes}
+use Rattle.lv_lines.specs.Texts.{unasked_text}
+use Rattle.lv_lines.proofs.OutputLemmas.{Writes-put, Writes-trans}
 use Rattle.lv_lines.specs.Replies.{Answered, AnsweredInParts}
 
 module _ {S : Type 0} (step : S → ℕ → List ℕ → List ℕ → S → Type 0) where
@@ -33,3 +41,31 @@ module _ {S : Type 0} (step : S → ℕ → List ℕ → List ℕ → S → Type
         second = rw same at later.second;
         joined = a.5 ∙ ap (λ (t : List ℕ). a.0 ++ t) later.joined ∙ sym (append_assoc a.0 later.front later.rest);
       }
+
+-- ---- lines that are commands
+
+-- a line whose command is this one
+pub is_asked : {C : Type 0} (line : Line C) (c : C) → Some c ≡ command_of line → line ≡ Do c
+is_asked Nothing c is = absurd (cc)
+is_asked Bad c is = absurd (cc)
+is_asked (Do d) c is =
+    let same : d ≡ c = cc in rw same refl
+
+-- nothing is put before its command is answered
+pub Writes-asked : {C : Type 0} (n : ℕ) (line : Line C) (c : C) {a b : Option (List ℕ)} {h k : List ℕ} (l : List ℕ) → Writes a h b k [] → line ≡ Do c → l ≡ k ++ unasked_text n line → Writes a h b l []
+Writes-asked n line c {a} {b} {h} {k} l w is put =
+    let nothing : unasked_text n line ≡ [] = rw is refl in rw (put, nothing, append-nil k) w
+
+-- and what another line is answered is put
+pub Writes-unasked : {C : Type 0} (n : ℕ) (line : Line C) {a b : Option (List ℕ)} {h k : List ℕ} (l : List ℕ) → Writes a h b k [] → l ≡ k ++ unasked_text n line → Writes a h b l (unasked_text n line)
+Writes-unasked n line {a} {b} {h} {k} l w put = Writes-trans w (Writes-put b k l (unasked_text n line) put)
+
+module _ {C : Type 0} (answers : Line C → List ℕ → Type 0) (written : List ℕ → Type 0) (line : Line C) (c : C) (is : line ≡ Do c) where
+  -- what its command was answered answers the line
+  pub asked_ok : {T E : Type 0} (result : Result T E) → OnOk result ((reply : List ℕ) × answers (Do c) reply × written reply) → OnOk result ((reply : List ℕ) × answers line reply × written reply)
+  asked_ok result answered = rw is answered
+
+  -- and where a front of it was written
+  pub asked_fault : {T : Type 0} (result : Result T Fault) → IfErr result (λ fault. (fault ≡ WriteFault) × (reply : List ℕ) × answers (Do c) reply × written reply)
+      → IfErr result (λ fault. (fault ≡ WriteFault) × (reply : List ℕ) × answers line reply × written reply)
+  asked_fault result answered = rw is answered

@@ -135,3 +135,9 @@ line_by read bytes = if nat_lt 120 (length bytes) then Bad else line_in read (wo
 -- what a line of a vector's script says
 abbrev pub line_of : List ℕ → Line Command
 line_of bytes = line_by command_in bytes
+
+-- the command that a line is, if it is one
+abbrev pub command_of : {C : Type 0} → Line C → Option C
+command_of Nothing = None
+command_of Bad = None
+command_of (Do command) = Some command

@@ -1,4 +1,5 @@
 -- Names the files of definitions of `lv_lines`.
+pub mod AffineFoldLaws
 pub mod Faults
 pub mod Grammar
 pub mod Input

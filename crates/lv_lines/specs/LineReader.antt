@@ -1,11 +1,8 @@
 -- How far the serving of lines has come, between two lines or two reads.
-use Rattle.std.specs.Prelude.{◌≡◌, ℕ, ◌+◌, ◌<◌, ◌≤◌, false, List, [], ◌++◌, length, take, map, Option, Result, Ok, Err}
-use Rattle.std.specs.Io.KnownBytes.{Consumes, IsAtEnd}
-use Rattle.lv_lines.specs.declared.fault.Fault.{Fault}
-use Rattle.lv_lines.specs.declared.fault.Fault.TheVariants.{NoMemory, ReadFault, TooLong, WriteFault}
+use Rattle.std.specs.Prelude.{◌≡◌, ℕ, ◌+◌, ◌≤◌, false, List, [], ◌++◌, length, take, map, Option}
 use Rattle.lv_lines.specs.declared.reply_buffer.ReplyBuffer.{ReplyBuffer}
 use Rattle.lv_lines.specs.declared.line_reader.LineReader.{LineReader}
-use Rattle.lv_lines.specs.Input.{whole_lines_of, has_end, unended_of, last_line}
+use Rattle.lv_lines.specs.Input.{whole_lines_of, has_end, unended_of}
 use Rattle.lv_lines.specs.Output.{Writes, WritesFront}
 use Rattle.lv_lines.specs.Replies.{Answered}
 
@@ -26,6 +23,10 @@ point_of state line_reader contents buffer = record {
   contents = contents buffer.writer.now;
   held = buffer.held.now.items;
 }
+
+-- before the first line
+abbrev pub start_of : {S : Type 0} → S → Option (List ℕ) → Point S
+start_of state contents = record { state = state; number = 1; kept = []; contents = contents; held = [] }
 
 -- what is kept is the beginning of a line
 pub record IsReady (line_reader : LineReader) : Type 0 where
@@ -49,33 +50,3 @@ module _ {S : Type 0} (step : S → ℕ → List ℕ → List ℕ → S → Type
     pub text : List ℕ
     pub answered : Answered step old.state old.number front text new.state
     pub written : WritesFront old.contents old.held new.contents text
-
-  -- the line that was begun was answered, where it isn't empty, and its reply written
-  pub record Finishes (old new : Point S) : Type 0 where
-    pub text : List ℕ
-    pub answered : Answered step old.state old.number (last_line old.kept) text new.state
-    pub written : Writes old.contents old.held new.contents new.held text
-
-  -- or not: no more than a front of what was held and of that reply
-  pub record FinishesFront (old new : Point S) : Type 0 where
-    pub front : List (List ℕ)
-    pub rest : List (List ℕ)
-    pub all : last_line old.kept ≡ front ++ rest
-    pub text : List ℕ
-    pub answered : Answered step old.state old.number front text new.state
-    pub written : WritesFront old.contents old.held new.contents text
-
-  -- how the reading ended, by the bytes that were seen: at the end of the input, where a read failed, where as many bytes were seen as are read, or where a write failed
-  abbrev pub Stops : {T : Type 0} → Point S → Point S → Option (List ℕ) → ℕ → List ℕ → Result T Fault → Type 0
-  Stops old new remaining_new most seen (Ok _) = IsAtEnd remaining_new × (length seen < most) × PushesBytes old new seen × (new.held ≡ [])
-  Stops old new remaining_new most seen (Err ReadFault) = (length seen < most) × PushesBytes old new seen × (new.held ≡ [])
-  Stops old new remaining_new most seen (Err TooLong) = (length seen ≡ most) × PushesBytes old new seen × (new.held ≡ [])
-  Stops old new remaining_new most seen (Err WriteFault) = PushesBytesFront old new seen
-  Stops old new remaining_new most seen (Err NoMemory) = ⊥
-
-  -- at most so many bytes were read and fed
-  pub record ReadsLines {T : Type 0} (old new : Point S) (remaining_old remaining_new : Option (List ℕ)) (most : ℕ) (result : Result T Fault) : Type 0 where
-    pub seen : List ℕ
-    pub read : Consumes remaining_old remaining_new seen
-    pub few : length seen ≤ most
-    pub stops : Stops old new remaining_new most seen result

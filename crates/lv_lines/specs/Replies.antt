@@ -6,13 +6,17 @@ use Rattle.lv_lines.specs.declared.fault.Fault.TheVariants.{NoMemory, ReadFault,
 use Rattle.lv_lines.specs.Input.{lines_of, whole_lines_of}
 use Rattle.lv_lines.specs.Output.{WritesFront}
 
+-- at most how many bytes an input may have
+abbrev pub most_read : ℕ
+most_read = 2 ^ 30
+
 -- of an input no more bytes were seen than it may have
 abbrev pub IsNotTooLong : List ℕ → Type 0
-IsNotTooLong seen = length seen ≤ 2 ^ 30
+IsNotTooLong seen = length seen ≤ most_read
 
 -- one more was seen. Then no more are read
 abbrev pub IsTooLong : List ℕ → Type 0
-IsTooLong seen = length seen ≡ 2 ^ 30 + 1
+IsTooLong seen = length seen ≡ most_read + 1
 
 module _ {S : Type 0} (step : S → ℕ → List ℕ → List ℕ → S → Type 0) where
   -- from state old the lines, numbered from n, were answered in turn with this text, to state new
@@ -75,5 +79,5 @@ module _ {S : Type 0} (step : S → ℕ → List ℕ → List ℕ → S → Type
   pub record LinesServed {T : Type 0} (old new : S) (remaining_old remaining_new contents_old contents_new : Option (List ℕ)) (result : Result T Fault) : Type 0 where
     pub seen : List ℕ
     pub read : Consumes remaining_old remaining_new seen
-    pub few : length seen ≤ 2 ^ 30 + 1
+    pub few : length seen ≤ most_read + 1
     pub ends : Ends old new remaining_old remaining_new contents_old contents_new seen result

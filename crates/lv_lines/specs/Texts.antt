@@ -12,6 +12,8 @@ use Rattle.lv_edits.specs.declared.receipt.Receipt.{Receipt}
 use Rattle.lv_edits.specs.declared.receipt.Receipt.TheVariants.{Pushed, Popped, Written, Reserved, Swapped, Truncated}
 use Rattle.lv_summary.specs.declared.accepted.Accepted.{Accepted}
 use Rattle.lv_summary.specs.declared.accepted.Accepted.TheVariants.{Installed, Held, Stale}
+use Rattle.lv_lines.specs.declared.lines.Line.{Line}
+use Rattle.lv_lines.specs.declared.lines.Line.TheVariants.{Bad}
 use Rattle.lv_lines.specs.Grammar.{kind_name}
 use Rattle.lv_lines.specs.Words.{spaced}
 
@@ -29,6 +31,11 @@ refused_text refusal = refused_by (number_of refusal)
 -- the reply to a line that is not understood: its number
 abbrev pub bad_text : ℕ → List ℕ
 bad_text n = reply_line (codes "bad " ++ decimal n)
+
+-- what a line is answered before its command is: one that says nothing by nothing, and one that says nothing known by its number
+abbrev pub unasked_text : {C : Type 0} → ℕ → Line C → List ℕ
+unasked_text n Bad = bad_text n
+unasked_text n _ = []
 
 -- what an accepted edit is answered by
 abbrev pub receipt_text : Receipt → List ℕ

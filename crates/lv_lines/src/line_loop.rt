@@ -1,9 +1,7 @@
 //! The loop over lines: they are read and answered in turn, until the input ends.
-ghost use Rattle.std.specs.Prelude.{◌≡◌, ◌+◌, ◌^◌, ◌<◌, ◌≤◌, [], length, take, OnOk, IfOk, IfErr, vec_len, vec_capacity};
+ghost use Rattle.std.specs.Prelude.{◌≡◌, ◌<◌, ◌≤◌, [], length, take, IfOk, IfErr, vec_len, vec_capacity};
 ghost use Rattle.std.specs.Io.KnownBytes.{Keeps, Consumes, IsAtEnd};
-ghost use Rattle.lv_lines.specs.Output.{SamePlaces};
 ghost use Rattle.lv_lines.specs.Replies.{LinesServed};
-ghost use Rattle.lv_lines.specs.LineReader.{IsReady, ReadsLines, point_of};
 
 use crate::fault::Fault;
 use crate::line_handler::LineHandler;
@@ -16,8 +14,8 @@ use std::io::{Read, Write};
 // At most how many bytes one read takes.
 const CHUNK: usize = 65_536;
 
-// At most how many bytes are read: one more than an input may have.
-const MOST: usize = (1 << 30) + 1;
+/// At most how many bytes an input may have. One more is read, to tell that there are too many.
+pub const MOST_READ: usize = 1 << 30;
 
 /// Reads lines and has each answered, in turn and numbered from 1, until the input ends. The replies are
 /// sent before more is read.
@@ -40,11 +38,18 @@ pub fn serve_lines<A: LineHandler<W>, R: Read, W: Write>(
     let Ok(mut held) = Vec::with_capacity(alloc, HELD) else {
         return Err(Fault::NoMemory);
     };
-    serve_lines_by(&mut chunk, &mut held, handler, reader, writer)
+    read_lines(&mut chunk, &mut held, handler, reader, writer)
 }
 
-// Serves lines by buffers that were made for it: one for what is read, and one for replies.
-fn serve_lines_by<A: LineHandler<W>, R: Read, W: Write>(
+fn zeros(alloc: Global, len: usize) -> Result<Vec<u8>, AllocError>
+    ensures { IfOk result (λ chunk. vec_len chunk ≡ len) }
+{
+    Vec::from_elem(alloc, 0u8, len)
+}
+
+// Reads chunks, and has the lines that they end answered, up to the end of the input, by buffers that were made for it: one for what is
+// read, and one for replies.
+fn read_lines<A: LineHandler<W>, R: Read, W: Write>(
     chunk: &mut [u8],
     held: &mut Vec<u8>,
     handler: &mut A,
@@ -58,64 +63,24 @@ fn serve_lines_by<A: LineHandler<W>, R: Read, W: Write>(
         (W.contents writer.old) (W.contents writer.new) result }
 {
     let mut buffer = ReplyBuffer { writer, held };
-    serve_into(chunk, handler, reader, &mut buffer)
-}
-
-// Serves lines whose replies go into an empty reply buffer.
-fn serve_into<A: LineHandler<W>, R: Read, W: Write>(
-    chunk: &mut [u8],
-    handler: &mut A,
-    reader: &mut R,
-    buffer: &mut ReplyBuffer<'_, W>,
-) -> Result<(), Fault>
-    requires chunk { 0 < length chunk.old }
-    requires held { buffer.old.held.now.items ≡ [] }
-    ensures places { SamePlaces buffer.old buffer.new }
-    ensures lines_served { LinesServed A.step (A.state handler.old) (A.state handler.new) (R.remaining reader.old) (R.remaining reader.new)
-        (W.contents buffer.old.writer.now) (W.contents buffer.new.writer.now) result }
-{
     let mut line_reader = LineReader::new();
-    read_lines(&mut line_reader, chunk, MOST, handler, reader, buffer)?;
-    line_reader.finish(handler, buffer)?;
-    buffer.send()
-}
-
-fn zeros(alloc: Global, len: usize) -> Result<Vec<u8>, AllocError>
-    ensures { IfOk result (λ chunk. vec_len chunk ≡ len) }
-{
-    Vec::from_elem(alloc, 0u8, len)
-}
-
-/// Reads chunks and feeds them, up to the end of the input. As many bytes as `most` are too many.
-pub(crate) fn read_lines<A: LineHandler<W>, R: Read, W: Write>(
-    line_reader: &mut LineReader,
-    chunk: &mut [u8],
-    most: usize,
-    handler: &mut A,
-    reader: &mut R,
-    buffer: &mut ReplyBuffer<'_, W>,
-) -> Result<(), Fault>
-    requires ready { IsReady line_reader.old }
-    requires number { line_reader.old.number + most < 2 ^ 32 }
-    requires chunk { 0 < length chunk.old }
-    ensures places { SamePlaces buffer.old buffer.new }
-    ensures reads { ReadsLines A.step (point_of (A.state handler.old) line_reader.old W.contents buffer.old)
-        (point_of (A.state handler.new) line_reader.new W.contents buffer.new) (R.remaining reader.old) (R.remaining reader.new) most result }
-    ensures number { OnOk result (line_reader.new.number ≤ line_reader.old.number + most) }
-    ensures ready { OnOk result (IsReady line_reader.new) }
-{
-    let mut left = most;
-    while left > 0 {
+    let mut left = MOST_READ + 1;
+    'reading: loop {
         buffer.send()?;
+        if left == 0 {
+            return Err(Fault::TooLong);
+        }
         let count = read_front(reader, chunk, left)?;
         if count == 0 {
-            return Ok(());
+            if line_reader.kept.is_empty() {
+                return buffer.send();
+            }
+            line_reader.end_line(handler, &[], &mut buffer)?;
+            return buffer.send();
         }
-        line_reader.push_bytes(handler, &chunk[..count], buffer)?;
+        line_reader.push_bytes(handler, &chunk[..count], &mut buffer)?;
         left -= count;
     }
-    buffer.send()?;
-    Err(Fault::TooLong)
 }
 
 // Reads at most `most` bytes into the front of the chunk. None are the end of the input.

@@ -1,5 +1,5 @@
 //! What is kept between two reads: the number of the next line, and the first bytes of a line that was begun.
-ghost use Rattle.std.specs.Prelude.{◌≡◌, ◌+◌, ◌^◌, ◌<◌, ◌≤◌, ◌==◌, [], ◌++◌, length, take, position, OnOk, IfErr};
+ghost use Rattle.std.specs.Prelude.{◌≡◌, ◌+◌, ◌^◌, ◌<◌, ◌≤◌, [], ◌++◌, length, take, OnOk, IfErr};
 ghost use Rattle.lv_lines.specs.Output.{Puts, PutsFront, SamePlaces};
 ghost use Rattle.lv_lines.specs.Replies.{Replies, FailsToReply};
 
@@ -22,7 +22,7 @@ pub(crate) struct LineReader {
 }
 
 impl LineReader {
-    ghost use Rattle.lv_lines.specs.LineReader.{IsReady, PushesBytes, PushesBytesFront, Finishes, FinishesFront, point_of};
+    ghost use Rattle.lv_lines.specs.LineReader.{IsReady, PushesBytes, PushesBytesFront, point_of};
 
     /// Before the first line.
     pub(crate) fn new() -> LineReader
@@ -54,7 +54,7 @@ impl LineReader {
         ensures ready { OnOk result (IsReady self.new) }
     {
         let mut rest = bytes;
-        while let Some(end) = end_of_line(rest) {
+        while let Some(end) = memchr(LF, rest) {
             let (piece, ended) = rest.split_at(end);
             self.end_line(handler, piece, buffer)?;
             (_, rest) = ended.split_at(1);
@@ -63,8 +63,8 @@ impl LineReader {
         Ok(())
     }
 
-    // Ends the line that was begun with these bytes, and has it answered.
-    fn end_line<A: LineHandler<W>, W: Write>(
+    /// Ends the line that was begun with these bytes, and has it answered.
+    pub(crate) fn end_line<A: LineHandler<W>, W: Write>(
         &mut self,
         handler: &mut A,
         piece: &[u8],
@@ -89,34 +89,6 @@ impl LineReader {
         self.number += 1;
         Ok(())
     }
-
-    /// Has the line answered that was begun, where it isn't empty.
-    pub(crate) fn finish<A: LineHandler<W>, W: Write>(
-        &mut self,
-        handler: &mut A,
-        buffer: &mut ReplyBuffer<'_, W>,
-    ) -> Result<(), Fault>
-        requires ready { IsReady self.old }
-        requires number { self.old.number + 1 < 2 ^ 32 }
-        ensures places { SamePlaces buffer.old buffer.new }
-        ensures ok { OnOk result (Finishes A.step (point_of (A.state handler.old) self.old W.contents buffer.old)
-            (point_of (A.state handler.new) self.new W.contents buffer.new)) }
-        ensures fault { IfErr result (λ fault. (fault ≡ Fault.WriteFault)
-            × FinishesFront A.step (point_of (A.state handler.old) self.old W.contents buffer.old)
-            (point_of (A.state handler.new) self.new W.contents buffer.new)) }
-    {
-        if self.kept.is_empty() {
-            return Ok(());
-        }
-        self.end_line(handler, &[], buffer)
-    }
-}
-
-// Where the first LF is.
-fn end_of_line(bytes: &[u8]) -> Option<usize>
-    ensures { result ≡ position (λ byte. byte == 10) bytes.now }
-{
-    memchr(LF, bytes)
 }
 
 // The first bytes, at most `most`.

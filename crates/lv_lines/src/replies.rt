@@ -1,12 +1,14 @@
 //! The lines of reply to edits and reads, and those of refusals.
-ghost use Rattle.std.specs.Prelude.{◌≡◌, ◌+◌, ◌≤◌, ◌++◌, codes, length, map, decimal, vec_len};
+ghost use Rattle.std.specs.Prelude.{◌≡◌, ◌+◌, ◌≤◌, ◌++◌, IfSome, codes, length, map, decimal, vec_len};
 ghost use Rattle.std.specs.Fmt.{signed_decimal};
 ghost use Rattle.lv_edits.specs.declared.receipt.Receipt.TheVariants as receipt;
 ghost use Rattle.lv_lines.specs.Output.{HasRoom, KeepsRoom};
+ghost use Rattle.lv_lines.specs.Grammar.{command_of};
 ghost use Rattle.lv_lines.specs.Words.{spaced};
-ghost use Rattle.lv_lines.specs.Texts.{answer_text, bad_text, capacity_text, receipt_text, refused_by, refused_text, reply_line, scan_head, settled_text, size_text, shown_text, element_text, value_text};
+ghost use Rattle.lv_lines.specs.Texts.{answer_text, bad_text, capacity_text, receipt_text, refused_by, refused_text, reply_line, scan_head, settled_text, size_text, shown_text, element_text, unasked_text, value_text};
 
 use crate::backward_line::BackwardLine;
+use crate::lines::Line;
 use crate::output::{put, put_element, put_number, put_wide};
 use crate::words::{kind_name, scan_name};
 use lv_bodies::{Kind, Shown};
@@ -121,6 +123,24 @@ pub fn put_bad(held: &mut Vec<u8>, number: u32)
     put(held, b"bad ");
     put_number(held, number.into());
     put(held, b"\n");
+}
+
+/// The command that a line is, if it is one. A bad line is answered by its number, and one that says nothing by nothing.
+pub fn command_of<C: Copy>(number: u32, line: Line<C>, held: &mut Vec<u8>) -> Option<C>
+    requires { HasRoom held.old LINE }
+    ensures command { result ≡ command_of line }
+    ensures text { held.new.items ≡ held.old.items ++ unasked_text number line }
+    ensures len { IfSome result (λ _. vec_len held.new ≡ vec_len held.old) }
+    ensures room { KeepsRoom held.old held.new }
+{
+    match line {
+        Line::Nothing => None,
+        Line::Bad => {
+            put_bad(held, number);
+            None
+        }
+        Line::Do(command) => Some(command),
+    }
 }
 
 /// That a pending write is complete.

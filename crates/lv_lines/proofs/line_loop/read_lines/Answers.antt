@@ -1,128 +1,201 @@
--- Proof of `read_lines`: reads chunks and feeds them, up to the end of the input.
-use Rattle.std.proofs.Common.{◌≡◌, [], ◌++◌, ◌∙◌, take, refl, arith, append-nil}
+-- Proof of `read_lines`: reads chunks, and has the lines that they end answered, up to the end of the input.
+use Rattle.std.proofs.Common.{◌≡◌, ◌==◌, ◌+◌, true, false, [], ◌∷◌, ◌++◌, ◌∙◌, Err, length, take, refl, sym, arith, rules, append-nil}
 use Rattle.std.proofs.KnownBytes.{Consumes-nil, Consumes-trans, Consumes-kept}
 use Rattle.std.proofs.lemmas.List.{length-append, length-take-le}
 use Rattle.std.proofs.lemmas.Result.{err_from_is_err_and}
-use Rattle.lv_lines.specs.LineReader.{point_of}
-use Rattle.lv_lines.proofs.LineReaderLemmas.{PushesBytes-nil, PushesBytes-trans, PushesBytesFront-after, PushesBytes-sent, number-PushesBytes}
-use Rattle.lv_lines.proofs.ReadLinesLemmas.{ReadsLines-unsent, ReadsLines-unread, ReadsLines-most, ReadsLines-end}
+use Rattle.lv_lines.specs.declared.fault.Fault.TheVariants.{ReadFault, TooLong, WriteFault}
+use Rattle.lv_lines.specs.LineReader.{point_of, start_of}
+use Rattle.lv_lines.specs.Replies.{LinesServed}
+use Rattle.lv_lines.proofs.LineLoopLemmas.{LinesServed-last, LinesServed-too_long, LinesServed-unended, LinesServed-unread, LinesServed-unsent, PushesBytes-start, in_place, lines_of-ended, lines_of-whole}
+use Rattle.lv_lines.proofs.LineReaderLemmas.{PushesBytes-line, PushesBytesFront-line, PushesBytes-trans, PushesBytesFront-after, PushesBytes-sent, PushesBytesFront-sent, number-PushesBytes}
 use Rattle.lv_lines.proofs.line_loop.read_lines.Goals as goal
 
-pub loop-left-init : goal.loop-left-init
-loop-left-init g c =
-    let start = point_of (g.A.LineHandler.state c.args.handler.now) c.args.line_reader.now g.W.Write.contents c.args.buffer.now in
+pub reading-init : goal.reading-init
+reading-init g c =
+    let state = g.A.LineHandler.state c.args.handler.now in
+    let contents = g.W.Write.contents c.args.writer.now in
+    let made = c.new-line_reader.result in
     record {
       seen = [];
       read = Consumes-nil (g.R.Read.remaining c.args.reader.now);
       count = omega arith;
-      fed = PushesBytes-nil g.A.LineHandler.step start c.requires.ready.begun c.requires.ready.short;
-      ready = c.requires.ready;
-      places = (refl, refl);
+      fed = PushesBytes-start g.A.LineHandler.step state contents record { state = state; number = made.number; kept = made.kept.items; contents = contents; held = c.args.held.now.items }
+          refl c.new-line_reader.ensures.number c.new-line_reader.ensures.kept refl c.requires.held;
+      ready = c.new-line_reader.ensures.ready;
+      place = refl;
     }
 
-pub returns-in_err-send-clause-reads : goal.returns-in_err-send-clause-reads
-returns-in_err-send-clause-reads g c =
+pub returns-in_err-send : goal.returns-in_err-send
+returns-in_err-send g c =
     let p = err_from_is_err_and c.from_residual.result c.from_residual.ensures.1 in
-    let start = point_of (g.A.LineHandler.state c.args.handler.now) c.args.line_reader.now g.W.Write.contents c.args.buffer.now in
-    let here = point_of (g.A.LineHandler.state c.loop-left.handler) c.loop-left.line_reader g.W.Write.contents c.loop-left.buffer in
-    let loop = c.loop-left.invariant in
+    let step = g.A.LineHandler.step in
+    let state = g.A.LineHandler.state c.args.handler.now in
+    let contents = g.W.Write.contents c.args.writer.now in
+    let loop = c.reading.invariant in
+    let here = point_of (g.A.LineHandler.state c.reading.handler) c.reading.line_reader g.W.Write.contents c.reading.buffer in
+    let sent = g.W.Write.contents c.send.new.self.writer.now in
+    let held = c.send.new.self.held.now.items in
     let unsent = c.in_err-send.ensures.fault in
     rw (p.1, p.2, unsent.0)
-    (ReadsLines-unsent g.A.LineHandler.step start here loop.seen loop.fed _ _ c.args.most loop.read _ c.send.new.self.held.now.items (omega (arith, loop.count)) unsent.1)
+    (in_place (λ w. LinesServed step {T = Unit {0}} state (g.A.LineHandler.state c.reading.handler) (g.R.Read.remaining c.args.reader.now) (g.R.Read.remaining c.reading.reader) contents (g.W.Write.contents w) (Err WriteFault))
+    _ _ _ c.send.new.self.writer.now (sym (c.send.ensures.places.0 ∙ loop.place)) (search rules)
+    (LinesServed-unsent step state contents _ _ loop.seen loop.read record here { contents = sent; held = held } (omega (arith, loop.count)) (PushesBytesFront-sent step (start_of state contents) here sent held loop.seen loop.fed unsent.1)))
 
-pub returns-in_err-count-clause-reads : goal.returns-in_err-count-clause-reads
-returns-in_err-count-clause-reads g c =
+pub returns-in_err-count : goal.returns-in_err-count
+returns-in_err-count g c =
     let p = err_from_is_err_and c.from_residual-in_err-count.result c.from_residual-in_err-count.ensures.1 in
-    let start = point_of (g.A.LineHandler.state c.args.handler.now) c.args.line_reader.now g.W.Write.contents c.args.buffer.now in
-    let here = point_of (g.A.LineHandler.state c.loop-left.handler) c.loop-left.line_reader g.W.Write.contents c.loop-left.buffer in
-    let loop = c.loop-left.invariant in
+    let step = g.A.LineHandler.step in
+    let state = g.A.LineHandler.state c.args.handler.now in
+    let contents = g.W.Write.contents c.args.writer.now in
+    let loop = c.reading.invariant in
+    let here = point_of (g.A.LineHandler.state c.reading.handler) c.reading.line_reader g.W.Write.contents c.reading.buffer in
+    let sent = g.W.Write.contents c.send.new.self.writer.now in
+    let held = c.send.new.self.held.now.items in
+    let fed = PushesBytes-sent step (start_of state contents) here sent held loop.seen loop.fed c.in_ok-send.ensures.ok in
+    let mid = record here { contents = sent; held = held } in
     let failed = c.in_err-count.ensures.fault in
-    let read = Consumes-kept _ _ _ loop.seen loop.read failed.1 in
     rw (p.1, p.2, failed.0)
-    (ReadsLines-unread g.A.LineHandler.step start here loop.seen loop.fed _ _ c.args.most read _ _ (omega (arith, loop.count)) c.in_ok-send.ensures.ok)
+    (in_place (λ w. LinesServed step {T = Unit {0}} state (g.A.LineHandler.state c.reading.handler) (g.R.Read.remaining c.args.reader.now) (g.R.Read.remaining c.read_front.new.reader) contents (g.W.Write.contents w) (Err ReadFault))
+    _ _ _ c.send.new.self.writer.now (sym (c.send.ensures.places.0 ∙ loop.place)) (search rules)
+    (LinesServed-unread step state contents _ _ loop.seen (Consumes-kept _ _ _ loop.seen loop.read failed.1) mid (omega (arith, loop.count)) fed c.in_ok-send.ensures.ok.0))
 
-pub returns-then-count-eq0-clause-reads : goal.returns-then-count-eq0-clause-reads
-returns-then-count-eq0-clause-reads g c =
-    let start = point_of (g.A.LineHandler.state c.args.handler.now) c.args.line_reader.now g.W.Write.contents c.args.buffer.now in
-    let here = point_of (g.A.LineHandler.state c.loop-left.handler) c.loop-left.line_reader g.W.Write.contents c.loop-left.buffer in
-    let loop = c.loop-left.invariant in
+pub returns-then-is_empty : goal.returns-then-is_empty
+returns-then-is_empty g c =
+    let step = g.A.LineHandler.step in
+    let state = g.A.LineHandler.state c.args.handler.now in
+    let contents = g.W.Write.contents c.args.writer.now in
+    let loop = c.reading.invariant in
+    let here = point_of (g.A.LineHandler.state c.reading.handler) c.reading.line_reader g.W.Write.contents c.reading.buffer in
+    let sent = g.W.Write.contents c.send.new.self.writer.now in
+    let held = c.send.new.self.held.now.items in
+    let fed = PushesBytes-sent step (start_of state contents) here sent held loop.seen loop.fed c.in_ok-send.ensures.ok in
+    let mid = record here { contents = sent; held = held } in
     let none : take c.in_ok-count.count c.read_front.new.chunk ≡ [] = rw c.if-count-eq0.true refl in
     let read = rw append-nil at (Consumes-trans _ _ _ loop.seen [] loop.read (rw none at c.in_ok-count.ensures.read)) in
-    ReadsLines-end g.A.LineHandler.step start here loop.seen loop.fed _ _ c.args.most read _ _ _ (c.in_ok-count.ensures.end c.if-count-eq0.true) (omega (arith, loop.count))
-    c.in_ok-send.ensures.ok
+    let end = c.in_ok-count.ensures.end c.if-count-eq0.true in
+    let nothing : (length mid.kept == 0) ≡ true = sym c.is_empty.ensures ∙ c.if-is_empty.true in
+    in_place (λ w. LinesServed step {T = Unit {0}} state (g.A.LineHandler.state c.reading.handler) (g.R.Read.remaining c.args.reader.now) (g.R.Read.remaining c.read_front.new.reader) contents (g.W.Write.contents w) c.send-then-is_empty.result)
+    _ _ _ c.send-then-is_empty.new.self.writer.now (sym (c.send-then-is_empty.ensures.places.0 ∙ c.send.ensures.places.0 ∙ loop.place)) (search rules)
+    (LinesServed-last step state contents _ _ loop.seen read end (omega (arith, loop.count)) loop.seen mid (g.W.Write.contents c.send-then-is_empty.new.self.writer.now) c.send-then-is_empty.new.self.held.now.items c.send-then-is_empty.result (lines_of-whole loop.seen mid.kept fed.kept nothing) fed c.send-then-is_empty.ensures.ok c.send-then-is_empty.ensures.fault)
 
-pub returns-then-count-eq0-clause-number : goal.returns-then-count-eq0-clause-number
-returns-then-count-eq0-clause-number g c =
-    let start = point_of (g.A.LineHandler.state c.args.handler.now) c.args.line_reader.now g.W.Write.contents c.args.buffer.now in
-    let here = point_of (g.A.LineHandler.state c.loop-left.handler) c.loop-left.line_reader g.W.Write.contents c.loop-left.buffer in
-    let loop = c.loop-left.invariant in
-    omega (arith, loop.count, number-PushesBytes g.A.LineHandler.step start here loop.seen loop.fed c.requires.ready.begun)
+pub end_line-requires-clause-number : goal.end_line-requires-clause-number
+end_line-requires-clause-number g c =
+    let step = g.A.LineHandler.step in
+    let state = g.A.LineHandler.state c.args.handler.now in
+    let contents = g.W.Write.contents c.args.writer.now in
+    let loop = c.reading.invariant in
+    let here = point_of (g.A.LineHandler.state c.reading.handler) c.reading.line_reader g.W.Write.contents c.reading.buffer in
+    omega (arith, loop.count, number-PushesBytes step (start_of state contents) here loop.seen loop.fed refl)
+
+pub returns-in_err-end_line : goal.returns-in_err-end_line
+returns-in_err-end_line g c =
+    let p = err_from_is_err_and c.from_residual-in_err-end_line.result c.from_residual-in_err-end_line.ensures.1 in
+    let step = g.A.LineHandler.step in
+    let state = g.A.LineHandler.state c.args.handler.now in
+    let contents = g.W.Write.contents c.args.writer.now in
+    let loop = c.reading.invariant in
+    let here = point_of (g.A.LineHandler.state c.reading.handler) c.reading.line_reader g.W.Write.contents c.reading.buffer in
+    let sent = g.W.Write.contents c.send.new.self.writer.now in
+    let held = c.send.new.self.held.now.items in
+    let fed = PushesBytes-sent step (start_of state contents) here sent held loop.seen loop.fed c.in_ok-send.ensures.ok in
+    let mid = record here { contents = sent; held = held } in
+    let none : take c.in_ok-count.count c.read_front.new.chunk ≡ [] = rw c.if-count-eq0.true refl in
+    let read = rw append-nil at (Consumes-trans _ _ _ loop.seen [] loop.read (rw none at c.in_ok-count.ensures.read)) in
+    let end = c.in_ok-count.ensures.end c.if-count-eq0.true in
+    let next = point_of (g.A.LineHandler.state c.end_line.new.handler) c.end_line.new.self g.W.Write.contents c.end_line.new.buffer in
+    let some : (length mid.kept == 0) ≡ false = sym c.is_empty.ensures ∙ c.if-is_empty.false in
+    let fails = c.in_err-end_line.ensures.fault in
+    rw (p.1, p.2, fails.0)
+    (in_place (λ w. LinesServed step {T = Unit {0}} state (g.A.LineHandler.state c.end_line.new.handler) (g.R.Read.remaining c.args.reader.now) (g.R.Read.remaining c.read_front.new.reader) contents (g.W.Write.contents w) (Err WriteFault))
+    _ _ _ c.end_line.new.buffer.writer.now (sym (c.end_line.ensures.places.0 ∙ c.send.ensures.places.0 ∙ loop.place)) (search rules)
+    (LinesServed-unended step state contents _ _ loop.seen read end (omega (arith, loop.count)) (loop.seen ++ 10 ∷ []) next (lines_of-ended loop.seen mid.kept fed.kept some) (PushesBytesFront-after step (start_of state contents) mid next loop.seen (10 ∷ []) fed (PushesBytesFront-line step mid next [] loop.ready.begun refl fails.1))))
+
+pub returns-then-count-eq0 : goal.returns-then-count-eq0
+returns-then-count-eq0 g c =
+    let step = g.A.LineHandler.step in
+    let state = g.A.LineHandler.state c.args.handler.now in
+    let contents = g.W.Write.contents c.args.writer.now in
+    let loop = c.reading.invariant in
+    let here = point_of (g.A.LineHandler.state c.reading.handler) c.reading.line_reader g.W.Write.contents c.reading.buffer in
+    let sent = g.W.Write.contents c.send.new.self.writer.now in
+    let held = c.send.new.self.held.now.items in
+    let fed = PushesBytes-sent step (start_of state contents) here sent held loop.seen loop.fed c.in_ok-send.ensures.ok in
+    let mid = record here { contents = sent; held = held } in
+    let none : take c.in_ok-count.count c.read_front.new.chunk ≡ [] = rw c.if-count-eq0.true refl in
+    let read = rw append-nil at (Consumes-trans _ _ _ loop.seen [] loop.read (rw none at c.in_ok-count.ensures.read)) in
+    let end = c.in_ok-count.ensures.end c.if-count-eq0.true in
+    let next = point_of (g.A.LineHandler.state c.end_line.new.handler) c.end_line.new.self g.W.Write.contents c.end_line.new.buffer in
+    let some : (length mid.kept == 0) ≡ false = sym c.is_empty.ensures ∙ c.if-is_empty.false in
+    let answered = c.in_ok-end_line.ensures in
+    in_place (λ w. LinesServed step {T = Unit {0}} state (g.A.LineHandler.state c.end_line.new.handler) (g.R.Read.remaining c.args.reader.now) (g.R.Read.remaining c.read_front.new.reader) contents (g.W.Write.contents w) c.send-then-count-eq0.result)
+    _ _ _ c.send-then-count-eq0.new.self.writer.now (sym (c.send-then-count-eq0.ensures.places.0 ∙ c.end_line.ensures.places.0 ∙ c.send.ensures.places.0 ∙ loop.place)) (search rules)
+    (LinesServed-last step state contents _ _ loop.seen read end (omega (arith, loop.count)) (loop.seen ++ 10 ∷ []) next (g.W.Write.contents c.send-then-count-eq0.new.self.writer.now) c.send-then-count-eq0.new.self.held.now.items c.send-then-count-eq0.result (lines_of-ended loop.seen mid.kept fed.kept some) (PushesBytes-trans step (start_of state contents) mid next loop.seen (10 ∷ []) fed (PushesBytes-line step mid next [] loop.ready.begun refl answered.ok answered.number answered.kept)) c.send-then-count-eq0.ensures.ok c.send-then-count-eq0.ensures.fault)
 
 pub push_bytes-requires-clause-number : goal.push_bytes-requires-clause-number
 push_bytes-requires-clause-number g c =
-    let start = point_of (g.A.LineHandler.state c.args.handler.now) c.args.line_reader.now g.W.Write.contents c.args.buffer.now in
-    let here = point_of (g.A.LineHandler.state c.loop-left.handler) c.loop-left.line_reader g.W.Write.contents c.loop-left.buffer in
-    let loop = c.loop-left.invariant in
+    let step = g.A.LineHandler.step in
+    let state = g.A.LineHandler.state c.args.handler.now in
+    let contents = g.W.Write.contents c.args.writer.now in
+    let loop = c.reading.invariant in
+    let here = point_of (g.A.LineHandler.state c.reading.handler) c.reading.line_reader g.W.Write.contents c.reading.buffer in
     let fit = length-take-le c.in_ok-count.count c.read_front.new.chunk c.in_ok-count.ensures.within in
-    omega (arith, loop.count, fit, c.requires.number, c.in_ok-count.ensures.few, number-PushesBytes g.A.LineHandler.step start here loop.seen loop.fed c.requires.ready.begun)
+    omega (arith, loop.count, fit, c.in_ok-count.ensures.few, number-PushesBytes step (start_of state contents) here loop.seen loop.fed refl)
 
-pub returns-in_err-push_bytes-clause-reads : goal.returns-in_err-push_bytes-clause-reads
-returns-in_err-push_bytes-clause-reads g c =
+pub returns-in_err-push_bytes : goal.returns-in_err-push_bytes
+returns-in_err-push_bytes g c =
     let p = err_from_is_err_and c.from_residual-in_err-push_bytes.result c.from_residual-in_err-push_bytes.ensures.1 in
     let step = g.A.LineHandler.step in
-    let start = point_of (g.A.LineHandler.state c.args.handler.now) c.args.line_reader.now g.W.Write.contents c.args.buffer.now in
-    let here = point_of (g.A.LineHandler.state c.loop-left.handler) c.loop-left.line_reader g.W.Write.contents c.loop-left.buffer in
-    let stop = point_of (g.A.LineHandler.state c.push_bytes.new.handler) c.push_bytes.new.self g.W.Write.contents c.push_bytes.new.buffer in
-    let contents = g.W.Write.contents c.send.new.self.writer.now in
+    let state = g.A.LineHandler.state c.args.handler.now in
+    let contents = g.W.Write.contents c.args.writer.now in
+    let loop = c.reading.invariant in
+    let here = point_of (g.A.LineHandler.state c.reading.handler) c.reading.line_reader g.W.Write.contents c.reading.buffer in
+    let sent = g.W.Write.contents c.send.new.self.writer.now in
     let held = c.send.new.self.held.now.items in
-    let loop = c.loop-left.invariant in
+    let fed = PushesBytes-sent step (start_of state contents) here sent held loop.seen loop.fed c.in_ok-send.ensures.ok in
+    let mid = record here { contents = sent; held = held } in
+    let next = point_of (g.A.LineHandler.state c.push_bytes.new.handler) c.push_bytes.new.self g.W.Write.contents c.push_bytes.new.buffer in
     let bytes = take c.in_ok-count.count c.read_front.new.chunk in
     let fit = length-take-le c.in_ok-count.count c.read_front.new.chunk c.in_ok-count.ensures.within in
     let fails = c.in_err-push_bytes.ensures.fault in
-    let sent = PushesBytes-sent step start here contents held loop.seen loop.fed c.in_ok-send.ensures.ok in
-    rw (p.1, p.2, fails.0) record {
-      seen = loop.seen ++ bytes;
-      read = Consumes-trans _ _ _ loop.seen bytes loop.read c.in_ok-count.ensures.read;
-      few = omega (arith, loop.count, length-append loop.seen bytes, fit, c.in_ok-count.ensures.few);
-      stops = PushesBytesFront-after step start record here { contents = contents; held = held } stop loop.seen bytes sent fails.1;
-    }
+    rw (p.1, p.2, fails.0)
+    (in_place (λ w. LinesServed step {T = Unit {0}} state (g.A.LineHandler.state c.push_bytes.new.handler) (g.R.Read.remaining c.args.reader.now) (g.R.Read.remaining c.read_front.new.reader) contents (g.W.Write.contents w) (Err WriteFault))
+    _ _ _ c.push_bytes.new.buffer.writer.now (sym (c.push_bytes.ensures.places.0 ∙ c.send.ensures.places.0 ∙ loop.place)) (search rules)
+    (LinesServed-unsent step state contents _ _ (loop.seen ++ bytes) (Consumes-trans _ _ _ loop.seen bytes loop.read c.in_ok-count.ensures.read) next (omega (arith, loop.count, length-append loop.seen bytes, fit, c.in_ok-count.ensures.few)) (PushesBytesFront-after step (start_of state contents) mid next loop.seen bytes fed fails.1)))
 
-pub loop-left-preserved : goal.loop-left-preserved
-loop-left-preserved g c =
-    let fed = c.push_bytes.ensures.places in
-    let out = c.send.ensures.places in
+pub reading-preserved : goal.reading-preserved
+reading-preserved g c =
     let step = g.A.LineHandler.step in
-    let start = point_of (g.A.LineHandler.state c.args.handler.now) c.args.line_reader.now g.W.Write.contents c.args.buffer.now in
-    let here = point_of (g.A.LineHandler.state c.loop-left.handler) c.loop-left.line_reader g.W.Write.contents c.loop-left.buffer in
-    let next = point_of (g.A.LineHandler.state c.push_bytes.new.handler) c.push_bytes.new.self g.W.Write.contents c.push_bytes.new.buffer in
-    let contents = g.W.Write.contents c.send.new.self.writer.now in
+    let state = g.A.LineHandler.state c.args.handler.now in
+    let contents = g.W.Write.contents c.args.writer.now in
+    let loop = c.reading.invariant in
+    let here = point_of (g.A.LineHandler.state c.reading.handler) c.reading.line_reader g.W.Write.contents c.reading.buffer in
+    let sent = g.W.Write.contents c.send.new.self.writer.now in
     let held = c.send.new.self.held.now.items in
-    let loop = c.loop-left.invariant in
+    let fed = PushesBytes-sent step (start_of state contents) here sent held loop.seen loop.fed c.in_ok-send.ensures.ok in
+    let mid = record here { contents = sent; held = held } in
+    let next = point_of (g.A.LineHandler.state c.push_bytes.new.handler) c.push_bytes.new.self g.W.Write.contents c.push_bytes.new.buffer in
     let bytes = take c.in_ok-count.count c.read_front.new.chunk in
     let fit = length-take-le c.in_ok-count.count c.read_front.new.chunk c.in_ok-count.ensures.within in
-    let sent = PushesBytes-sent step start here contents held loop.seen loop.fed c.in_ok-send.ensures.ok in
     record {
       seen = loop.seen ++ bytes;
       read = Consumes-trans _ _ _ loop.seen bytes loop.read c.in_ok-count.ensures.read;
       count = omega (arith, loop.count, length-append loop.seen bytes, fit, c.in_ok-count.ensures.few);
-      fed = PushesBytes-trans step start record here { contents = contents; held = held } next loop.seen bytes sent c.in_ok-push_bytes.ensures.ok;
+      fed = PushesBytes-trans step (start_of state contents) mid next loop.seen bytes fed c.in_ok-push_bytes.ensures.ok;
       ready = c.in_ok-push_bytes.ensures.ready;
-      places = (fed.0 ∙ out.0 ∙ loop.places.0, fed.1 ∙ out.1 ∙ loop.places.1);
+      place = c.push_bytes.ensures.places.0 ∙ c.send.ensures.places.0 ∙ loop.place;
     }
 
-pub returns-in_err-send-2-clause-reads : goal.returns-in_err-send-2-clause-reads
-returns-in_err-send-2-clause-reads g c =
-    let p = err_from_is_err_and c.from_residual-in_err-send-2.result c.from_residual-in_err-send-2.ensures.1 in
-    let start = point_of (g.A.LineHandler.state c.args.handler.now) c.args.line_reader.now g.W.Write.contents c.args.buffer.now in
-    let here = point_of (g.A.LineHandler.state c.loop-left.handler) c.loop-left.line_reader g.W.Write.contents c.loop-left.buffer in
-    let loop = c.loop-left.invariant in
-    let unsent = c.in_err-send-2.ensures.fault in
-    rw (p.1, p.2, unsent.0)
-    (ReadsLines-unsent g.A.LineHandler.step start here loop.seen loop.fed _ _ c.args.most loop.read _ c.send-2.new.self.held.now.items (omega (arith, loop.count)) unsent.1)
-
-pub returns-clause-reads : goal.returns-clause-reads
-returns-clause-reads g c =
-    let start = point_of (g.A.LineHandler.state c.args.handler.now) c.args.line_reader.now g.W.Write.contents c.args.buffer.now in
-    let here = point_of (g.A.LineHandler.state c.loop-left.handler) c.loop-left.line_reader g.W.Write.contents c.loop-left.buffer in
-    let loop = c.loop-left.invariant in
-    ReadsLines-most g.A.LineHandler.step start here loop.seen loop.fed _ _ c.args.most loop.read _ _ (omega (arith, loop.count)) c.in_ok-send-2.ensures.ok
+pub returns-then-left-eq0 : goal.returns-then-left-eq0
+returns-then-left-eq0 g c =
+    let step = g.A.LineHandler.step in
+    let state = g.A.LineHandler.state c.args.handler.now in
+    let contents = g.W.Write.contents c.args.writer.now in
+    let loop = c.reading.invariant in
+    let here = point_of (g.A.LineHandler.state c.reading.handler) c.reading.line_reader g.W.Write.contents c.reading.buffer in
+    let sent = g.W.Write.contents c.send.new.self.writer.now in
+    let held = c.send.new.self.held.now.items in
+    let fed = PushesBytes-sent step (start_of state contents) here sent held loop.seen loop.fed c.in_ok-send.ensures.ok in
+    let mid = record here { contents = sent; held = held } in
+    in_place (λ w. LinesServed step {T = Unit {0}} state (g.A.LineHandler.state c.reading.handler) (g.R.Read.remaining c.args.reader.now) (g.R.Read.remaining c.reading.reader) contents (g.W.Write.contents w) (Err TooLong))
+    _ _ _ c.send.new.self.writer.now (sym (c.send.ensures.places.0 ∙ loop.place)) (search rules)
+    (LinesServed-too_long step state contents _ _ loop.seen loop.read mid (omega (arith, loop.count, c.if-left-eq0.true)) fed c.in_ok-send.ensures.ok.0)

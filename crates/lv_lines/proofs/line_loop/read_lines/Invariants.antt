@@ -1,22 +1,21 @@
--- What the loop keeps in `read_lines`: reads chunks and feeds them, up to the end of the input.
-use Rattle.std.proofs.Common.{◌≡◌, ◌+◌, ℕ, List, length}
+-- What the loop keeps in `read_lines`: reads chunks, and has the lines that they end answered, up to the end of the input.
+use Rattle.std.proofs.Common.{◌≡◌, ◌+◌, ◌^◌, ℕ, List, length}
 use Rattle.std.specs.Io.KnownBytes.{Consumes}
-use Rattle.lv_lines.specs.Output.{SamePlaces}
-use Rattle.lv_lines.specs.LineReader.{IsReady, PushesBytes, point_of}
+use Rattle.lv_lines.specs.LineReader.{IsReady, PushesBytes, point_of, start_of}
 use Rattle.lv_lines.proofs.line_loop.read_lines.Given as goal
 
 -- the bytes that were seen were fed
-abbrev pub invariant-loop-left : goal.invariant-loop-left
-invariant-loop-left g l =
+abbrev pub invariant-reading : goal.invariant-reading
+invariant-reading g l =
     record {
       seen : List ℕ;
       read : Consumes (g.R.Read.remaining l.fn.reader) (g.R.Read.remaining l.reader) seen;
-      count : length seen + l.left ≡ l.fn.most;
-      fed : PushesBytes g.A.LineHandler.step (point_of (g.A.LineHandler.state l.fn.handler) l.fn.line_reader g.W.Write.contents l.fn.buffer)
+      count : length seen + l.left ≡ 2 ^ 30 + 1;
+      fed : PushesBytes g.A.LineHandler.step (start_of (g.A.LineHandler.state l.fn.handler) (g.W.Write.contents l.fn.writer))
           (point_of (g.A.LineHandler.state l.handler) l.line_reader g.W.Write.contents l.buffer) seen;
       ready : IsReady l.line_reader;
-      places : SamePlaces l.fn.buffer l.buffer;
+      place : l.buffer.writer.ghost_name ≡ l.initial.buffer.writer.ghost_name;
     }
 
-abbrev pub decreases-loop-left : goal.decreases-loop-left
-decreases-loop-left g l = l.left
+abbrev pub decreases-reading : goal.decreases-reading
+decreases-reading g l = l.left

@@ -4,7 +4,7 @@ use Rattle.std.proofs.lemmas.List.{drop-drop, length-take, length-drop}
 use Rattle.std.proofs.lemmas.Result.{err_from_is_err_and}
 use Rattle.lv_lines.specs.Input.{has_end}
 use Rattle.lv_lines.specs.LineReader.{point_of}
-use Rattle.lv_lines.proofs.LineEnds.{EndsAt-from_position, has_end-from_position}
+use Rattle.lv_lines.proofs.LineEnds.{EndsAt-first, has_end-nowhere}
 use Rattle.lv_lines.proofs.InputLemmas.{has_end-append_none, has_end-take}
 use Rattle.lv_lines.proofs.LineReaderLemmas.{PushesBytes-nil, PushesBytes-piece, PushesBytes-line, PushesBytesFront-line, PushesBytes-trans, PushesBytesFront-after, PushesBytesFront-more}
 use Rattle.lv_lines.proofs.line_reader.LineReader.push_bytes.Goals as goal
@@ -29,7 +29,7 @@ returns-in_err-end_line-clause-fault g c =
     let start = point_of (g.A.LineHandler.state c.args.handler.now) c.args.self.now g.W.Write.contents c.args.buffer.now in
     let here = point_of (g.A.LineHandler.state c.loop-end.handler) c.loop-end.self g.W.Write.contents c.loop-end.buffer in
     let stop = point_of (g.A.LineHandler.state c.end_line.new.handler) c.end_line.new.self g.W.Write.contents c.end_line.new.buffer in
-    let ends = EndsAt-from_position rest c.in-Some.end c.in-Some.ensures in
+    let ends = EndsAt-first rest c.in-Some.end c.in-Some.ensures in
     let none : has_end piece ≡ false = rw c.split_at.ensures.front ends.before in
     let fails = PushesBytesFront-line step here stop piece loop.ready.begun none c.in_err-end_line.ensures.fault.1 in
     let more = PushesBytesFront-more step here stop (piece ++ 10 ∷ []) (drop (c.in-Some.end + 1) rest) fails in
@@ -44,7 +44,7 @@ loop-end-preserved g c =
     let end = c.in-Some.end in
     let piece = c.split_at.result.0.now in
     let after = c.split_at-in-Some.result.1.now in
-    let ends = EndsAt-from_position rest end c.in-Some.ensures in
+    let ends = EndsAt-first rest end c.in-Some.ensures in
     let none : has_end piece ≡ false = rw c.split_at.ensures.front ends.before in
     let later : after ≡ drop (end + 1) rest = rw c.split_at.ensures.back at c.split_at-in-Some.ensures.back ∙ drop-drop 1 end rest in
     let cut : rest ≡ (piece ++ 10 ∷ []) ++ after = rw (c.split_at.ensures.front, later) ends.cut in
@@ -66,7 +66,7 @@ pub returns-clause-ok : goal.returns-clause-ok
 returns-clause-ok g c =
     let loop = c.loop-end.invariant in
     let rest = c.loop-end.rest.now in
-    let none = has_end-from_position rest c.end_of_line.result c.end_of_line.ensures c.in_default.not-Some in
+    let none = has_end-nowhere rest c.memchr.result c.memchr.ensures c.in_default.not-Some in
     let step = g.A.LineHandler.step in
     let start = point_of (g.A.LineHandler.state c.args.handler.now) c.args.self.now g.W.Write.contents c.args.buffer.now in
     let here = point_of (g.A.LineHandler.state c.loop-end.handler) c.loop-end.self g.W.Write.contents c.loop-end.buffer in
@@ -78,7 +78,7 @@ returns-clause-ready g c =
     let loop = c.loop-end.invariant in
     let rest = c.loop-end.rest.now in
     let kept = c.loop-end.self.kept.items in
-    let none = has_end-from_position rest c.end_of_line.result c.end_of_line.ensures c.in_default.not-Some in
+    let none = has_end-nowhere rest c.memchr.result c.memchr.ensures c.in_default.not-Some in
     record {
       begun = rw c.keep.ensures (has_end-take 121 (kept ++ rest) (has_end-append_none kept rest loop.ready.begun ∙ none));
       short = rw c.keep.ensures (simp length-take (omega arith));
