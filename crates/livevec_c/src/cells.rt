@@ -168,7 +168,7 @@ impl Celled for Best {
 impl Celled for Affine {
     ghost use Rattle.livevec_c.specs.Cells.{affine_cell, map_cell};
     ghost use Rattle.livevec_c.specs.CellLaws.{maps_alike};
-    ghost use Rattle.livevec_c.specs.SpreadLaws.{fold_of-maps};
+    ghost use Rattle.lv_lines.specs.AffineFoldLaws.{fold_of-maps};
 
     type Cell = MapCell;
 

@@ -34,14 +34,24 @@ use Rattle.lv_lines.specs.declared.fault.Fault.TheVariants.{WriteFault}
 use Rattle.lv_lines.specs.Output.{Writes, WritesFront}
 use Rattle.lv_lines.specs.Replies.{FailsToReply, Replies}
 use Rattle.lv_lines.proofs.OutputLemmas.{Writes-trans, WritesFront-after}
-use Rattle.lv_lines.specs.Texts.{answer_text, cost_text, refused_text, scan_text}
-use Rattle.lv_script.specs.Script.{HasQueries, Tells, TellsEdit, TellsEvent, TellsScan, edit_text, notes_text, plain_scan, reduced_text, reply_text, scanned_range_text}
+use Rattle.lv_lines.specs.declared.command.Command.{Command}
+use Rattle.lv_lines.specs.declared.lines.Line.{Line}
+use Rattle.lv_lines.specs.declared.lines.Line.TheVariants.{Nothing, Bad, Do}
+use Rattle.lv_lines.specs.Grammar.{command_of}
+use Rattle.lv_lines.specs.Texts.{answer_text, cost_text, refused_text, scan_text, unasked_text}
+use Rattle.lv_script.specs.Script.{HasQueries, LineAnswer, Tells, TellsEdit, TellsEvent, TellsScan, edit_text, notes_text, plain_scan, reduced_text, reply_text, scanned_range_text}
 use Rattle.lv_script.specs.Scripted.{state_of}
 use Rattle.lv_script.proofs.ScanLemmas.{can_fold-slice}
 
 -- a vector with standing queries that stays as it is
 pub unchanged : (s : StandingState) (jobs : List (Carried Six SixSummary)) → HasQueries (state_of s jobs) (state_of s jobs) s.queries
 unchanged s jobs = record { limits = refl; seen = record { edits = refl; issued = refl; claimed = λ n. refl; kept = λ n. refl }; queries_are = refl }
+
+-- a line that is no command
+pub unasked_line : (s : StandingState) (jobs : List (Carried Six SixSummary)) (n : ℕ) (line : Line Command) → None ≡ command_of line → LineAnswer (state_of s jobs) n line (unasked_text n line) (state_of s jobs)
+unasked_line s jobs n Nothing none = (refl, unchanged s jobs)
+unasked_line s jobs n Bad none = (refl, unchanged s jobs)
+unasked_line s jobs n (Do c) none = absurd (cc)
 
 -- a claim, answered by the job with its number, or by none
 pub tells_claim : (old new : StandingState) (named : Option (ℕ × Node × ℕ)) (before after : List (Carried Six SixSummary)) → Step six_operations old.live.history.limits (with_issued old.live before) event.Claim (numbered_reply named) (with_issued new.live after) → new.live.history ≡ old.live.history → new.queries ≡ old.queries

@@ -10,7 +10,8 @@ use Rattle.lv_lines.specs.declared.lines.Line.TheVariants.{Nothing, Bad, Do}
 use Rattle.lv_lines.specs.declared.fault.Fault.{Fault}
 use Rattle.lv_lines.specs.Input.{lines_of, unended_of, whole_lines_of}
 use Rattle.lv_lines.specs.Replies.{Answered, LinesServed}
-use Rattle.lv_lines.specs.Texts.{refused_by, refused_text, reply_line}
+use Rattle.lv_lines.specs.Grammar.{command_of}
+use Rattle.lv_lines.specs.Texts.{refused_by, refused_text, reply_line, unasked_text}
 use Rattle.lv_lines.proofs.InputLemmas.{lines_of-append, unended_of-append, unended_of-ended, whole_lines_of-ended}
 use Rattle.lv_script.specs.Interpreter.{IsOneLine, IsPlainText, MeetsWant, NeverWants, PlainLine, PlainStep, Target, plain_after, plain_reply, plain_text}
 use Rattle.lv_script.proofs.OneLineLaws.{refused_bytes, refused_one}
@@ -33,6 +34,14 @@ whole_append xs ys first second = unended_of-append xs ys ∙ ap (λ begun. unen
 pub whole_parts : {X : Type 0} (f : X → List ℕ) (xs : List X) → ((x : X) → IsWhole (f x)) → IsWhole (flat_map f xs)
 whole_parts f [] each = refl
 whole_parts f (x ∷ xs) each = whole_append (f x) (flat_map f xs) (each x) (whole_parts f xs each)
+
+-- ---- lines that ask for nothing
+
+-- a line that is no command is answered by the interpreter
+pub unasked_plain : {C R S : Type 0} (t : Target C R S) (s : S) (n : ℕ) (line : Line C) → None ≡ command_of line → PlainLine t s n line (unasked_text n line) s
+unasked_plain t s n Nothing none = ([], refl, inl (refl, refl))
+unasked_plain t s n Bad none = ([], refl, inl (refl, refl))
+unasked_plain t s n (Do c) none = absurd (cc)
 
 -- ---- where memory was there
 

@@ -1,10 +1,15 @@
 -- What a schedule's player stands for, at the end of it.
-use Rattle.std.proofs.Common.{◌≡◌, ℕ, Option, Result, List, refl, sym, ◌∙◌}
+use Rattle.std.proofs.Common.{◌≡◌, ℕ, Option, None, Result, List, refl, sym, ◌∙◌}
 use Rattle.lv_lines.specs.declared.fault.Fault.{Fault}
+use Rattle.lv_lines.specs.declared.lines.Line.{Line}
+use Rattle.lv_lines.specs.declared.lines.Line.TheVariants.{Nothing, Bad, Do}
+use Rattle.lv_lines.specs.Grammar.{command_of}
 use Rattle.lv_lines.specs.Replies.{LinesServed}
+use Rattle.lv_lines.specs.Texts.{unasked_text}
 use Rattle.lv_lines.proofs.LineLoopLaws.{lines_served_as}
+use Rattle.lv_machine.specs.declared.events.Event.{Event}
 use Rattle.lv_script.specs.Played.{Played, PlayedStep}
-use Rattle.lv_script.specs.Schedule.{ScheduleStep, SumMachine}
+use Rattle.lv_script.specs.Schedule.{ScheduleStep, SumMachine, line_text, machine_after}
 
 -- what stands for the machine of a place
 pub record Plays (place : ℕ) (s : Played) (m : SumMachine) : Type 0 where
@@ -25,3 +30,9 @@ played_as name place first last owned a b k l result is c =
     let came = lines_served_as (Plays name) (record { moves = line_as name }) _ first _ a b k l result (record { here = refl; machine = refl }) c in
     let same = is (sym came.1.here) in
     rw (same, came.1.machine) came.2
+
+-- a line that is no event is answered so, and changes nothing
+pub unasked_event : (m : SumMachine) (n : ℕ) (line : Line Event) → None ≡ command_of line → (unasked_text n line ≡ line_text m n line) × (m ≡ machine_after m line)
+unasked_event m n Nothing none = (refl, refl)
+unasked_event m n Bad none = (refl, refl)
+unasked_event m n (Do e) none = absurd (cc)

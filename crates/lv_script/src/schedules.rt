@@ -3,12 +3,12 @@ ghost use Rattle.std.specs.Prelude.{◌≡◌, ◌++◌};
 ghost use Rattle.lv_lines.specs.Output.{HasRoom, KeepsRoom};
 ghost use Rattle.lv_lines.specs.Replies.{LinesServed};
 ghost use Rattle.lv_script.specs.Played.{Played, PlayedStep};
-ghost use Rattle.lv_script.specs.Schedule.{ScheduleStep, actor_of, event_text, line_text, machine_after, sum_step};
+ghost use Rattle.lv_script.specs.Schedule.{ScheduleStep, actor_of, event_text, sum_step};
 
 use crate::schedule_lines::read_schedule_line;
 use crate::schedule_replies::{EVENT, put_outcome};
 use lv_bodies::Sum;
-use lv_lines::{Fault, Line, LineHandler, ReplyBuffer, put_bad, serve_lines};
+use lv_lines::{Fault, LineHandler, ReplyBuffer, command_of, serve_lines};
 use lv_machine::{Event, Machine};
 use std::alloc::Global;
 use std::io::{Read, Write};
@@ -50,22 +50,13 @@ impl<W: Write> LineHandler<W> for Player<'_> {
         buffer: &mut ReplyBuffer<'_, W>,
     ) -> Result<(), Fault> {
         buffer.make_room(EVENT)?;
-        answer_line(self.machine, number, read_schedule_line(line), buffer.held);
-        Ok(())
-    }
-}
-
-// Answers a line.
-fn answer_line(machine: &mut Machine<Sum>, number: u32, line: Line<Event>, held: &mut Vec<u8>)
-    requires { HasRoom held.old EVENT }
-    ensures machine { machine.new ≡ machine_after machine.old line }
-    ensures text { held.new.items ≡ held.old.items ++ line_text machine.old number line }
-    ensures room { KeepsRoom held.old held.new }
-{
-    match line {
-        Line::Nothing => {}
-        Line::Bad => put_bad(held, number),
-        Line::Do(event) => answer_event(machine, event, held),
+        match command_of(number, read_schedule_line(line), buffer.held) {
+            Some(event) => {
+                answer_event(self.machine, event, buffer.held);
+                Ok(())
+            }
+            None => Ok(()),
+        }
     }
 }
 

@@ -4,11 +4,11 @@ ghost use Rattle.std.specs.Io.KnownBytes.{Appends, Consumes, IsAtEnd};
 ghost use Rattle.lv_bodies.specs.Six.{six_operations};
 ghost use Rattle.lv_edits.specs.Kept.{IsLegalInLimits};
 ghost use Rattle.lv_live.specs.Kept.{IsWorld};
-ghost use Rattle.lv_lines.specs.Output.{HasRoom, Puts, PutsFront, SamePlaces};
+ghost use Rattle.lv_lines.specs.Output.{Puts, PutsFront, SamePlaces};
 ghost use Rattle.lv_lines.specs.Replies.{LinesServed, FailsToReply, Replies};
 ghost use Rattle.lv_script.specs.Interpreter.{IsPlainText, NeverWants, PlainStep};
 ghost use Rattle.lv_script.specs.PlainScript.{Plain, start, vector_script};
-ghost use Rattle.lv_script.specs.Script.{LineAnswer, ScriptState, ScriptStep};
+ghost use Rattle.lv_script.specs.Script.{ScriptState, ScriptStep};
 ghost use Rattle.lv_script.specs.Beginnings.{Begins};
 ghost use Rattle.lv_script.specs.Scripted.{Bounded, BoundedStep, state_of};
 
@@ -16,7 +16,7 @@ use crate::answers::answer;
 use crate::watch_replies::ROOM;
 use lv_bodies::Six;
 use lv_geometry::Limits;
-use lv_lines::{Command, Fault, Line, LineHandler, ReplyBuffer, put_bad, read_line, serve_lines};
+use lv_lines::{Fault, LineHandler, ReplyBuffer, command_of, read_line, serve_lines};
 use lv_live::Issued;
 use lv_standing::{Note, Standing};
 use std::alloc::Global;
@@ -122,42 +122,15 @@ impl<W: Write> LineHandler<W> for Script {
         buffer: &mut ReplyBuffer<'_, W>,
     ) -> Result<(), Fault> {
         buffer.make_room(ROOM)?;
-        answer_line(
-            &mut self.standing,
-            &mut self.notes,
-            &mut self.issued,
-            number,
-            read_line(line),
-            buffer,
-        )
+        match command_of(number, read_line(line), buffer.held) {
+            Some(command) => answer(
+                &mut self.standing,
+                &mut self.notes,
+                &mut self.issued,
+                command,
+                buffer,
+            ),
+            None => Ok(()),
+        }
     }
-}
-
-// Answers a line.
-fn answer_line<W: Write>(
-    standing: &mut Standing,
-    notes: &mut Vec<Note>,
-    issued: &mut Issued<Six>,
-    number: u32,
-    line: Line<Command>,
-    buffer: &mut ReplyBuffer<'_, W>,
-) -> Result<(), Fault>
-    requires world { IsWorld six_operations standing.old.live issued.old.jobs }
-    requires room { HasRoom buffer.old.held.now ROOM }
-    ensures places { SamePlaces buffer.old buffer.new }
-    ensures ok { OnOk result ((reply : List ℕ) × LineAnswer (state_of standing.old issued.old.jobs) number line reply (state_of standing.new issued.new.jobs)
-        × Puts W.contents buffer.old buffer.new reply) }
-    ensures fault { IfErr result (λ fault. (fault ≡ Fault.WriteFault) × (reply : List ℕ)
-        × LineAnswer (state_of standing.old issued.old.jobs) number line reply (state_of standing.new issued.new.jobs)
-        × PutsFront W.contents buffer.old buffer.new reply) }
-    ensures world { IsWorld six_operations standing.new.live issued.new.jobs }
-    ensures most { issued.new.most ≡ issued.old.most }
-    ensures few { length issued.old.jobs ≤ issued.old.most → length issued.new.jobs ≤ issued.new.most }
-{
-    match line {
-        Line::Nothing => {}
-        Line::Bad => put_bad(buffer.held, number),
-        Line::Do(command) => return answer(standing, notes, issued, command, buffer),
-    }
-    Ok(())
 }

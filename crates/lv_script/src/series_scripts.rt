@@ -13,10 +13,10 @@ mod texts;
 mod values;
 
 use crate::long_grammar::read_long_line;
-use crate::series_scripts::answers::answer_line;
+use crate::series_scripts::answers::answer;
 use crate::watch_replies::ROOM;
 use lv_bodies::Automaton;
-use lv_lines::{Fault, LineHandler, ReplyBuffer, serve_lines};
+use lv_lines::{Fault, LineHandler, ReplyBuffer, command_of, serve_lines};
 use lv_series::Series;
 use lv_standing::{Note, Query, QuerySet};
 use std::alloc::Global;
@@ -85,13 +85,15 @@ impl<W: Write> LineHandler<W> for SeriesScript {
         buffer: &mut ReplyBuffer<'_, W>,
     ) -> Result<(), Fault> {
         buffer.make_room(ROOM)?;
-        answer_line(
-            &mut self.series,
-            &mut self.queries,
-            &mut self.notes,
-            number,
-            read_long_line(line),
-            buffer,
-        )
+        match command_of(number, read_long_line(line), buffer.held) {
+            Some(command) => answer(
+                &mut self.series,
+                &mut self.queries,
+                &mut self.notes,
+                command,
+                buffer,
+            ),
+            None => Ok(()),
+        }
     }
 }

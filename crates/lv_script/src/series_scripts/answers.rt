@@ -1,4 +1,4 @@
-//! What each line of a series' script is answered.
+//! What each command of a series' script is answered.
 ghost use Rattle.std.specs.Prelude.{◌≡◌, List, ℕ, ◌++◌, IfErr, OnOk, map, vec_capacity};
 ghost use Rattle.lv_bodies.specs.Plain.{program_table};
 ghost use Rattle.lv_lines.specs.Output.{HasRoom, KeepsRoom, Puts, PutsFront, SamePlaces};
@@ -8,8 +8,7 @@ ghost use Rattle.lv_standing.specs.QuerySets.{QuerySetState};
 ghost use Rattle.lv_standing.specs.declared.queries.Query.{Query as Asked};
 ghost use Rattle.lv_standing.specs.Standings.{HaveOwnNames};
 ghost use Rattle.lv_script.specs.Inside.{IsReady, Told, known_of, watch_of};
-ghost use Rattle.lv_script.specs.Interpreter.{PlainLine};
-ghost use Rattle.lv_script.specs.PlainSeriesScript.{long_answer, series_script};
+ghost use Rattle.lv_script.specs.PlainSeriesScript.{long_answer};
 ghost use Rattle.lv_script.specs.LongTexts.{first_text, long_element_text};
 
 use crate::long_commands::{LongCommand, Search};
@@ -22,42 +21,15 @@ use crate::watch_replies::{ROOM, put_notes};
 use lv_bodies::{Kind, Name};
 use lv_geometry::Refusal;
 use lv_lines::{
-    Fault, Line, ReplyBuffer, put_answer, put_bad, put_named, put_refused, put_size, put_unwatched,
+    Fault, ReplyBuffer, put_answer, put_named, put_refused, put_size, put_unwatched,
     put_watching,
 };
 use lv_series::{LongEdit, Series};
 use lv_standing::{Note, Query, QuerySet};
 use std::io::Write;
 
-/// Answers a line. Only the reply to a scan may be longer than what is held.
-pub fn answer_line<W: Write>(
-    series: &mut Series,
-    queries: &mut QuerySet<Query>,
-    notes: &mut Vec<Note>,
-    number: u32,
-    line: Line<LongCommand>,
-    buffer: &mut ReplyBuffer<'_, W>,
-) -> Result<(), Fault>
-    requires ready { IsReady series.old queries.old (vec_capacity notes.old) }
-    requires room { HasRoom buffer.old.held.now ROOM }
-    ensures places { SamePlaces buffer.old buffer.new }
-    ensures ok { OnOk result ((reply : List ℕ) × PlainLine series_script (known_of series.old queries.old.queries) number line reply (known_of series.new queries.new.queries)
-        × Puts W.contents buffer.old buffer.new reply) }
-    ensures fault { IfErr result (λ fault. (fault ≡ Fault.WriteFault) × (reply : List ℕ)
-        × PlainLine series_script (known_of series.old queries.old.queries) number line reply (known_of series.new queries.new.queries)
-        × PutsFront W.contents buffer.old buffer.new reply) }
-    ensures ready { IsReady series.new queries.new (vec_capacity notes.new) }
-{
-    match line {
-        Line::Nothing => {}
-        Line::Bad => put_bad(buffer.held, number),
-        Line::Do(command) => return answer(series, queries, notes, command, buffer),
-    }
-    Ok(())
-}
-
-// Answers a command.
-fn answer<W: Write>(
+/// Answers a command. Only the reply to a scan may be longer than what is held.
+pub fn answer<W: Write>(
     series: &mut Series,
     queries: &mut QuerySet<Query>,
     notes: &mut Vec<Note>,
