@@ -11,9 +11,9 @@ use Rattle.lv_edits.specs.Kept.{CarriesElement}
 use Rattle.lv_lines.specs.declared.fault.Fault.{Fault}
 use Rattle.lv_transcript.specs.declared.claimed.Claimed.{Claimed}
 use Rattle.lv_transcript.specs.Fronts.{AreTrueAfter, Entry, edits_in}
-use Rattle.lv_transcript.specs.Scribing.{EndsWhole, ScribeState, Scribed, Scribes, whole_bytes}
+use Rattle.lv_transcript.specs.Transcribing.{Adds, EndsWhole, WasGiven, WritingState, whole_bytes}
 use Rattle.lv_transcript.specs.Transcript.{AreAccepted, AreAcceptedAfter, IsTrueAnswer, greatest}
-use Rattle.lv_hub.specs.Minuting.{AreMinutes, HasFront, MinutesEnd, MinutesState, ScribesAll, last_after}
+use Rattle.lv_hub.specs.Minuting.{AreMinutes, HasFront, MinutesEnd, MinutesState, last_after}
 use Rattle.lv_hub.proofs.PrefixLaws.{prefix_length, prefix_self}
 
 -- ---- entries
@@ -112,26 +112,17 @@ true_of_first edits n reduction there few holds =
       value = subst (λ (es : List Edit). reduction.value ≡ plain_value reduction.kind (slice_range (list_of es) reduction.lo reduction.hi)) (sym same) holds.value;
     }
 
--- one edit more was given
-pub given_one_more : (old mid new : ScribeState) (edits : List Edit) (i : ℕ) (d : Edit) → i < length edits → ScribesAll old (take i edits) mid → Scribes mid (inl (get_or edits i d)) new → ScribesAll old (take (i + 1) edits) new
-given_one_more old mid new edits i d there first one =
-    λ start entries was.
-    let more : map inl (take (i + 1) edits) ≡ map inl (take i edits) ++ inl (get_or edits i d) ∷ [] = ap (map inl) (take_more edits i d there) ∙ map-append inl (take i edits) (get_or edits i d ∷ []) in
-    let both : entries ++ map inl (take (i + 1) edits) ≡ (entries ++ map inl (take i edits)) ++ inl (get_or edits i d) ∷ [] =
-    ap (λ (es : List Entry). entries ++ es) more ∙ sym (append_assoc entries (map inl (take i edits)) (inl (get_or edits i d) ∷ [])) in
-    subst (λ (es : List Entry). Scribed start es new) (sym both) (one start (entries ++ map inl (take i edits)) (first start entries was))
-
 -- ---- minutes
 
--- how minutes end, by what their scribe wrote
+-- how minutes end, by what was written
 ended_so : (start contents : Option (List ℕ)) (journal : List Edit) (result : Result Unit Fault) (entries : List Entry) → edits_in entries ≡ journal → AreTrueAfter [] 0 entries → EndsWhole start contents entries result → MinutesEnd start contents journal result
 ended_so start contents journal (Ok u) entries are holds ends = record { entries = entries; edits_are = are; written = ends.0; front = ends.1 holds }
 ended_so start contents journal (Err fault) entries are holds ends = record { entries = entries; edits_are = are; front = ends.1 holds }
 
 module _ (start : Option (List ℕ)) where
   -- of a hub that has no edit
-  pub minutes_begin : (scribe : ScribeState) (seen : List Edit) → seen ≡ [] → Scribed start [] scribe → AreMinutes start record { scribe = scribe; seen = seen; edits = 0; last = 0 }
-  minutes_begin scribe seen none given = record {
+  pub minutes_begin : (written : WritingState) (seen : List Edit) → seen ≡ [] → WasGiven start [] written → AreMinutes start record { written = written; seen = seen; edits = 0; last = 0 }
+  minutes_begin written seen none given = record {
     entries = [];
     given = given;
     all_true = tt;
@@ -143,9 +134,9 @@ module _ (start : Option (List ℕ)) where
   }
 
   -- edits were taken up, of more that were seen
-  pub minutes_edits : (s : MinutesState) (seen batch : List Edit) (room count : ℕ) (scribe : ScribeState) → AreMinutes start s → IsPrefix s.seen seen → AreAccepted greatest seen → batch ≡ take room (drop s.edits seen) → All CarriesElement batch → ScribesAll s.scribe batch scribe → count ≡ length batch
-      → AreMinutes start record { scribe = scribe; seen = seen; edits = s.edits + count; last = s.last }
-  minutes_edits s seen batch room count scribe was more accepted copied elements gives counted =
+  pub minutes_edits : (s : MinutesState) (seen batch : List Edit) (room count : ℕ) (written : WritingState) → AreMinutes start s → IsPrefix s.seen seen → AreAccepted greatest seen → batch ≡ take room (drop s.edits seen) → All CarriesElement batch → Adds s.written (map inl batch) written → count ≡ length batch
+      → AreMinutes start record { written = written; seen = seen; edits = s.edits + count; last = s.last }
+  minutes_edits s seen batch room count written was more accepted copied elements gives counted =
       let there : s.edits ≤ length seen = omega (arith, was.within, prefix_length s.seen seen more) in
       let now : edits_in was.entries ≡ take s.edits seen = was.edits_are ∙ sym (take_begin s.edits s.seen seen more was.within) in
       let taken : take (length batch) (drop s.edits seen) ≡ batch =
@@ -165,9 +156,9 @@ module _ (start : Option (List ℕ)) where
       }
 
   -- an answer was taken up
-  pub minutes_answer : (s : MinutesState) (reduction : Claimed) (scribe : ScribeState) → AreMinutes start s → IsTrueAnswer s.seen reduction → s.last ≤ reduction.edit → reduction.edit ≤ s.edits → Scribes s.scribe (inr reduction) scribe
-      → AreMinutes start record s { scribe = scribe; last = reduction.edit }
-  minutes_answer s reduction scribe was holds order there gives =
+  pub minutes_answer : (s : MinutesState) (reduction : Claimed) (written : WritingState) → AreMinutes start s → IsTrueAnswer s.seen reduction → s.last ≤ reduction.edit → reduction.edit ≤ s.edits → Adds s.written (inr reduction ∷ []) written
+      → AreMinutes start record s { written = written; last = reduction.edit }
+  minutes_answer s reduction written was holds order there gives =
       let of : IsTrueAnswer (edits_in was.entries) reduction = subst (λ (es : List Edit). IsTrueAnswer es reduction) (sym was.edits_are) (true_of_first s.seen s.edits reduction was.within there holds) in
       record {
         entries = was.entries ++ inr reduction ∷ [];
@@ -181,10 +172,10 @@ module _ (start : Option (List ℕ)) where
       }
 
   -- what is held was written, or that failed
-  pub minutes_rest : (s : MinutesState) (scribe : ScribeState) → AreMinutes start s → ((from : Option (List ℕ)) (entries : List Entry) → Scribed from entries s.scribe → Scribed from entries scribe) → AreMinutes start record s { scribe = scribe }
-  minutes_rest s scribe was rests = record {
+  pub minutes_rest : (s : MinutesState) (written : WritingState) → AreMinutes start s → Adds s.written [] written → AreMinutes start record s { written = written }
+  minutes_rest s written was rests = record {
     entries = was.entries;
-    given = rests start was.entries was.given;
+    given = rw (append-nil was.entries) at (rests start was.entries was.given);
     all_true = was.all_true;
     edits_are = was.edits_are;
     within = was.within;
@@ -194,9 +185,9 @@ module _ (start : Option (List ℕ)) where
   }
 
 -- how they end, where a write may have failed
-pub minutes_end : (start : Option (List ℕ)) (s : MinutesState) (journal : List Edit) (scribe : ScribeState) (contents : Option (List ℕ)) (result : Result Unit Fault) → AreMinutes start s → IsPrefix s.seen journal → AreAccepted greatest journal
-    → All CarriesElement (drop s.edits journal) → ScribesAll s.scribe (drop s.edits journal) scribe → ((from : Option (List ℕ)) (entries : List Entry) → Scribed from entries scribe → EndsWhole from contents entries result) → MinutesEnd start contents journal result
-minutes_end start s journal scribe contents result was more accepted elements gives ends =
+pub minutes_end : (start : Option (List ℕ)) (s : MinutesState) (journal : List Edit) (written : WritingState) (contents : Option (List ℕ)) (result : Result Unit Fault) → AreMinutes start s → IsPrefix s.seen journal → AreAccepted greatest journal
+    → All CarriesElement (drop s.edits journal) → Adds s.written (map inl (drop s.edits journal)) written → ((from : Option (List ℕ)) (entries : List Entry) → WasGiven from entries written → EndsWhole from contents entries result) → MinutesEnd start contents journal result
+minutes_end start s journal written contents result was more accepted elements gives ends =
     let rest = drop s.edits journal in
     let entries = was.entries ++ map inl rest in
     let now : edits_in was.entries ≡ take s.edits journal = was.edits_are ∙ sym (take_begin s.edits s.seen journal more was.within) in
@@ -216,7 +207,7 @@ minutes_missed start contents journal fault (Ok u) w = record {
 minutes_missed start contents journal fault (Err other) w = record { entries = w.entries; edits_are = w.edits_are; front = w.front }
 
 -- what minutes have written is a front
-pub minutes_front : (start : Option (List ℕ)) (s : MinutesState) → AreMinutes start s → HasFront start s.scribe.contents s.seen
+pub minutes_front : (start : Option (List ℕ)) (s : MinutesState) → AreMinutes start s → HasFront start s.written.contents s.seen
 minutes_front start s m = record {
   entries = m.entries;
   begins = subst (λ (es : List Edit). IsPrefix es s.seen) (sym m.edits_are) (drop s.edits s.seen, take-append-drop s.edits s.seen);

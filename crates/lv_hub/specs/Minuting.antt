@@ -1,17 +1,17 @@
--- The minutes of a hub: what a scribe was given of its edits, and of what its sessions were answered.
+-- The minutes of a hub: what a transcript writer was given of its edits, and of what its sessions were answered.
 use Rattle.std.proofs.Common.{inl, inr}
-use Rattle.std.specs.Prelude.{◌≡◌, ℕ, ◌≤◌, Option, Result, Ok, Err, List, [], ◌∷◌, ◌++◌, length, map, take}
+use Rattle.std.specs.Prelude.{◌≡◌, ℕ, ◌≤◌, Option, Result, Ok, Err, List, [], ◌∷◌, length, take}
 use Rattle.lv_edits.specs.declared.edit.Edit.{Edit}
 use Rattle.lv_lines.specs.declared.fault.Fault.{Fault}
 use Rattle.std.specs.Io.KnownBytes.{Appends}
 use mathlib.Core.List.{IsPrefix}
 use Rattle.lv_transcript.specs.Fronts.{AreTrueAfter, Entry, IsFront, edits_in}
-use Rattle.lv_transcript.specs.Scribing.{GotFront, ScribeState, Scribed, whole_bytes}
+use Rattle.lv_transcript.specs.Transcribing.{GotFront, WasGiven, WritingState, whole_bytes}
 use Rattle.lv_transcript.specs.Transcript.{AreAccepted, greatest}
 
--- its scribe, the beginning of the hub's edits that was seen, how many of them the scribe was given, and the edit of its last answer
+-- what was written and is held, the beginning of the hub's edits that was seen, how many of them were given, and the edit of the last answer
 pub record MinutesState : Type 0 where
-  pub scribe : ScribeState
+  pub written : WritingState
   pub seen : List Edit
   pub edits : ℕ
   pub last : ℕ
@@ -22,15 +22,11 @@ last_after last [] = last
 last_after last (inl edit ∷ entries) = last_after last entries
 last_after last (inr reduction ∷ entries) = last_after reduction.edit entries
 
--- a scribe was given these edits besides
-abbrev pub ScribesAll : ScribeState → List Edit → ScribeState → Type 0
-ScribesAll old edits new = (start : Option (List ℕ)) (entries : List Entry) → Scribed start entries old → Scribed start (entries ++ map inl edits) new
-
--- what a scribe was given, whose writer had got what it had at the start, is true in the order of time; its edits are the first of those
+-- what a transcript writer was given, whose writer had got what it had at the start, is true in the order of time; its edits are the first of those
 -- that were seen of the hub's
 pub record AreMinutes (start : Option (List ℕ)) (s : MinutesState) : Type 0 where
   pub entries : List Entry
-  pub given : Scribed start entries s.scribe
+  pub given : WasGiven start entries s.written
   pub all_true : AreTrueAfter [] 0 entries
   pub edits_are : edits_in entries ≡ take s.edits s.seen
   pub within : s.edits ≤ length s.seen

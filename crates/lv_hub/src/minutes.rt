@@ -1,11 +1,10 @@
 //! The minutes of a hub: its edits and its sessions' answers, written in the order of time.
-ghost use Rattle.std.specs.Prelude.{◌≡◌, [], All, IfErr, IfOk, IfSome, List, Option, ℕ};
+ghost use Rattle.std.specs.Prelude.{◌≡◌, [], IfErr, IfOk, IfSome, List, Option, ℕ};
 ghost use mathlib.Core.List.{IsPrefix};
-ghost use Rattle.lv_edits.specs.Kept.{CarriesElement};
-ghost use Rattle.lv_transcript.specs.Scribing.{Scribed};
+ghost use Rattle.lv_transcript.specs.Transcribing.{WasGiven, state_with};
 ghost use Rattle.lv_transcript.specs.Transcript.{AreAccepted, IsTrueAnswer, greatest};
 ghost use Rattle.lv_hub.specs.Counting.{having_seen};
-ghost use Rattle.lv_hub.specs.Minuting.{HasFront, MinutesEnd, ScribesAll};
+ghost use Rattle.lv_hub.specs.Minuting.{HasFront, MinutesEnd};
 
 use crate::histories::HistoryPrefix;
 use crate::hubs::Hub;
@@ -14,7 +13,7 @@ use crate::shares::Share;
 use lv_bodies::Six;
 use lv_edits::Edit;
 use lv_script::{Claimed, Fault};
-use lv_transcript::Scribe;
+use lv_transcript::TranscriptWriter;
 use std::alloc::{AllocError, Global};
 use std::io::Write;
 use std::marker::{Brand, Model, PhantomData};
@@ -34,14 +33,15 @@ impl Begun for Brand {
     ghost start = { None };
 }
 
-/// What a scribe was given of a hub: its edits up to some edit, and answers of its sessions, in the order of time. Whoever holds
-/// them under a lock while a session is answered a line, and has them take that up, keeps them so.
+/// What a transcript writer was given of a hub: its edits up to some edit, and answers of its sessions, in the order of time. Whoever
+/// holds them under a lock while a session is answered a line, and has them take that up, keeps them so.
 #[derive(Drop)]
 pub struct Minutes<N: Naming, W: Write + Drop, K: Begun> {
-    scribe: Scribe<W>,
+    transcript: TranscriptWriter,
+    writer: W,
     // A beginning of the hub's edits.
     prefix: HistoryPrefix<N>,
-    // How many of them the scribe was given.
+    // How many of them the transcript writer was given.
     edits: usize,
     // The edit of the last answer that it was given.
     last: u32,
@@ -53,13 +53,14 @@ pub struct Minutes<N: Naming, W: Write + Drop, K: Begun> {
 }
 
 impl<N: Naming, W: Write + Drop, K: Begun> Model for Minutes<N, W, K> {
+    ghost use Rattle.lv_transcript.specs.Transcribing.{state_with};
     ghost use Rattle.lv_hub.specs.Minuting.{AreMinutes, MinutesState};
 
     ghost Value = { MinutesState };
 
-    ghost view = { λ m. record { scribe = m.scribe; seen = m.prefix; edits = m.edits; last = m.last } };
+    ghost view = { λ m. record { written = state_with (W.contents m.writer) m.transcript; seen = m.prefix; edits = m.edits; last = m.last } };
 
-    ghost invariant = { λ m. AreMinutes K.start (record { scribe = m.scribe; seen = m.prefix; edits = m.edits; last = m.last }) };
+    ghost invariant = { λ m. AreMinutes K.start (record { written = state_with (W.contents m.writer) m.transcript; seen = m.prefix; edits = m.edits; last = m.last }) };
 }
 
 impl<N: WithBody<Six>, W: Write + Drop, K: Begun> Minutes<N, W, K> {
@@ -67,11 +68,13 @@ impl<N: WithBody<Six>, W: Write + Drop, K: Begun> Minutes<N, W, K> {
     pub fn new(alloc: Global, writer: W, share: &Share<N>) -> Result<Minutes<N, W, K>, AllocError>
         requires start { K.start ≡ W.contents writer }
         requires unseen { share.now.seen ≡ [] }
-        ensures { IfOk result (λ m. Scribed K.start [] m.scribe) }
+        ensures { IfOk result (λ m. WasGiven K.start [] m.written) }
     {
         let batch = Vec::with_capacity(alloc, BATCH)?;
+        let transcript = TranscriptWriter::new(alloc)?;
         Ok(Minutes {
-            scribe: Scribe::new(alloc, writer)?,
+            transcript,
+            writer,
             prefix: share.prefix(),
             edits: 0,
             last: 0,
@@ -91,7 +94,7 @@ impl<N: WithBody<Six>, W: Write + Drop, K: Begun> Minutes<N, W, K> {
         reduction: Option<Claimed>,
     )
         requires { IfSome reduction (IsTrueAnswer share.now.seen) }
-        ensures { HasFront K.start self.new.scribe.contents self.new.seen }
+        ensures { HasFront K.start self.new.written.contents self.new.seen }
     {
         self.catch_up(rt, hub, share);
         self.take_batch(rt, hub, share);
@@ -117,7 +120,8 @@ impl<N: WithBody<Six>, W: Write + Drop, K: Begun> Minutes<N, W, K> {
     {
         let mut prefix = share.longer(&self.prefix);
         hub.copy_edits(rt, &mut prefix, self.edits, &mut self.batch);
-        give_all(&mut self.scribe, self.batch.as_slice());
+        self.transcript
+            .edits(self.batch.as_slice(), &mut self.writer);
         self.edits += self.batch.len();
         self.prefix = prefix;
     }
@@ -130,15 +134,15 @@ impl<N: WithBody<Six>, W: Write + Drop, K: Begun> Minutes<N, W, K> {
             self.missed = true;
             return;
         }
-        self.scribe.answer(reduction);
+        self.transcript.answer(reduction, &mut self.writer);
         self.last = reduction.edit;
     }
 
     // Writes all that is held. What was written then is a front.
     fn flush(&mut self)
-        ensures { HasFront K.start self.new.scribe.contents self.new.seen }
+        ensures { HasFront K.start self.new.written.contents self.new.seen }
     {
-        self.scribe.flush();
+        self.transcript.flush(&mut self.writer);
     }
 
     /// Lets a share of the hub see the edits that were taken up.
@@ -159,42 +163,18 @@ impl<N: WithBody<Six>, W: Write + Drop, K: Begun> Minutes<N, W, K> {
         ensures fault { IfErr result.1 (λ fault. fault ≡ Fault.WriteFault) }
     {
         let Minutes {
-            mut scribe,
+            mut transcript,
+            mut writer,
             edits,
             missed,
             ..
         } = self;
         let (_, rest) = journal.split_at(edits);
-        give_all(&mut scribe, rest);
-        let (writer, ended) = scribe.end();
+        transcript.edits(rest, &mut writer);
+        let ended = transcript.end(&mut writer);
         if missed {
             return (writer, Err(Fault::WriteFault));
         }
         (writer, ended)
-    }
-}
-
-// Gives edits to a scribe.
-fn give_all<W: Write + Drop>(scribe: &mut Scribe<W>, edits: &[Edit])
-    ensures given { ScribesAll scribe.old edits.now scribe.new }
-    ensures elements { All CarriesElement edits.now }
-{
-    for edit in edits {
-        tell_element(*edit);
-        scribe.edit(edit);
-    }
-}
-
-// The element of an edit is a number of 64 bits.
-fn tell_element(edit: Edit)
-    ensures { CarriesElement edit }
-{
-    match edit {
-        Edit::Push(_) => {}
-        Edit::Pop => {}
-        Edit::Write { .. } => {}
-        Edit::Reserve(_) => {}
-        Edit::Swap { .. } => {}
-        Edit::Truncate(_) => {}
     }
 }

@@ -1,6 +1,5 @@
 -- What the transcript of a journal, and of a hub that is closed, comes to.
-use Rattle.std.specs.Prelude.{◌≡◌, ◌≤◌, ◌⊎◌, ℕ, Option, Result, Ok, Err, List, [], Vec, length, vec_capacity}
-use Rattle.lv_lines.specs.declared.output.TheConstants.{HELD}
+use Rattle.std.specs.Prelude.{◌≡◌, ◌⊎◌, ℕ, Option, Result, Ok, Err, List, [], length}
 use Rattle.std.specs.List.Sorted.{IsPermutation}
 use Rattle.std.specs.Io.KnownBytes.{Appends}
 use mathlib.Core.List.{IsPrefix}
@@ -15,10 +14,6 @@ use Rattle.lv_transcript.specs.Transcript.{AreAccepted, AreInOrder, IsSoundTrans
 use Rattle.lv_hub.specs.Counting.{ShareState}
 use Rattle.lv_hub.specs.Session.{KeepTies}
 use Rattle.lv_hub.specs.Told.{history_of}
-
--- a buffer holds nothing, and has room for what is held of a text
-abbrev pub IsFreeBuffer : {Z : Type 0} → Vec ℕ Z → Type 0
-IsFreeBuffer held = (held.items ≡ []) × (HELD ≤ vec_capacity held)
 
 -- a text is that of a journal and of these answers, once they are in order
 pub record IsTextOf (journal : List Edit) (listed : List Claimed) (text : List ℕ) : Type 0 where

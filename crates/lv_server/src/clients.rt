@@ -6,14 +6,14 @@ ghost use Rattle.lv_watchers.specs.Watched.{WatchState};
 ghost use Rattle.lv_watchers.specs.Watchers.{watcher_at};
 ghost use Rattle.lv_server.specs.Served.{Sides};
 ghost use Rattle.lv_server.specs.Tasks.{TakesBack, begun_at};
-ghost use Rattle.lv_server.specs.Writing.{IsFreeBuffer};
+ghost use Rattle.lv_transcript.specs.Transcribing.{IsUnused};
 
 use crate::failure::{Failure, FaultPlace};
 use lv_bodies::Six;
 use lv_hub::{Query, Share, WithBody};
 use lv_lines::HELD;
 use lv_script::Fault;
-use lv_transcript::Queue;
+use lv_transcript::{Queue, TranscriptWriter};
 use lv_watchers::{Leaving, Watch, Watched, Watcher, subscribe_all};
 use std::alloc::{AllocError, Global};
 use std::io::{Read, Write};
@@ -113,8 +113,8 @@ impl<N: WithBody<Six>, F: Read + Write + Drop> Model for Task<N, F> {
 pub struct Gathered<F: Drop> {
     pub answers: Vec<Queue>,
     pub streams: Vec<Client<F>>,
-    /// A buffer for their transcript.
-    pub held: Vec<u8>,
+    /// What their transcript is written by.
+    pub transcript: TranscriptWriter,
 }
 
 impl<F: Drop> Gathered<F> {
@@ -122,19 +122,19 @@ impl<F: Drop> Gathered<F> {
     pub fn with_room(alloc: Global, sessions: usize) -> Result<Gathered<F>, Failure>
         ensures answers { IfOk result (λ all. all.answers.items ≡ []) }
         ensures streams { IfOk result (λ all. all.streams.items ≡ []) }
-        ensures held { IfOk result (λ all. IsFreeBuffer all.held) }
+        ensures unused { IfOk result (λ all. IsUnused all.transcript) }
     {
-        let (Ok(answers), Ok(streams), Ok(held)) = (
+        let (Ok(answers), Ok(streams), Ok(transcript)) = (
             Vec::with_capacity(alloc, sessions),
             Vec::with_capacity(alloc, sessions),
-            Vec::with_capacity(alloc, HELD),
+            TranscriptWriter::new(alloc),
         ) else {
             return Err(Failure::memory());
         };
         Ok(Gathered {
             answers,
             streams,
-            held,
+            transcript,
         })
     }
 }
@@ -179,13 +179,13 @@ pub fn take_back<N: WithBody<Six>, F: Read + Write + Drop>(
 ) -> Result<Gathered<F>, Failure>
     requires answers { room.answers.items ≡ [] }
     requires streams { room.streams.items ≡ [] }
-    ensures buffer { IfOk result (λ all. all.held ≡ room.held) }
+    ensures transcript { IfOk result (λ all. all.transcript ≡ room.transcript) }
     ensures back { IfOk result (λ all. TakesBack share.old share.new done.items (in_a_row all.answers.items) (map (λ s. record { lines = F.remaining s.lines; replies = F.contents s.replies }) all.streams.items)) }
 {
     let Gathered {
         mut answers,
         mut streams,
-        held,
+        transcript,
     } = room;
     for session in done {
         let Task {
@@ -210,7 +210,7 @@ pub fn take_back<N: WithBody<Six>, F: Read + Write + Drop>(
     Ok(Gathered {
         answers,
         streams,
-        held,
+        transcript,
     })
 }
 

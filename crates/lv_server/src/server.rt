@@ -4,7 +4,7 @@ ghost use Rattle.std.specs.Prelude.{◌≡◌, ◌+◌, ◌≤◌, IfErr, IfOk, 
 ghost use Rattle.lv_transcript.specs.Joined.{in_a_row};
 ghost use Rattle.lv_server.specs.PlainServed.{ServedPlainly};
 ghost use Rattle.lv_server.specs.Starting.{Records, start_of};
-ghost use Rattle.lv_server.specs.Writing.{IsFreeBuffer};
+ghost use Rattle.lv_transcript.specs.Transcribing.{IsUnused};
 ghost use Rattle.lv_server.specs.Served.{FailsToServe, Served, Sides};
 ghost use Rattle.lv_server.specs.Tasks.{AreAllHeld};
 ghost use Rattle.lv_watchers.specs.Watched.{ServedWatched, WatchState};
@@ -129,7 +129,7 @@ fn serve_as<
             let Gathered {
                 mut answers,
                 streams,
-                mut held,
+                transcript,
             } = all;
             let (file, written, watched) = write_closed(
                 hub,
@@ -137,7 +137,7 @@ fn serve_as<
                 &mut answers,
                 minutes,
                 leaving,
-                &mut held,
+                transcript,
                 writer,
             );
             all_or_failure(written, streams, file, watched)
@@ -171,7 +171,7 @@ fn serve_all<
     requires count { share.old.count ≡ 0 }
     requires unseen { share.old.seen ≡ [] }
     ensures parts { IfOk result (λ all. share.new.parts ≡ share.old.parts) }
-    ensures buffer { IfOk result (λ all. IsFreeBuffer all.0.held) }
+    ensures unused { IfOk result (λ all. IsUnused all.0.transcript) }
     ensures minuted { IfOk result (λ all. is_some all.1 ≡ is_some file) }
     ensures held { IfOk result (λ all. AreAllHeld N.limits share.new (map (λ s. record { lines = F.remaining s.lines; replies = F.contents s.replies }) clients.streams.items) (map (λ s. record { lines = F.remaining s.lines; replies = F.contents s.replies }) all.0.streams.items) (in_a_row all.0.answers.items)) }
     ensures left { IfOk result (λ all. AreLeft share.new.seen (map (λ w. record { questions = w.questions.items; contents = F.contents w.notes }) clients.watches.items) all.2.left.items) }

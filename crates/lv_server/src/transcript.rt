@@ -4,13 +4,14 @@ ghost use Rattle.std.specs.Prelude.{◌≡◌, ◌⊎◌, ◌<◌, ◌≤◌, �
 ghost use mathlib.Core.List.{IsPrefix};
 ghost use Rattle.lv_lines.specs.Replies.{LinesServed};
 ghost use Rattle.lv_transcript.specs.Joined.{in_a_row};
+ghost use Rattle.lv_transcript.specs.Transcribing.{IsUnused};
 ghost use Rattle.lv_transcript.specs.Transcript.{AreAccepted, AreInOrder, IsTrueAnswer, greatest};
 ghost use Rattle.lv_hub.specs.Counting.{having_seen};
 ghost use Rattle.lv_hub.specs.Minuting.{WroteWhole};
 ghost use Rattle.lv_hub.specs.Session.{SessionState, SessionStep, session_at};
 ghost use Rattle.lv_watchers.specs.Watchers.{ClosesTelling};
 ghost use Rattle.lv_server.specs.Starting.{Records};
-ghost use Rattle.lv_server.specs.Writing.{FailsToClose, IsFreeBuffer, Writes, WritesClosed};
+ghost use Rattle.lv_server.specs.Writing.{FailsToClose, Writes, WritesClosed};
 
 use crate::clients::Client;
 use crate::failure::{Failure, FaultPlace};
@@ -18,7 +19,7 @@ use lv_bodies::Six;
 use lv_edits::Edit;
 use lv_hub::{Begun, Hub, Minutes, NoLog, SessionPlace, Share, WithBody, run_session};
 use lv_script::{Claimed, Fault};
-use lv_transcript::{Queue, write_joined_transcript};
+use lv_transcript::{Queue, TranscriptWriter, write_joined_transcript};
 use lv_watchers::{Leaving, Watched};
 use std::alloc::Global;
 use std::io::{Read, Write};
@@ -79,7 +80,7 @@ pub fn run_minuted<N: WithBody<Six>, K: Begun, V: Write + Drop, T: Wait, R: Read
     }
 }
 
-/// Closes a hub and writes its transcript by a buffer that was made for it, ends its minutes, and gives their file back. Then subscribers that
+/// Closes a hub and writes its transcript by what was made for it, ends its minutes, and gives their file back. Then subscribers that
 /// have ended tell the last. Takes no memory. The transcript's fault comes before that of the minutes. A call drops the vector, as one above drops the hub: the proof of a body
 /// that does so by itself is long.
 pub fn write_closed<N: WithBody<Six>, K: Begun, F: Write + Drop, V: Write + Drop, W: Write>(
@@ -88,12 +89,12 @@ pub fn write_closed<N: WithBody<Six>, K: Begun, F: Write + Drop, V: Write + Drop
     queues: &mut Vec<Queue>,
     minutes: Option<Minutes<N, V, K>>,
     leaving: Leaving<F>,
-    held: &mut Vec<u8>,
+    transcript: TranscriptWriter,
     writer: &mut W,
 ) -> (Option<V>, Result<(), Failure>, Vec<Watched<F>>)
     requires parts { share.parts ≡ N.parts }
     requires all_true { All (IsTrueAnswer share.seen) (in_a_row queues.old.items) }
-    requires buffer { IsFreeBuffer held.old }
+    requires unused { IsUnused transcript }
     requires none { leaving.watched.items ≡ [] }
     requires room { vec_len leaving.left ≤ vec_capacity leaving.watched }
     ensures written { IfOk result.1 (λ done. WritesClosed N.limits share (in_a_row queues.old.items) (W.contents writer.old) (W.contents writer.new) (Ok done)) }
@@ -106,7 +107,7 @@ pub fn write_closed<N: WithBody<Six>, K: Begun, F: Write + Drop, V: Write + Drop
 {
     let share = shown(&minutes, share);
     let mut live = hub.close(share);
-    let written = write_in_order(live.journal(), queues, held, writer);
+    let written = write_in_order(live.journal(), queues, transcript, writer);
     let (file, ended) = end_minutes(minutes, live.journal());
     let watched = leaving.tell(&mut live);
     drop(live);
@@ -152,15 +153,15 @@ fn end_minutes<N: WithBody<Six>, K: Begun, V: Write + Drop>(
 fn write_in_order<W: Write>(
     journal: &[Edit],
     queues: &mut Vec<Queue>,
-    held: &mut Vec<u8>,
+    transcript: TranscriptWriter,
     writer: &mut W,
 ) -> Result<(), Fault>
     requires accepted { AreAccepted greatest journal.now }
     requires all_true { All (IsTrueAnswer journal.now) (in_a_row queues.old.items) }
-    requires buffer { IsFreeBuffer held.old }
+    requires unused { IsUnused transcript }
     ensures { Writes journal.now (in_a_row queues.old.items) (W.contents writer.old) (W.contents writer.new) result }
 {
-    write_joined_transcript(journal, queues, held, writer)
+    write_joined_transcript(transcript, journal, queues, writer)
 }
 
 // What failed first: the transcript on standard output, or else its file.

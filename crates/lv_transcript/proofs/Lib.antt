@@ -1,6 +1,5 @@
 -- Names the files of lemmas of `lv_transcript`.
 pub mod JoinedAnswers
-pub mod WrittenTranscripts
 pub mod ReadTranscripts
 pub mod AuditLines
 pub mod AuditRuns
@@ -17,5 +16,5 @@ pub mod FrontRuns
 pub mod FrontEntries
 pub mod FrontFaults
 pub mod FrontAudits
-pub mod ScribedFronts
+pub mod TranscribedFronts
 pub mod SeenTexts

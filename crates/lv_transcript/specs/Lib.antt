@@ -8,5 +8,5 @@ pub mod Joined
 pub mod LeastFirst
 pub mod PutTexts
 pub mod ReadTexts
-pub mod Scribing
+pub mod Transcribing
 pub mod Transcript

@@ -2,8 +2,8 @@
 //!
 //! A transcript is a journal and the reductions that were answered, as text. `write_transcript` writes it; `audit`
 //! answers yes exactly where the bytes are a transcript whose every line is true. It folds blocks of the plain list, which it
-//! keeps until an edit touches them: of the vector it uses the verdicts on edits alone. A `Scribe` writes the entries of a front
-//! as they come.
+//! keeps until an edit touches them: of the vector it uses the verdicts on edits alone. A `TranscriptWriter` writes the lines of a
+//! transcript entry by entry, as they come.
 //!
 //! All of that also works on a caller's memory: `copy_edits` reads a journal in pieces as plain numbers, `put_transcript` puts a
 //! transcript's text into bytes of the caller's, and `audit_text`, `audit_front_text` and `front_in` look at bytes as `audit`,
@@ -18,10 +18,10 @@ mod fronts;
 mod kind_folds;
 mod plain_ranges;
 mod queues;
-mod scribes;
 mod text_audits;
 mod text_buffers;
 mod transcript_lines;
+mod transcript_writer;
 mod transcripts;
 mod whole_lines;
 
@@ -30,7 +30,7 @@ pub use claimed::Claimed;
 pub use flat_edits::{FlatEdit, copy_edits, flat_edit};
 pub use fronts::{FoundFront, FrontVerdict, audit_front, read_front};
 pub use queues::Queue;
-pub use scribes::Scribe;
 pub use text_audits::{Unread, audit_front_text, audit_text, front_in};
 pub use text_buffers::{Unput, are_in_order, put_transcript};
+pub use transcript_writer::TranscriptWriter;
 pub use transcripts::{write_joined_transcript, write_transcript};

@@ -1,4 +1,4 @@
--- Proof of `write_closed`: closes a hub and writes its transcript by a buffer that was made for it, ends its minutes, and gives their file back.
+-- Proof of `write_closed`: closes a hub and writes its transcript by what was made for it, ends its minutes, and gives their file back.
 use Rattle.std.proofs.Common.{All, List, subst, sym, ap}
 use mathlib.Core.List.{IsPrefix}
 use Rattle.lv_edits.specs.declared.edit.Edit.{Edit}
