@@ -7,8 +7,8 @@ use Rattle.lv_lines.specs.declared.fault.Fault.{Fault}
 use Rattle.lv_lines.specs.Replies.{LinesServed}
 use Rattle.lv_transcript.specs.declared.fronts.FrontVerdict.{FrontVerdict}
 use Rattle.lv_transcript.specs.declared.fronts.FrontVerdict.TheVariants as verdicts
-use Rattle.lv_transcript.specs.Fronts.{FrontFound, IsRightOfFront, ReadingEnds}
-use Rattle.lv_transcript.specs.Transcript.{IsWhole, greatest}
+use Rattle.lv_transcript.specs.Audits.{FrontFound, IsRightOfFront, IsWhole, ReadingEnds}
+use Rattle.lv_transcript.specs.Transcript.{greatest}
 use Rattle.lv_script.specs.declared.restored.Unrestored.{Unrestored}
 use Rattle.lv_script.specs.declared.restored.Unrestored.TheVariants as unrestored
 use Rattle.lv_script.specs.Interpreter.{IsPlainText, NeverWants, PlainStep}

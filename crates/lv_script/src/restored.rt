@@ -4,7 +4,7 @@ ghost use Rattle.lv_edits.specs.Kept.{IsLegalInLimits};
 ghost use Rattle.lv_edits.specs.History.{with_edit};
 ghost use Rattle.lv_edits.specs.Verdict.{verdict_of};
 ghost use Rattle.lv_live.specs.State.{SameRefresh};
-ghost use Rattle.lv_transcript.specs.Fronts.{ReadingEnds};
+ghost use Rattle.lv_transcript.specs.Audits.{ReadingEnds};
 ghost use Rattle.lv_transcript.specs.Transcript.{AreAccepted, AreAcceptedAfter, greatest};
 ghost use Rattle.lv_script.specs.Restored.{AnswersAfter, RestoreEnds, Restored};
 

@@ -1,5 +1,5 @@
 -- What becomes of a line in an audit.
-use Rattle.std.proofs.Common.{◌≡◌, ◌≢◌, ◌⊎◌, ℕ, ◌<◌, ◌≤◌, List, [], ◌∷◌, ◌++◌, length, get_or, take, drop, slice_range, refl, sym, ap, ◌∙◌, subst, inl, inr, arith}
+use Rattle.std.proofs.Common.{◌≡◌, ◌≢◌, ◌⊎◌, ℕ, ◌<◌, ◌≤◌, Bool, false, true≢false, List, [], ◌∷◌, ◌++◌, length, get_or, take, drop, slice_range, refl, sym, ap, ◌∙◌, subst, inl, inr, arith}
 use Rattle.std.proofs.lemmas.Bool.{eqb-false}
 use Rattle.std.proofs.lemmas.Option.{same_Some}
 use Rattle.std.proofs.Math.Seq.{drop-append_seam}
@@ -14,7 +14,7 @@ use Rattle.lv_transcript.specs.declared.auditor.Stage.{Stage}
 use Rattle.lv_transcript.specs.declared.auditor.Stage.TheVariants.{Start, Edits, AnswersFollow, End, No, Bad, NoMemory}
 use Rattle.lv_transcript.specs.declared.transcript_lines.Question.{Question}
 use Rattle.lv_transcript.specs.Transcript.{edit_line, greatest, end_line, BeginsAnswer, HasEditForm, IsEdit}
-use Rattle.lv_transcript.specs.Auditing.{AuditState, AnswerLineBecomes, EditBecomes, Becomes, HasLaterForm, IsAnswered, IsFaultOf, IsQuestion, MayCome, MayEnd, Takes, TakesAnswer, TakesEdit, TakesLater, question_of, text_of}
+use Rattle.lv_transcript.specs.Auditing.{AuditState, AnswerLineBecomes, EditBecomes, Becomes, HasLaterForm, IsAnswered, IsFaultOf, IsQuestion, MayCome, MayEdit, MayEnd, Takes, TakesAnswer, TakesEdit, TakesLater, question_of, text_of}
 use Rattle.lv_transcript.proofs.ReadTranscripts.{line_of-edit_line, question_in-text_of}
 
 -- a fault is the same where the right forms are
@@ -28,12 +28,12 @@ fault_same n F G AnswersFollow to back fault = fault
 fault_same n F G End to back fault = fault
 
 -- what follows where the right forms, and the lines that may be taken, are the same
-pub Becomes-same : (n : ℕ) (F G : Type 0) (P Q : AuditState → Type 0) (new : AuditState) → (F → G) → (G → F) → ((next : AuditState) → P next → Q next) → ((next : AuditState) → Q next → P next)
-    → Becomes n F P new → Becomes n G Q new
-Becomes-same n F G P Q new form form_back to back (inl taken) = inl (to new taken)
-Becomes-same n F G P Q new form form_back to back (inr (inl found)) =
-    inr (inl (fault_same n F G new.stage form form_back found.0, λ next taken. found.1 next (back next taken)))
-Becomes-same n F G P Q new form form_back to back (inr (inr none)) = inr (inr none)
+pub Becomes-same : (n : ℕ) (journal : List Edit) (F G : Type 0) (P Q : AuditState → Type 0) (new : AuditState) → (F → G) → (G → F) → ((next : AuditState) → P next → Q next) → ((next : AuditState) → Q next → P next)
+    → Becomes n journal F P new → Becomes n journal G Q new
+Becomes-same n journal F G P Q new form form_back to back (inl taken) = inl (to new taken)
+Becomes-same n journal F G P Q new form form_back to back (inr (inl found)) =
+    inr (inl (fault_same n F G new.stage form form_back found.0, found.1, λ next taken. found.2 next (back next taken)))
+Becomes-same n journal F G P Q new form form_back to back (inr (inr none)) = inr (inr none)
 
 -- ---- edits
 
@@ -59,9 +59,9 @@ no_edit_later old next line e is (inl t) = eqb-false 106 97 refl (sym (begins_wi
 no_edit_later old next line e is (inr t) = eqb-false 106 101 refl (sym (begins_with_j e) ∙ ap first_byte (sym is ∙ t.text))
 
 -- what became of an edit is what became of its line
-pub Becomes-edit : (number : ℕ) (old : AuditState) (line : List ℕ) (e : Edit) (stage : Stage) (journal : List Edit) → old.stage ≡ Edits → IsEdit e → line ≡ edit_line e
+pub Becomes-edit : (number : ℕ) (old : AuditState) (line : List ℕ) (e : Edit) (stage : Stage) (journal : List Edit) → MayEdit old.mixed old.stage → IsEdit e → line ≡ edit_line e
     → EditBecomes number old.journal e stage journal
-    → Becomes number (HasEditForm line ⊎ HasLaterForm old line) (λ new. TakesEdit old line new ⊎ TakesLater old line new) record old { stage = stage; journal = journal }
+    → Becomes number old.journal (HasEditForm line ⊎ HasLaterForm old line) (λ new. TakesEdit old line new ⊎ TakesLater old line new) record old { stage = stage; journal = journal }
 Becomes-edit number old line e Edits journal at fits is ends =
     inl (inl record {
       edit = e;
@@ -69,13 +69,14 @@ Becomes-edit number old line e Edits journal at fits is ends =
       fits = fits;
       text = is;
       verdict = ends.0;
-      next = ap (λ (js : List Edit). record old { stage = Edits; journal = js }) ends.1 ∙ ap (λ (s : Stage). record old { stage = s; journal = old.journal ++ e ∷ [] }) (sym at);
+      next = ap (λ (js : List Edit). record old { stage = Edits; journal = js }) ends.1;
     })
 Becomes-edit number old line e (No n) journal at fits is ends =
     inr (inl (
       (ends.0, inl (e, fits, is)),
+      ends.1,
       λ next taken. elim taken [
-        | inl t ↦ ends.1 (ap (verdict_of greatest old.journal) (edit_line-injective line e t.edit fits t.fits is t.text) ∙ t.verdict)
+        | inl t ↦ ends.2 (ap (verdict_of greatest old.journal) (edit_line-injective line e t.edit fits t.fits is t.text) ∙ t.verdict)
         | inr later ↦ no_edit_later old next line e is later
       ],
     ))
@@ -140,7 +141,7 @@ not_in_order old line value q fits is before (at, inr last) = not_last q value l
 
 -- what became of an answer is what became of its line
 pub Becomes-answer : (number : ℕ) (old : AuditState) (line value : List ℕ) (q : Question) (stage : Stage) (reached : ℕ) → MayEnd old.stage → IsQuestion q → line ≡ text_of q ++ value
-    → AnswerLineBecomes number old.journal old.last q value stage reached → Becomes number (HasLaterForm old line) (TakesLater old line) record old { stage = stage; last = reached }
+    → AnswerLineBecomes number old.journal old.last q value stage reached → Becomes number old.journal (HasLaterForm old line) (TakesLater old line) record old { stage = stage; last = reached }
 Becomes-answer number old line value q AnswersFollow reached at fits is ends =
     let answer = ends.0.answer in
     inl (inl record {
@@ -155,11 +156,13 @@ Becomes-answer number old line value q AnswersFollow reached at fits is ends =
 Becomes-answer number old line value q (No n) reached at fits is ends =
     inr (inl (
       (ends.0, (at, inl record { edit = q.edit; kind = q.kind; lo = q.lo; hi = q.hi; value = value; fits = (fits.edit, fits.lo, fits.hi); text = is; order = ends.1 })),
+      refl,
       λ next taken. not_taken old next line value q fits is ends.2 taken,
     ))
 Becomes-answer number old line value q (Bad n) reached at fits is ends =
     inr (inl (
       (ends.0, λ form. not_in_order old line value q fits is ends.1 form),
+      refl,
       λ next taken. not_taken old next line value q fits is (λ answered. disordered old.last q.edit ends.1 answered.order) taken,
     ))
 Becomes-answer number old line value q NoMemory reached at fits is ends = inr (inr refl)
@@ -179,29 +182,47 @@ no_form_later old line other none (at, inr last) = other last
 
 -- ---- at their stages
 
--- where edits may stand
-pub Becomes-at_edits : (n : ℕ) (old new : AuditState) (line : List ℕ) → old.stage ≡ Edits → length line ≤ 120 → Becomes n (HasEditForm line ⊎ HasLaterForm old line) (λ next. TakesEdit old line next ⊎ TakesLater old line next) new → Becomes n (MayCome old line) (Takes old line) new
-Becomes-at_edits n old new line at short =
-    Becomes-same n (HasEditForm line ⊎ HasLaterForm old line) (MayCome old line) (λ next. TakesEdit old line next ⊎ TakesLater old line next) (Takes old line) new
-    (λ form. elim form [ inl edit ↦ (short, inr (inl (at, edit))) | inr later ↦ (short, inr (inr later)) ])
-    (λ may. elim may.1 [ inl first ↦ absurd (cc (at, first.0)) | inr (inl edit) ↦ inl edit.1 | inr (inr later) ↦ inr later ])
-    (λ next taken. (short, inr taken))
-    (λ next taken. elim taken.1 [ inl t ↦ absurd (cc (at, t.at)) | inr t ↦ t ])
+-- where an edit may stand, answers and the last line may
+pub may_end_of_edit : (mixed : Bool) (stage : Stage) → MayEdit mixed stage → MayEnd stage
+may_end_of_edit mixed stage (inl at) = inl at
+may_end_of_edit mixed stage (inr at) = inr at.1
 
--- where answers may stand
-pub Becomes-at_answers : (n : ℕ) (old new : AuditState) (line : List ℕ) → old.stage ≡ AnswersFollow → length line ≤ 120 → Becomes n (HasLaterForm old line) (TakesLater old line) new → Becomes n (MayCome old line) (Takes old line) new
-Becomes-at_answers n old new line at short =
-    Becomes-same n (HasLaterForm old line) (MayCome old line) (TakesLater old line) (Takes old line) new
+-- and the first line may not
+pub not_start : (stage : Stage) → stage ≡ Start → MayEnd stage → ⊥
+not_start stage start (inl at) = absurd (cc (start, at))
+not_start stage start (inr at) = absurd (cc (start, at))
+
+-- where edits may stand
+pub Becomes-at_edits : (n : ℕ) (old new : AuditState) (line : List ℕ) → MayEdit old.mixed old.stage → length line ≤ 120
+    → Becomes n old.journal (HasEditForm line ⊎ HasLaterForm old line) (λ next. TakesEdit old line next ⊎ TakesLater old line next) new → Becomes n old.journal (MayCome old line) (Takes old line) new
+Becomes-at_edits n old new line at short =
+    let never = λ (start : old.stage ≡ Start). not_start old.stage start (may_end_of_edit old.mixed old.stage at) in
+    Becomes-same n old.journal (HasEditForm line ⊎ HasLaterForm old line) (MayCome old line) (λ next. TakesEdit old line next ⊎ TakesLater old line next) (Takes old line) new
+    (λ form. elim form [ inl edit ↦ (short, inr (inl (at, edit))) | inr later ↦ (short, inr (inr later)) ])
+    (λ may. elim may.1 [ inl first ↦ absurd (never first.0) | inr (inl edit) ↦ inl edit.1 | inr (inr later) ↦ inr later ])
+    (λ next taken. (short, inr taken))
+    (λ next taken. elim taken.1 [ inl t ↦ absurd (never t.at) | inr t ↦ t ])
+
+-- where answers follow, and no edits do
+pub no_edit_behind : (mixed : Bool) (stage : Stage) → mixed ≡ false → stage ≡ AnswersFollow → MayEdit mixed stage → ⊥
+no_edit_behind mixed stage apart at (inl edits) = absurd (cc (at, edits))
+no_edit_behind mixed stage apart at (inr answers) = true≢false (sym answers.0 ∙ apart)
+
+pub Becomes-at_answers : (n : ℕ) (old new : AuditState) (line : List ℕ) → old.mixed ≡ false → old.stage ≡ AnswersFollow → length line ≤ 120
+    → Becomes n old.journal (HasLaterForm old line) (TakesLater old line) new → Becomes n old.journal (MayCome old line) (Takes old line) new
+Becomes-at_answers n old new line apart at short =
+    let never = λ (may : MayEdit old.mixed old.stage). no_edit_behind old.mixed old.stage apart at may in
+    Becomes-same n old.journal (HasLaterForm old line) (MayCome old line) (TakesLater old line) (Takes old line) new
     (λ later. (short, inr (inr later)))
-    (λ may. elim may.1 [ inl first ↦ absurd (cc (at, first.0)) | inr (inl edit) ↦ absurd (cc (at, edit.0)) | inr (inr later) ↦ later ])
+    (λ may. elim may.1 [ inl first ↦ absurd (cc (at, first.0)) | inr (inl edit) ↦ absurd (never edit.0) | inr (inr later) ↦ later ])
     (λ next taken. (short, inr (inr taken)))
-    (λ next taken. elim taken.1 [ inl t ↦ absurd (cc (at, t.at)) | inr (inl t) ↦ absurd (cc (at, t.at)) | inr (inr t) ↦ t ])
+    (λ next taken. elim taken.1 [ inl t ↦ absurd (cc (at, t.at)) | inr (inl t) ↦ absurd (never t.at) | inr (inr t) ↦ t ])
 
 -- a line that is not that of an edit is one after the edits, or none
-pub Becomes-no_edit : (n : ℕ) (old new : AuditState) (line : List ℕ) → ((e : Edit) → IsEdit e → line ≢ edit_line e) → Becomes n (HasLaterForm old line) (TakesLater old line) new
-    → Becomes n (HasEditForm line ⊎ HasLaterForm old line) (λ next. TakesEdit old line next ⊎ TakesLater old line next) new
+pub Becomes-no_edit : (n : ℕ) (old new : AuditState) (line : List ℕ) → ((e : Edit) → IsEdit e → line ≢ edit_line e) → Becomes n old.journal (HasLaterForm old line) (TakesLater old line) new
+    → Becomes n old.journal (HasEditForm line ⊎ HasLaterForm old line) (λ next. TakesEdit old line next ⊎ TakesLater old line next) new
 Becomes-no_edit n old new line none =
-    Becomes-same n (HasLaterForm old line) (HasEditForm line ⊎ HasLaterForm old line) (TakesLater old line) (λ next. TakesEdit old line next ⊎ TakesLater old line next) new
+    Becomes-same n old.journal (HasLaterForm old line) (HasEditForm line ⊎ HasLaterForm old line) (TakesLater old line) (λ next. TakesEdit old line next ⊎ TakesLater old line next) new
     (λ later. inr later)
     (λ form. elim form [ inl edit ↦ absurd (none edit.0 edit.1 edit.2) | inr later ↦ later ])
     (λ next taken. inr taken)

@@ -1,4 +1,4 @@
--- A sound transcript is taken line by line.
+-- Edits that are accepted and answers that are true: their lines, and their order.
 use Rattle.std.proofs.Common.{◌≡◌, ℕ, zero, suc, ◌-◌, ◌^◌, ◌<◌, ◌≤◌, Bool, true, List, [], ◌∷◌, ◌++◌, length, get_or, take, drop, map, slice_range, codes, nat_le, All, None, lit≤, refl, sym, ◌∙◌, subst, inl, inr, arith, append_assoc, append-nil, length-append}
 use Rattle.std.specs.Prelude.{decimal}
 use Rattle.std.specs.List.{list_all}
@@ -21,13 +21,9 @@ use Rattle.lv_lines.specs.Grammar.{kind_name}
 use Rattle.lv_lines.specs.Texts.{shown_text}
 use Rattle.lv_lines.proofs.PrintedWords.{IsPrintable, no_control, plain_number}
 use Rattle.lv_lines.proofs.ReadAgain.{length-printed, plain_kind, printed_printable}
-use Rattle.lv_transcript.specs.declared.auditor.Stage.{Stage}
-use Rattle.lv_transcript.specs.declared.auditor.Stage.TheVariants.{Edits, AnswersFollow, End}
 use Rattle.lv_transcript.specs.declared.claimed.Claimed.{Claimed}
-use Rattle.lv_transcript.specs.Transcript.{answer_line, edit_line, first_line, greatest, end_line, question_text, transcript_lines, AreAccepted, AreAcceptedAfter, AreInOrder, IsEdit, IsTrueAnswer}
-use Rattle.lv_transcript.specs.Auditing.{AuditState, IsQuestion, MayEnd, Takes, question_of, start_state}
-use Rattle.lv_transcript.proofs.TakenLines.{RiseFrom}
-use Rattle.lv_transcript.proofs.AuditRuns.{Runs}
+use Rattle.lv_transcript.specs.Transcript.{answer_line, edit_line, greatest, question_text, AreAcceptedAfter, AreInOrder, IsEdit, IsTrueAnswer}
+use Rattle.lv_transcript.specs.Auditing.{IsQuestion, question_of}
 use Rattle.lv_transcript.proofs.ShownTexts.{IsShownText, shown_plain}
 
 -- ---- edits that are accepted
@@ -81,14 +77,6 @@ beginnings_within before (e ∷ edits) (suc k) within accepted carry =
     let next = within_more before e within accepted.0 (All-head CarriesElement e edits carry) in
     subst (λ (js : List Edit). IsWithin js) (append_assoc before (e ∷ []) (take k edits))
     (beginnings_within (before ++ e ∷ []) edits k next accepted.1 (All-tail CarriesElement e edits carry))
-
--- and the numbers of all have their bits
-all_fit : (before edits : List Edit) → IsWithin before → AreAcceptedAfter greatest before edits → All CarriesElement edits → All IsEdit edits
-all_fit before [] within accepted carry = All-nil IsEdit
-all_fit before (e ∷ edits) within accepted carry =
-    let carried = All-head CarriesElement e edits carry in
-    All-cons IsEdit e edits (accepted_fits before e within accepted.0 carried)
-    (all_fit (before ++ e ∷ []) edits (within_more before e within accepted.0 carried) accepted.1 (All-tail CarriesElement e edits carry))
 
 -- ---- lines
 
@@ -190,8 +178,13 @@ plain_answer edits beginnings answer holds =
 
 -- ---- answers in order
 
+-- answers that rise from an edit on
+abbrev pub RiseFrom : ℕ → List Claimed → Type 0
+RiseFrom last [] = Unit {0}
+RiseFrom last (answer ∷ answers) = (last ≤ answer.edit) × RiseFrom answer.edit answers
+
 -- answers in order rise from any edit that is not after the first
-rise_in_order : (last : ℕ) (answers : List Claimed) → ((d : Claimed) → 0 < length answers → last ≤ (get_or answers 0 d).edit) → AreInOrder answers → RiseFrom last answers
+pub rise_in_order : (last : ℕ) (answers : List Claimed) → ((d : Claimed) → 0 < length answers → last ≤ (get_or answers 0 d).edit) → AreInOrder answers → RiseFrom last answers
 rise_in_order last [] first order = tt
 rise_in_order last (answer ∷ answers) first order =
     (first answer (omega arith), rise_in_order answer.edit answers (λ d some. order 0 1 d (omega arith) (omega arith)) (λ i j d le lt. order (suc i) (suc j) d (omega arith) (omega arith)))
@@ -209,71 +202,3 @@ in_order_of_rise last (answer ∷ answers) rise zero zero d le lt = omega arith
 in_order_of_rise last (answer ∷ answers) rise zero (suc j) d le lt = rise_above answer.edit answers rise.1 j d (omega arith)
 in_order_of_rise last (answer ∷ answers) rise (suc i) zero d le lt = absurd (omega arith)
 in_order_of_rise last (answer ∷ answers) rise (suc i) (suc j) d le lt = in_order_of_rise answer.edit answers rise.1 i j d (omega arith) (omega arith)
-
--- ---- the lines are taken
-
--- lines are taken from a state to the end
-pub record RunsToEnd (old : AuditState) (lines : List (List ℕ)) : Type 0 where
-  pub end : AuditState
-  pub runs : Runs old lines end
-  pub at_end : end.stage ≡ End
-
--- one line, and then the others
-first_taken : (old mid : AuditState) (line : List ℕ) (lines : List (List ℕ)) → Takes old line mid → RunsToEnd mid lines → RunsToEnd old (line ∷ lines)
-first_taken old mid line lines taken rest = record { end = rest.end; runs = (mid, taken, rest.runs); at_end = rest.at_end }
-
--- the last line is
-last_taken : (old : AuditState) → MayEnd old.stage → RunsToEnd old (end_line ∷ [])
-last_taken old at =
-    let end : AuditState = record old { stage = End } in
-    record { end = end; runs = (end, (lit≤ tt, inr (inr (inr record { at = at; text = refl; next = refl }))), refl); at_end = refl }
-
-module _ (edits : List Edit) (plain : (answer : Claimed) → IsTrueAnswer edits answer → IsPlainAnswer answer) where
-  -- true answers that rise are, and then the last line
-  answers_taken : (stage : Stage) (last : ℕ) (answers : List Claimed) → MayEnd stage → All (IsTrueAnswer edits) answers → RiseFrom last answers
-      → RunsToEnd record { stage = stage; journal = edits; last = last } (map answer_line answers ++ end_line ∷ [])
-  answers_taken stage last [] at holds rise = last_taken record { stage = stage; journal = edits; last = last } at
-  answers_taken stage last (answer ∷ answers) at holds rise =
-      let here = All-head (IsTrueAnswer edits) answer answers holds in
-      let one = plain answer here in
-      first_taken record { stage = stage; journal = edits; last = last } record { stage = AnswersFollow; journal = edits; last = answer.edit } (answer_line answer) (map answer_line answers ++ end_line ∷ [])
-      (one.line.short, inr (inr (inl record { answer = answer; at = at; fits = one.fits; text = refl; order = rise.0; holds = here; next = refl })))
-      (answers_taken AnswersFollow answer.edit answers (inr refl) (All-tail (IsTrueAnswer edits) answer answers holds) rise.1)
-
-  -- accepted edits are, and then those
-  edits_taken : (before more : List Edit) (answers : List Claimed) → before ++ more ≡ edits → AreAcceptedAfter greatest before more → All IsEdit more → All (IsTrueAnswer edits) answers → RiseFrom 0 answers
-      → RunsToEnd record { stage = Edits; journal = before; last = 0 } (map edit_line more ++ map answer_line answers ++ end_line ∷ [])
-  edits_taken before [] answers all accepted fit holds rise =
-      rw (sym (append-nil before) ∙ all) (answers_taken Edits 0 answers (inl refl) holds rise)
-  edits_taken before (e ∷ more) answers all accepted fit holds rise =
-      let here = All-head IsEdit e more fit in
-      first_taken record { stage = Edits; journal = before; last = 0 } record { stage = Edits; journal = before ++ e ∷ []; last = 0 } (edit_line e)
-      (map edit_line more ++ map answer_line answers ++ end_line ∷ [])
-      ((line_of_edit e here).short, inr (inl record { edit = e; at = refl; fits = here; text = refl; verdict = accepted.0; next = refl }))
-      (edits_taken (before ++ e ∷ []) more answers (append_assoc before (e ∷ []) more ∙ all) accepted.1 (All-tail IsEdit e more fit) holds rise)
-
--- what is known of a sound transcript's lines
-pub record AreSoundLines (edits : List Edit) (answers : List Claimed) : Type 0 where
-  pub runs : RunsToEnd start_state (transcript_lines edits answers)
-  pub printable : All (All IsPrintable) (transcript_lines edits answers)
-
--- the lines of a sound transcript are taken from the first to the last, and have no LF
-pub sound_lines : (edits : List Edit) (answers : List Claimed) → All CarriesElement edits → AreAccepted greatest edits → AreInOrder answers → All (IsTrueAnswer edits) answers → AreSoundLines edits answers
-sound_lines edits answers carry accepted order holds =
-    let fit = all_fit [] edits within_none accepted carry in
-    let plain = plain_answer edits (λ k. beginnings_within [] edits k within_none accepted carry) in
-    let rise = rise_in_order 0 answers (λ d some. omega arith) order in
-    let after_first : AuditState = record { stage = Edits; journal = []; last = 0 } in
-    let printable_edits = All-map (All IsPrintable) edit_line edits (All-weaker IsEdit (λ e. All IsPrintable (edit_line e)) (λ e fits. (line_of_edit e fits).printable) edits fit) in
-    let printable_answers = All-map (All IsPrintable) answer_line answers (All-weaker (IsTrueAnswer edits) (λ c. All IsPrintable (answer_line c)) (λ c true. (plain c true).line.printable) answers holds) in
-    record {
-      runs =
-          first_taken start_state after_first first_line (map edit_line edits ++ map answer_line answers ++ end_line ∷ [])
-          (lit≤ tt, inl record { at = refl; text = refl; next = refl })
-          (edits_taken edits plain [] edits answers refl accepted fit holds rise);
-      printable =
-          All-cons (All IsPrintable) first_line (map edit_line edits ++ map answer_line answers ++ end_line ∷ []) (printable_bytes first_line refl)
-          (All-append (All IsPrintable) (map edit_line edits ++ map answer_line answers) (end_line ∷ [])
-          (All-append (All IsPrintable) (map edit_line edits) (map answer_line answers) printable_edits printable_answers)
-          (All-cons (All IsPrintable) end_line [] (printable_bytes end_line refl) (All-nil (All IsPrintable))));
-    }

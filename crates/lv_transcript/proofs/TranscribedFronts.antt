@@ -1,6 +1,5 @@
 -- What a transcript writer wrote is a front; of edits, and then answers, it is their transcript.
 use Rattle.std.proofs.Common.{◌≡◌, ℕ, ◌+◌, ◌<◌, Bool, false, true, Option, Result, Ok, Err, OnOk, IfErr, List, [], ◌∷◌, ◌++◌, get_or, length, map, take, All, refl, sym, ap, ◌∙◌, subst, inl, inr, arith, append_assoc, append-nil}
-use mathlib.Core.List.{map-map}
 use Rattle.std.proofs.lemmas.List.{map-append, take_more}
 use Rattle.std.proofs.lemmas.List.Elements.{All-nil, All-cons, All-append, All-head, All-tail}
 use Rattle.std.proofs.lemmas.Grind.{flat_map-append}
@@ -18,7 +17,7 @@ use Rattle.lv_transcript.specs.Fronts.{AreEntryLines, AreFrontLines, AreTrueAfte
 use Rattle.lv_transcript.specs.Transcribing.{Adds, EndsWhole, GotFront, WasGiven, WritingState, WroteOrHolds, front_bytes, whole_bytes}
 use Rattle.lv_transcript.specs.declared.claimed.Claimed.{Claimed}
 use Rattle.lv_transcript.specs.Transcript.{AreAccepted, AreInOrder, IsEdit, IsSoundTranscript, IsTrueAnswer, Transcribes, answer_line, edit_line, end_line, ended, first_line, greatest, transcript_text}
-use Rattle.lv_transcript.proofs.FrontEntries.{AreBefore, all_within, begin_within, first_of, none_before, one_more_before, rest_of}
+use Rattle.lv_transcript.proofs.TakenEntries.{AreBefore, all_within, begin_within, first_of, lines_in_order, none_before, one_more_before, rest_of}
 use Rattle.lv_transcript.proofs.SoundTranscripts.{accepted_fits, line_of_edit, plain_answer}
 use Rattle.lv_transcript.proofs.TranscriptBytes.{IsUnended, unended_printable}
 
@@ -56,7 +55,7 @@ front_unended : (entries : List Entry) → AreTrueAfter [] 0 entries → All IsU
 front_unended entries holds = All-cons IsUnended first_line (map entry_line entries) refl (entries_unended [] 0 entries none_before holds)
 
 -- and the last
-whole_unended : (entries : List Entry) → AreTrueAfter [] 0 entries → All IsUnended (first_line ∷ (map entry_line entries ++ end_line ∷ []))
+pub whole_unended : (entries : List Entry) → AreTrueAfter [] 0 entries → All IsUnended (first_line ∷ (map entry_line entries ++ end_line ∷ []))
 whole_unended entries holds =
     All-cons IsUnended first_line (map entry_line entries ++ end_line ∷ []) refl
     (All-append IsUnended (map entry_line entries) (end_line ∷ []) (entries_unended [] 0 entries none_before holds) (All-cons IsUnended end_line [] refl (All-nil IsUnended)))
@@ -263,12 +262,7 @@ last_unsent a b c old mid last text (Err fault) room put unsent =
 module _ (edits : List Edit) (answers : List Claimed) where
   -- the text of these is a transcript
   transcript_bytes : whole_bytes (map inl edits ++ map inr answers) ≡ transcript_text edits answers
-  transcript_bytes =
-      let lines : map entry_line (map inl edits ++ map inr answers) ≡ map edit_line edits ++ map answer_line answers =
-      map-append entry_line (map inl edits) (map inr answers)
-      ∙ ap (λ (ls : List (List ℕ)). ls ++ map entry_line (map inr answers)) (map-map entry_line inl edits)
-      ∙ ap (λ (ls : List (List ℕ)). map edit_line edits ++ ls) (map-map entry_line inr answers) in
-      ap (λ (ls : List (List ℕ)). ended (first_line ∷ (ls ++ end_line ∷ []))) lines
+  transcript_bytes = ap ended (lines_in_order edits answers)
 
   transcribes : (start contents : Option (List ℕ)) (result : Result Unit Fault) → EndsWhole start contents (map inl edits ++ map inr answers) result → IfErr result (λ fault. fault ≡ WriteFault) → Transcribes start contents (transcript_text edits answers) result
   transcribes start contents (Ok u) ends late = subst (Appends start contents) transcript_bytes ends.0

@@ -1,5 +1,5 @@
 -- How a transcript is audited: what a line is read as, and how far the lines so far lead.
-use Rattle.std.specs.Prelude.{◌≡◌, ◌⊎◌, ℕ, ◌+◌, ◌^◌, ◌<◌, ◌≤◌, Bool, true, false, List, [], ◌∷◌, ◌++◌, length, take, slice_range, ℤ, Option, Some, None}
+use Rattle.std.specs.Prelude.{◌≡◌, ◌⊎◌, ℕ, ◌+◌, ◌-◌, ◌^◌, ◌<◌, ◌≤◌, Bool, true, false, List, [], ◌∷◌, ◌++◌, length, take, slice_range, ℤ, Option, Some, None}
 use Rattle.lv_bodies.specs.declared.kinds.Kind.{Kind}
 use Rattle.lv_bodies.specs.Plain.{plain_value}
 use Rattle.lv_edits.specs.declared.edit.Edit.{Edit}
@@ -14,6 +14,8 @@ use Rattle.lv_transcript.specs.declared.transcript_lines.Question.{Question}
 use Rattle.lv_transcript.specs.declared.claimed.Claimed.{Claimed}
 use Rattle.lv_transcript.specs.declared.auditor.Verdict.{Verdict}
 use Rattle.lv_transcript.specs.declared.auditor.Verdict.TheVariants as verdicts
+use Rattle.lv_transcript.specs.declared.fronts.FrontVerdict.{FrontVerdict}
+use Rattle.lv_transcript.specs.declared.fronts.FrontVerdict.TheVariants as fronts
 use Rattle.lv_transcript.specs.Transcript.{answer_line, edit_line, first_line, greatest, end_line, question_text, BeginsAnswer, HasEditForm, IsEdit, IsTrueAnswer}
 
 -- ---- a question: what an answer asks
@@ -80,19 +82,20 @@ pub record IsAnswered (journal : List Edit) (last : ℕ) (question : Question) (
 
 -- ---- how far an audit has come
 
--- what comes next or was found, the edits so far, and the edit of the last answer
+-- what comes next or was found, the edits so far, the edit of the last answer, and whether edits may come behind answers
 pub record AuditState : Type 0 where
   pub stage : Stage
   pub journal : List Edit
   pub last : ℕ
+  pub mixed : Bool
 
 -- the state of an audit that is at a stage, has replayed all edits so far, and has come to the edit of the last answer
-abbrev pub state_of : Stage → History → ℕ → AuditState
-state_of stage edits last = record { stage = stage; journal = edits.journal; last = last }
+abbrev pub state_of : Bool → Stage → History → ℕ → AuditState
+state_of mixed stage edits last = record { stage = stage; journal = edits.journal; last = last; mixed = mixed }
 
 -- an audit before its first line
-abbrev pub start_state : AuditState
-start_state = record { stage = stages.Start; journal = []; last = 0 }
+abbrev pub start_state : Bool → AuditState
+start_state mixed = record { stage = stages.Start; journal = []; last = 0; mixed = mixed }
 
 -- a line is false, or not of the form that may stand there
 abbrev pub is_fault : Stage → Bool
@@ -105,9 +108,13 @@ abbrev pub is_stopped : Stage → Bool
 is_stopped stages.NoMemory = true
 is_stopped stage = is_fault stage
 
--- edits may be followed by edits, answers and the last line, and answers by answers and the last line
+-- edits and answers may be followed by answers and the last line
 abbrev pub MayEnd : Stage → Type 0
 MayEnd stage = (stage ≡ stages.Edits) ⊎ (stage ≡ stages.AnswersFollow)
+
+-- edits may be followed by edits, and answers where the two are mixed
+abbrev pub MayEdit : Bool → Stage → Type 0
+MayEdit mixed stage = (stage ≡ stages.Edits) ⊎ ((mixed ≡ true) × (stage ≡ stages.AnswersFollow))
 
 -- the first line is taken
 pub record TakesFirst (old : AuditState) (line : List ℕ) (new : AuditState) : Type 0 where
@@ -118,11 +125,11 @@ pub record TakesFirst (old : AuditState) (line : List ℕ) (new : AuditState) : 
 -- the line of an edit is taken, which is accepted after those before it
 pub record TakesEdit (old : AuditState) (line : List ℕ) (new : AuditState) : Type 0 where
   pub edit : Edit
-  pub at : old.stage ≡ stages.Edits
+  pub at : MayEdit old.mixed old.stage
   pub fits : IsEdit edit
   pub text : line ≡ edit_line edit
   pub verdict : verdict_of greatest old.journal edit ≡ None
-  pub next : new ≡ record old { journal = old.journal ++ edit ∷ [] }
+  pub next : new ≡ record old { stage = stages.Edits; journal = old.journal ++ edit ∷ [] }
 
 -- the line of an answer is taken, which comes in order and is true
 pub record TakesAnswer (old : AuditState) (line : List ℕ) (new : AuditState) : Type 0 where
@@ -156,7 +163,7 @@ HasLaterForm old line = MayEnd old.stage × (BeginsAnswer old.last line ⊎ (lin
 abbrev pub MayCome : AuditState → List ℕ → Type 0
 MayCome old line =
     (length line ≤ 120)
-    × (((old.stage ≡ stages.Start) × (line ≡ first_line)) ⊎ ((old.stage ≡ stages.Edits) × HasEditForm line) ⊎ HasLaterForm old line)
+    × (((old.stage ≡ stages.Start) × (line ≡ first_line)) ⊎ (MayEdit old.mixed old.stage × HasEditForm line) ⊎ HasLaterForm old line)
 
 -- a fault names the line of this number: as false where it has the right form, and as bad where it doesn't
 abbrev pub IsFaultOf : ℕ → Type 0 → Stage → Type 0
@@ -164,14 +171,15 @@ IsFaultOf number Form (stages.No n) = (n ≡ number) × Form
 IsFaultOf number Form (stages.Bad n) = (n ≡ number) × (Form → ⊥)
 IsFaultOf number Form _ = ⊥
 
--- line n was taken; or it cannot be, and that is found, by its form; or there was no memory
-abbrev pub Becomes : ℕ → Type 0 → (AuditState → Type 0) → AuditState → Type 0
-Becomes n Form Next new = Next new ⊎ (IsFaultOf n Form new.stage × ((next : AuditState) → Next next → ⊥)) ⊎ (new.stage ≡ stages.NoMemory)
+-- line n was taken; or it cannot be, and that is found, by its form, behind these edits; or there was no memory
+abbrev pub Becomes : ℕ → List Edit → Type 0 → (AuditState → Type 0) → AuditState → Type 0
+Becomes n journal Form Next new =
+    Next new ⊎ (IsFaultOf n Form new.stage × (new.journal ≡ journal) × ((next : AuditState) → Next next → ⊥)) ⊎ (new.stage ≡ stages.NoMemory)
 
 -- line n of an audit: nothing changes once it has stopped
 abbrev pub Audits : AuditState → ℕ → List ℕ → AuditState → Type 0
 Audits old n line new =
-    ((is_stopped old.stage ≡ true) × (new ≡ old)) ⊎ ((is_stopped old.stage ≡ false) × Becomes n (MayCome old line) (Takes old line) new)
+    ((is_stopped old.stage ≡ true) × (new ≡ old)) ⊎ ((is_stopped old.stage ≡ false) × Becomes n old.journal (MayCome old line) (Takes old line) new)
 
 -- what became of line n, which should be the first
 abbrev pub FirstBecomes : ℕ → List ℕ → Stage → Type 0
@@ -182,7 +190,7 @@ FirstBecomes number line _ = ⊥
 -- what became of the edit of line n after those before it: it was made, or cannot be, or there was no memory
 abbrev pub EditBecomes : ℕ → List Edit → Edit → Stage → List Edit → Type 0
 EditBecomes number old edit stages.Edits new = (verdict_of greatest old edit ≡ None) × (new ≡ old ++ edit ∷ [])
-EditBecomes number old edit (stages.No n) new = (n ≡ number) × (verdict_of greatest old edit ≡ None → ⊥)
+EditBecomes number old edit (stages.No n) new = (n ≡ number) × (new ≡ old) × (verdict_of greatest old edit ≡ None → ⊥)
 EditBecomes number old edit stages.NoMemory new = Unit {0}
 EditBecomes number old edit _ new = ⊥
 
@@ -201,7 +209,7 @@ AnswerBecomes number xs question value (stages.No n) = (n ≡ number) × (IsAnsw
 AnswerBecomes number xs question value stages.NoMemory = Unit {0}
 AnswerBecomes number xs question value _ = ⊥
 
--- the verdict of an audit that has come to this stage after so many lines: where it hasn't come to the end, the next line is missing
+-- the verdict on a transcript, of an audit that has come to this stage after so many lines: where it hasn't come to the end, the next line is missing
 abbrev pub IsVerdictAt : Stage → ℕ → Verdict → Type 0
 IsVerdictAt stages.End lines verdict = verdict ≡ verdicts.Yes
 IsVerdictAt (stages.No n) lines verdict = verdict ≡ verdicts.No n
@@ -209,19 +217,34 @@ IsVerdictAt (stages.Bad n) lines verdict = verdict ≡ verdicts.Bad n
 IsVerdictAt stages.NoMemory lines verdict = ⊥
 IsVerdictAt _ lines verdict = (n : ℕ) × (verdict ≡ verdicts.Bad n) × (lines + 1 < 2 ^ 32 → n ≡ lines + 1)
 
--- an audit answers its lines by nothing
-unfoldable pub AuditStep : AuditState → ℕ → List ℕ → List ℕ → AuditState → Type 0
-AuditStep old n line text new = (text ≡ []) × Audits old n line new
-
 -- an audit, and how many lines there were
 pub record CountedState : Type 0 where
   pub audit : AuditState
   pub lines : ℕ
 
 -- such a state, by an auditor's stage, edits and last answer, and the number of the last line
-abbrev pub counted_at : Stage → History → ℕ → ℕ → CountedState
-counted_at stage edits last lines = record { audit = state_of stage edits last; lines = lines }
+abbrev pub counted_at : Bool → Stage → History → ℕ → ℕ → CountedState
+counted_at mixed stage edits last lines = record { audit = state_of mixed stage edits last; lines = lines }
 
 -- it answers its lines by nothing, and counts them
 unfoldable pub CountedStep : CountedState → ℕ → List ℕ → List ℕ → CountedState → Type 0
 CountedStep old n line text new = (text ≡ []) × (new.lines ≡ n) × Audits old.audit n line new.audit
+
+-- before the first line
+abbrev pub counted_start : Bool → CountedState
+counted_start mixed = record { audit = start_state mixed; lines = 0 }
+
+-- the verdict on a front where the audit has come to this stage, after so many lines and edits: the first line and the last are neither edits nor answers
+abbrev pub IsFoundAt : Stage → ℕ → ℕ → FrontVerdict → Type 0
+IsFoundAt stages.Start lines edits verdict = verdict ≡ fronts.Front 0 0
+IsFoundAt stages.Edits lines edits verdict = verdict ≡ fronts.Front edits (lines - 1 - edits)
+IsFoundAt stages.AnswersFollow lines edits verdict = verdict ≡ fronts.Front edits (lines - 1 - edits)
+IsFoundAt stages.End lines edits verdict = verdict ≡ fronts.Front edits (lines - 2 - edits)
+IsFoundAt (stages.No n) lines edits verdict = verdict ≡ fronts.No n
+IsFoundAt (stages.Bad n) lines edits verdict = verdict ≡ fronts.Bad n
+IsFoundAt stages.NoMemory lines edits verdict = ⊥
+
+-- a reader of whole lines: what it has still to give, and whether it has found its end
+pub record WholeState : Type 0 where
+  pub remaining : Option (List ℕ)
+  pub at_end : Bool

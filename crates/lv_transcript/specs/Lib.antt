@@ -1,9 +1,9 @@
 -- Names the files of definitions of `lv_transcript`.
 pub mod Auditing
+pub mod Audits
 pub mod Blocks
 pub mod FlatEdits
 pub mod Fronts
-pub mod FrontSteps
 pub mod Joined
 pub mod LeastFirst
 pub mod PutTexts

@@ -1,8 +1,8 @@
 -- Transcripts: a journal of edits, and reductions that were answered, as text; and when such a text is sound.
-use Rattle.std.specs.Prelude.{◌≡◌, ◌≢◌, ◌⊎◌, ◌↔◌, ℕ, ◌+◌, ◌^◌, ◌<◌, ◌≤◌, None, List, [], ◌∷◌, ◌++◌, length, take, map, fold, All, slice_range, codes, decimal, Option, Result, Ok, Err}
+use Rattle.std.specs.Prelude.{◌≡◌, ◌⊎◌, ℕ, ◌+◌, ◌^◌, ◌<◌, ◌≤◌, None, List, [], ◌∷◌, ◌++◌, length, take, map, fold, All, slice_range, codes, decimal, Option, Result, Ok, Err}
 use Rattle.std.specs.List.{flat_map}
 use Rattle.std.specs.List.Sorted.{IsNonDecreasingBy}
-use Rattle.std.specs.Io.KnownBytes.{Appends, Consumes, IsAtEnd}
+use Rattle.std.specs.Io.KnownBytes.{Appends}
 use Rattle.lv_geometry.specs.Bounds.{Bounds}
 use Rattle.lv_bodies.specs.declared.kinds.Kind.{Kind}
 use Rattle.lv_bodies.specs.Plain.{plain_value}
@@ -14,13 +14,9 @@ use Rattle.lv_lines.specs.declared.fault.Fault.{Fault}
 use Rattle.lv_lines.specs.declared.fault.Fault.TheVariants.{NoMemory, ReadFault, TooLong, WriteFault}
 use Rattle.lv_lines.specs.declared.command.Command.TheVariants as command
 use Rattle.lv_lines.specs.Grammar.{kind_name}
-use Rattle.lv_lines.specs.Input.{lines_of}
 use Rattle.lv_lines.specs.Printed.{printed_edit, IsCommand}
-use Rattle.lv_lines.specs.Texts.{bad_text, reply_line, shown_text}
+use Rattle.lv_lines.specs.Texts.{shown_text}
 use Rattle.lv_lines.specs.Output.{WritesFront}
-use Rattle.lv_lines.specs.Replies.{IsNotTooLong, IsTooLong}
-use Rattle.lv_transcript.specs.declared.auditor.Verdict.{Verdict}
-use Rattle.lv_transcript.specs.declared.auditor.Verdict.TheVariants.{Yes, No, Bad}
 use Rattle.lv_transcript.specs.declared.claimed.Claimed.{Claimed}
 
 -- ---- the text
@@ -96,17 +92,11 @@ pub record IsSoundTranscript (bytes : List ℕ) : Type 0 where
   pub order : AreInOrder answers
   pub all_true : All (IsTrueAnswer edits) answers
 
--- ---- its audit
+-- ---- its lines, as they are read
 
 -- an edit whose numbers fit their types
 abbrev pub IsEdit : Edit → Type 0
 IsEdit e = IsCommand (command.Edit e)
-
--- the line that tells a verdict
-abbrev pub verdict_text : Verdict → List ℕ
-verdict_text Yes = reply_line (codes "yes")
-verdict_text (No n) = reply_line (codes "no " ++ decimal n)
-verdict_text (Bad n) = bad_text n
 
 -- a line has the form of an edit
 abbrev pub HasEditForm : List ℕ → Type 0
@@ -123,103 +113,9 @@ pub record BeginsAnswer (last : ℕ) (line : List ℕ) : Type 0 where
   pub text : line ≡ question_text edit kind lo hi ++ value
   pub order : last ≤ edit
 
--- edits that are accepted where they come, and true answers in order
-pub record AreSound (edits : List Edit) (answers : List Claimed) : Type 0 where
-  pub elements : All CarriesElement edits
-  pub accepted : AreAccepted greatest edits
-  pub order : AreInOrder answers
-  pub all_true : All (IsTrueAnswer edits) answers
-
--- the lines of a transcript before its last
-abbrev pub lines_before_last : List Edit → List Claimed → List (List ℕ)
-lines_before_last edits answers = first_line ∷ [] ++ map edit_line edits ++ map answer_line answers
-
--- no sound transcript begins with these lines
-abbrev pub NoneBegins : List (List ℕ) → Type 0
-NoneBegins lines = (edits : List Edit) (answers : List Claimed) (rest : List (List ℕ)) → AreSound edits answers → lines ++ rest ≢ transcript_lines edits answers
-
 -- the edit of the last of some answers, 0 where there is none
 abbrev pub last_edit : List Claimed → ℕ
 last_edit answers = fold (λ edit answer. answer.edit) 0 answers
-
--- a line of at most 120 bytes has the form of an edit, and comes before all answers; or it has that of an answer, in order behind these
-abbrev pub HasFormBehind : List Claimed → List ℕ → Type 0
-HasFormBehind answers line = (length line ≤ 120) × (((answers ≡ []) × HasEditForm line) ⊎ BeginsAnswer (last_edit answers) line)
-
--- a line may stand behind these lines, as far as its form goes: as the first line; or behind that and these edits and answers, as that of an
--- edit or of an answer, or as the last
-abbrev pub MayStand : List (List ℕ) → List Edit → List Claimed → List ℕ → Type 0
-MayStand front edits answers line =
-    ((front ≡ []) × (line ≡ first_line))
-    ⊎ ((front ≡ lines_before_last edits answers) × (HasFormBehind answers line ⊎ (line ≡ end_line)))
-
--- line n of some lines is the first fault, and false: those before it are the first line and those of sound edits and answers; it has the form of an
--- edit or of an answer that may stand there; and no sound transcript begins with these lines and it
-pub record IsFalseAt (lines : List (List ℕ)) (n : ℕ) : Type 0 where
-  pub edits : List Edit
-  pub answers : List Claimed
-  pub line : List ℕ
-  pub rest : List (List ℕ)
-  pub all : lines ≡ lines_before_last edits answers ++ line ∷ rest
-  pub number_is : n ≡ 1 + length (lines_before_last edits answers)
-  pub sound : AreSound edits answers
-  pub form : HasFormBehind answers line
-  pub none_begins : NoneBegins (lines_before_last edits answers ++ line ∷ [])
-
--- lines of a transcript with these edits and answers: none, or all before the last, or all
-abbrev pub AreBegun : List Edit → List Claimed → List (List ℕ) → Type 0
-AreBegun edits answers lines = (lines ≡ []) ⊎ (lines ≡ lines_before_last edits answers) ⊎ (lines ≡ transcript_lines edits answers)
-
--- what follows these lines is bad: nothing does, and they don't end with the last line of a transcript; or a line follows that may not stand there for
--- its form, and no sound transcript begins with them and it
-abbrev pub IsBadNext : List (List ℕ) → List Edit → List Claimed → List (List ℕ) → Type 0
-IsBadNext front edits answers [] = front ≢ transcript_lines edits answers
-IsBadNext front edits answers (line ∷ rest) = (MayStand front edits answers line → ⊥) × NoneBegins (front ++ line ∷ [])
-
--- line n of some lines is the first fault, and missing or not of a form that may stand there: those before it begin a sound transcript
-pub record IsBadAt (lines : List (List ℕ)) (n : ℕ) : Type 0 where
-  pub edits : List Edit
-  pub answers : List Claimed
-  pub front : List (List ℕ)
-  pub rest : List (List ℕ)
-  pub all : lines ≡ front ++ rest
-  pub number_is : n ≡ 1 + length front
-  pub sound : AreSound edits answers
-  pub begun : AreBegun edits answers front
-  pub bad : IsBadNext front edits answers rest
-
--- what a verdict tells of the line that it names: that is the first fault, and false or not of the right form
-abbrev pub NamesRight : List ℕ → Verdict → Type 0
-NamesRight bytes Yes = Unit {0}
-NamesRight bytes (No n) = IsFalseAt (lines_of bytes) n
-NamesRight bytes (Bad n) = IsBadAt (lines_of bytes) n
-
--- a verdict on bytes is right: it is yes exactly where they are a sound transcript, and else names the first fault
-abbrev pub IsRight : List ℕ → Verdict → Type 0
-IsRight bytes verdict = ((verdict ≡ Yes) ↔ IsSoundTranscript bytes) × NamesRight bytes verdict
-
--- all bytes of an input that is not too long were seen
-abbrev pub IsWhole : List ℕ → Option (List ℕ) → Type 0
-IsWhole seen remaining = IsAtEnd remaining × IsNotTooLong seen
-
--- how an audit ended, by the bytes that were seen: the right verdict was written on the whole input; or a write failed,
--- after no more than a front of it; or a read failed, the input is too long, or there was no memory, and nothing was written
-abbrev pub AuditEnds : Option (List ℕ) → Option (List ℕ) → Option (List ℕ) → List ℕ → Result Verdict Fault → Type 0
-AuditEnds remaining contents_old contents_new seen (Ok verdict) =
-    IsWhole seen remaining × IsRight seen verdict × Appends contents_old contents_new (verdict_text verdict)
-AuditEnds remaining contents_old contents_new seen (Err WriteFault) =
-    Appends contents_old contents_new []
-    ⊎ ((verdict : Verdict) × IsWhole seen remaining × IsRight seen verdict × WritesFront contents_old [] contents_new (verdict_text verdict))
-AuditEnds remaining contents_old contents_new seen (Err ReadFault) = IsNotTooLong seen × Appends contents_old contents_new []
-AuditEnds remaining contents_old contents_new seen (Err TooLong) = IsTooLong seen × Appends contents_old contents_new []
-AuditEnds remaining contents_old contents_new seen (Err NoMemory) = Appends contents_old contents_new []
-
--- an input was audited, of which at most 2 ^ 30 + 1 bytes were read
-pub record Audited (remaining_old remaining_new contents_old contents_new : Option (List ℕ)) (result : Result Verdict Fault) : Type 0 where
-  pub seen : List ℕ
-  pub read : Consumes remaining_old remaining_new seen
-  pub few : length seen ≤ 2 ^ 30 + 1
-  pub ends : AuditEnds remaining_new contents_old contents_new seen result
 
 -- ---- how it is written
 

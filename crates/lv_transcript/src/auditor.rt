@@ -4,10 +4,10 @@ ghost use Rattle.lv_lines.specs.Output.{HasRoom};
 ghost use Rattle.lv_lines.specs.Texts.{shown_text};
 ghost use Rattle.lv_edits.specs.History.{list_of};
 ghost use Rattle.lv_lines.specs.declared.replies.TheConstants.{LINE};
-ghost use Rattle.lv_transcript.specs.Auditing.{AnswerBecomes, CountedState, counted_at, start_state, state_of, Audits, CountedStep, AnswerLineBecomes, EditBecomes, Becomes, FirstBecomes, HasLaterForm, IsVerdictAt, MayCome, MayEnd, Takes, TakesEdit, TakesLater};
+ghost use Rattle.lv_transcript.specs.Auditing.{AnswerBecomes, CountedState, counted_at, counted_start, state_of, Audits, CountedStep, AnswerLineBecomes, EditBecomes, Becomes, FirstBecomes, HasLaterForm, IsVerdictAt, MayCome, MayEdit, MayEnd, Takes, TakesEdit, TakesLater};
 ghost use Rattle.lv_transcript.specs.Blocks.{AreKept};
-ghost use Rattle.lv_transcript.specs.FrontSteps.{open_again};
-ghost use Rattle.lv_transcript.specs.Transcript.{greatest, verdict_text, Audited, HasEditForm};
+ghost use Rattle.lv_transcript.specs.Audits.{Audited, IsRight, ReadsInput, verdict_text};
+ghost use Rattle.lv_transcript.specs.Transcript.{greatest, HasEditForm};
 
 use crate::plain_ranges::Replay;
 use crate::transcript_lines::{Question, read_answer, read_edit};
@@ -19,6 +19,7 @@ use lv_lines::{
     write_whole,
 };
 use std::alloc::{AllocError, Global};
+use std::io;
 use std::io::{Read, Write};
 
 /// What an audit says of a transcript.
@@ -45,17 +46,24 @@ pub fn audit<R: Read, W: Write>(
 ) -> Result<Verdict, Fault>
     ensures { Audited (R.remaining reader.old) (R.remaining reader.new) (W.contents writer.old) (W.contents writer.new) result }
 {
-    let Ok(mut auditor) = Auditor::new(alloc) else {
-        return Err(Fault::NoMemory);
-    };
     let Ok(mut held) = Vec::with_capacity(alloc, LINE) else {
         return Err(Fault::NoMemory);
     };
-    serve_lines(alloc, &mut auditor, reader, writer)?;
-    let verdict = auditor.verdict()?;
+    let verdict = read_transcript(alloc, reader)?;
     put_verdict(&mut held, verdict);
     write_whole(writer, held.as_slice())?;
     Ok(verdict)
+}
+
+// Reads an input to its end as a transcript.
+fn read_transcript<R: Read>(alloc: Global, reader: &mut R) -> Result<Verdict, Fault>
+    ensures { ReadsInput IsRight (R.remaining reader.old) (R.remaining reader.new) result }
+{
+    let Ok(mut auditor) = Auditor::new(alloc, false) else {
+        return Err(Fault::NoMemory);
+    };
+    serve_lines(alloc, &mut auditor, reader, &mut io::sink())?;
+    auditor.verdict()
 }
 
 // Puts the line of a verdict behind what is held.
@@ -101,6 +109,8 @@ pub(crate) struct Auditor {
     // All edits so far, and the list after those up to the last answer.
     pub(crate) edits: Edits,
     pub(crate) replay: Replay,
+    // Whether edits may come behind answers, as in a front.
+    pub(crate) mixed: bool,
     // The text of the line that is read, or of its value.
     text: Vec<u8>,
     ghost limits: { edits.limits ≡ greatest },
@@ -115,7 +125,7 @@ pub(crate) struct Auditor {
 impl<W: Write> LineHandler<W> for Auditor {
     ghost State = { CountedState };
 
-    ghost state = { λ a. counted_at a.stage a.edits a.replay.edit a.lines };
+    ghost state = { λ a. counted_at a.mixed a.stage a.edits a.replay.edit a.lines };
 
     ghost step = { CountedStep };
 
@@ -132,15 +142,15 @@ impl<W: Write> LineHandler<W> for Auditor {
 
 impl Auditor {
     // Before the first line.
-    pub(crate) fn new(alloc: Global) -> Result<Auditor, AllocError>
-        ensures state { IfOk result (λ a. state_of a.stage a.edits a.replay.edit ≡ start_state) }
-        ensures lines { IfOk result (λ a. a.lines ≡ 0) }
+    pub(crate) fn new(alloc: Global, mixed: bool) -> Result<Auditor, AllocError>
+        ensures { IfOk result (λ a. counted_at a.mixed a.stage a.edits a.replay.edit a.lines ≡ counted_start mixed) }
     {
         Ok(Auditor {
             stage: Stage::Start,
             lines: 0,
             edits: Edits::new(alloc, Limits::greatest()),
             replay: Replay::new(alloc),
+            mixed,
             text: Vec::with_capacity(alloc, LINE)?,
         })
     }
@@ -162,8 +172,9 @@ impl Auditor {
 
     // Takes a line, or finds the first fault.
     pub(crate) fn take_line(&mut self, number: u32, line: &[u8])
-        ensures line { Audits (state_of self.old.stage self.old.edits self.old.replay.edit) number line.now (state_of self.new.stage self.new.edits self.new.replay.edit) }
+        ensures line { Audits (state_of self.old.mixed self.old.stage self.old.edits self.old.replay.edit) number line.now (state_of self.old.mixed self.new.stage self.new.edits self.new.replay.edit) }
         ensures lines { self.new.lines ≡ number }
+        ensures mixed { self.new.mixed ≡ self.old.mixed }
     {
         match self.stage {
             Stage::No(_) | Stage::Bad(_) | Stage::NoMemory => {}
@@ -174,21 +185,11 @@ impl Auditor {
         self.lines = number;
     }
 
-    // Lets an edit come behind an answer.
-    pub(crate) fn reopen(&mut self)
-        ensures stage { self.new.stage ≡ open_again self.old.stage }
-        ensures edits { self.new.edits ≡ self.old.edits }
-        ensures replay { self.new.replay ≡ self.old.replay }
-    {
-        if let Stage::AnswersFollow = self.stage {
-            self.stage = Stage::Edits;
-        }
-    }
-
     // The stage behind a line.
     fn next_stage(&mut self, number: u32, line: &[u8]) -> Stage
-        ensures { Becomes number (MayCome (state_of self.old.stage self.old.edits self.old.replay.edit) line.now)
-            (Takes (state_of self.old.stage self.old.edits self.old.replay.edit) line.now) (state_of result self.new.edits self.new.replay.edit) }
+        ensures stage { Becomes number self.old.edits.journal (MayCome (state_of self.old.mixed self.old.stage self.old.edits self.old.replay.edit) line.now)
+            (Takes (state_of self.old.mixed self.old.stage self.old.edits self.old.replay.edit) line.now) (state_of self.old.mixed result self.new.edits self.new.replay.edit) }
+        ensures mixed { self.new.mixed ≡ self.old.mixed }
     {
         if line.len() > 120 {
             return Stage::Bad(number);
@@ -196,17 +197,32 @@ impl Auditor {
         match self.stage {
             Stage::Start => first_stage(number, line),
             Stage::Edits => self.edit_or_later(number, line),
-            Stage::AnswersFollow => self.answer_or_last(number, line),
+            Stage::AnswersFollow => self.behind_answer(number, line),
             Stage::End | Stage::No(_) | Stage::Bad(_) | Stage::NoMemory => Stage::Bad(number),
         }
     }
 
+    // The stage behind a line that comes behind an answer.
+    fn behind_answer(&mut self, number: u32, line: &[u8]) -> Stage
+        requires stage { self.old.stage ≡ Stage.AnswersFollow }
+        requires short { length line.now ≤ 120 }
+        ensures stage { Becomes number self.old.edits.journal (MayCome (state_of self.old.mixed self.old.stage self.old.edits self.old.replay.edit) line.now)
+            (Takes (state_of self.old.mixed self.old.stage self.old.edits self.old.replay.edit) line.now) (state_of self.old.mixed result self.new.edits self.new.replay.edit) }
+        ensures mixed { self.new.mixed ≡ self.old.mixed }
+    {
+        if self.mixed {
+            return self.edit_or_later(number, line);
+        }
+        self.answer_or_last(number, line)
+    }
+
     // The stage behind a line that may be that of an edit.
     fn edit_or_later(&mut self, number: u32, line: &[u8]) -> Stage
-        requires { self.old.stage ≡ Stage.Edits }
-        ensures { Becomes number (HasEditForm line.now ⊎ HasLaterForm (state_of self.old.stage self.old.edits self.old.replay.edit) line.now)
-            (λ new. TakesEdit (state_of self.old.stage self.old.edits self.old.replay.edit) line.now new
-            ⊎ TakesLater (state_of self.old.stage self.old.edits self.old.replay.edit) line.now new) (state_of result self.new.edits self.new.replay.edit) }
+        requires { MayEdit self.old.mixed self.old.stage }
+        ensures stage { Becomes number self.old.edits.journal (HasEditForm line.now ⊎ HasLaterForm (state_of self.old.mixed self.old.stage self.old.edits self.old.replay.edit) line.now)
+            (λ new. TakesEdit (state_of self.old.mixed self.old.stage self.old.edits self.old.replay.edit) line.now new
+            ⊎ TakesLater (state_of self.old.mixed self.old.stage self.old.edits self.old.replay.edit) line.now new) (state_of self.old.mixed result self.new.edits self.new.replay.edit) }
+        ensures mixed { self.new.mixed ≡ self.old.mixed }
     {
         match read_edit(line, &mut self.text) {
             Some(edit) => self.take_edit(number, edit),
@@ -218,6 +234,7 @@ impl Auditor {
     fn take_edit(&mut self, number: u32, edit: Edit) -> Stage
         ensures edit { EditBecomes number self.old.edits.journal edit result self.new.edits.journal }
         ensures replay { self.new.replay ≡ self.old.replay }
+        ensures mixed { self.new.mixed ≡ self.old.mixed }
     {
         if self.edits.verdict(&edit).is_some() {
             return Stage::No(number);
@@ -231,8 +248,9 @@ impl Auditor {
     // The stage behind a line that is not that of an edit.
     fn answer_or_last(&mut self, number: u32, line: &[u8]) -> Stage
         requires { MayEnd self.old.stage }
-        ensures { Becomes number (HasLaterForm (state_of self.old.stage self.old.edits self.old.replay.edit) line.now)
-            (TakesLater (state_of self.old.stage self.old.edits self.old.replay.edit) line.now) (state_of result self.new.edits self.new.replay.edit) }
+        ensures stage { Becomes number self.old.edits.journal (HasLaterForm (state_of self.old.mixed self.old.stage self.old.edits self.old.replay.edit) line.now)
+            (TakesLater (state_of self.old.mixed self.old.stage self.old.edits self.old.replay.edit) line.now) (state_of self.old.mixed result self.new.edits self.new.replay.edit) }
+        ensures mixed { self.new.mixed ≡ self.old.mixed }
     {
         if line == b"end".as_slice() {
             return Stage::End;
@@ -247,6 +265,7 @@ impl Auditor {
     fn take_answer(&mut self, number: u32, question: Question, value: &[u8]) -> Stage
         ensures answer { AnswerLineBecomes number self.old.edits.journal self.old.replay.edit question value.now result self.new.replay.edit }
         ensures edits { self.new.edits ≡ self.old.edits }
+        ensures mixed { self.new.mixed ≡ self.old.mixed }
     {
         if question.edit < self.replay.edit {
             return Stage::Bad(number);
@@ -269,6 +288,7 @@ impl Auditor {
         ensures answer { AnswerBecomes number self.old.replay.list.items question value.now result }
         ensures edits { self.new.edits ≡ self.old.edits }
         ensures reached { self.new.replay.edit ≡ self.old.replay.edit }
+        ensures mixed { self.new.mixed ≡ self.old.mixed }
     {
         let (lo, hi) = (question.lo as usize, question.hi as usize);
         if lo > hi || hi > self.replay.list.len() {

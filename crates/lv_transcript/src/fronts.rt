@@ -1,17 +1,15 @@
 //! The audit of a front of a transcript: edits and answers in the order of time, as far as they were written.
-ghost use Rattle.std.specs.Prelude.{◌≡◌, ◌++◌, IfOk, MatchResult, length};
+ghost use Rattle.std.specs.Prelude.{◌≡◌, ◌++◌, MatchResult, length};
 ghost use Rattle.lv_lines.specs.Output.{HasRoom};
 ghost use Rattle.lv_lines.specs.declared.replies.TheConstants.{LINE};
-ghost use Rattle.lv_transcript.specs.FrontSteps.{FrontState, FrontStep, IsFoundAt, front_at, front_start};
-ghost use Rattle.lv_transcript.specs.Fronts.{FrontAudited, ReadsFront, front_text};
+ghost use Rattle.lv_transcript.specs.Auditing.{IsFoundAt};
+ghost use Rattle.lv_transcript.specs.Audits.{FrontAudited, ReadsFront, front_text};
 
 use crate::auditor::{Auditor, Stage};
 use crate::whole_lines::WholeLines;
 use lv_edits::Edits;
-use lv_lines::{
-    Fault, LINE, LineHandler, ReplyBuffer, put, put_bad, put_number, serve_lines, write_whole,
-};
-use std::alloc::{AllocError, Global};
+use lv_lines::{Fault, LINE, put, put_bad, put_number, serve_lines, write_whole};
+use std::alloc::Global;
 use std::io;
 use std::io::{Read, Write};
 
@@ -94,73 +92,40 @@ fn put_counts(held: &mut Vec<u8>, edits: u32, answers: u32)
 pub fn read_front<R: Read + Drop>(alloc: Global, reader: R) -> Result<FoundFront, Fault>
     ensures { ReadsFront (R.remaining reader) result }
 {
-    let Ok(mut auditor) = FrontAuditor::new(alloc) else {
+    let Ok(mut auditor) = Auditor::new(alloc, true) else {
         return Err(Fault::NoMemory);
     };
     let mut whole = WholeLines::new(reader);
     match serve_lines(alloc, &mut auditor, &mut whole, &mut io::sink()) {
-        Err(Fault::ReadFault) if whole.is_at_end() => auditor.found(),
+        Err(Fault::ReadFault) => {
+            if whole.is_at_end() {
+                return auditor.found();
+            }
+            Err(Fault::ReadFault)
+        }
         Err(fault) => Err(fault),
         // Never: the reader fails at its end.
         Ok(()) => Err(Fault::ReadFault),
     }
 }
 
-/// Reads the lines of a front, and keeps the first fault that it finds.
-#[derive(Drop)]
-struct FrontAuditor {
-    auditor: Auditor,
-    // How many lines there were.
-    lines: u32,
-}
-
-impl<W: Write> LineHandler<W> for FrontAuditor {
-    ghost State = { FrontState };
-
-    ghost state = { λ a. front_at a.auditor.stage a.auditor.edits a.auditor.replay.edit a.lines };
-
-    ghost step = { FrontStep };
-
-    fn handle(
-        &mut self,
-        number: u32,
-        line: &[u8],
-        _buffer: &mut ReplyBuffer<'_, W>,
-    ) -> Result<(), Fault> {
-        self.auditor.take_line(number, line);
-        self.auditor.reopen();
-        self.lines = number;
-        Ok(())
-    }
-}
-
-impl FrontAuditor {
-    // Before the first line.
-    fn new(alloc: Global) -> Result<FrontAuditor, AllocError>
-        ensures { IfOk result (λ a. front_at a.auditor.stage a.auditor.edits a.auditor.replay.edit a.lines ≡ front_start) }
-    {
-        Ok(FrontAuditor {
-            auditor: Auditor::new(alloc)?,
-            lines: 0,
-        })
-    }
-
+impl Auditor {
     // What was found, once all lines were read.
     fn found(self) -> Result<FoundFront, Fault>
-        ensures { MatchResult result (λ found. (found.edits ≡ self.auditor.edits)
-            × IsFoundAt self.auditor.stage self.lines (length self.auditor.edits.journal) found.verdict) (λ fault. fault ≡ Fault.NoMemory) }
+        ensures { MatchResult result (λ found. (found.edits ≡ self.edits)
+            × IsFoundAt self.stage self.lines (length self.edits.journal) found.verdict) (λ fault. fault ≡ Fault.NoMemory) }
     {
-        let verdict = self.verdict()?;
-        let Auditor { edits, .. } = self.auditor;
+        let verdict = self.front_verdict()?;
+        let Auditor { edits, .. } = self;
         Ok(FoundFront { verdict, edits })
     }
 
     // The verdict.
-    fn verdict(&self) -> Result<FrontVerdict, Fault>
-        ensures { MatchResult result (IsFoundAt self.now.auditor.stage self.now.lines (length self.now.auditor.edits.journal)) (λ fault. fault ≡ Fault.NoMemory) }
+    fn front_verdict(&self) -> Result<FrontVerdict, Fault>
+        ensures { MatchResult result (IsFoundAt self.now.stage self.now.lines (length self.now.edits.journal)) (λ fault. fault ≡ Fault.NoMemory) }
     {
-        let edits = self.auditor.edits.edit();
-        match self.auditor.stage {
+        let edits = self.edits.edit();
+        match self.stage {
             Stage::Start => Ok(front_of(0, 0)),
             Stage::Edits | Stage::AnswersFollow => {
                 Ok(front_of(edits, self.lines.saturating_sub(1).saturating_sub(edits)))

@@ -17,7 +17,7 @@ pub(crate) struct WholeLines<R: Read + Drop> {
 impl<R: Read + Drop> Model for WholeLines<R> {
     ghost use Rattle.std.specs.Prelude.{◌≡◌, true};
     ghost use Rattle.std.specs.Io.KnownBytes.{IsAtEnd};
-    ghost use Rattle.lv_transcript.specs.FrontSteps.{WholeState};
+    ghost use Rattle.lv_transcript.specs.Auditing.{WholeState};
 
     ghost Value = { WholeState };
 

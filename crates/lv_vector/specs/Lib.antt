@@ -28,7 +28,8 @@ pub use Rattle.lv_tree.specs.KindSummaries
 pub use Rattle.lv_tree.specs.declared.kind_summaries.KindSummary
 pub use Rattle.lv_transcript.specs.Transcript
 pub use Rattle.lv_transcript.specs.Fronts
-pub use Rattle.lv_transcript.specs.Scribing
+pub use Rattle.lv_transcript.specs.Audits
+pub use Rattle.lv_transcript.specs.Transcribing
 pub use Rattle.lv_transcript.specs.ReadTexts
 pub use Rattle.lv_transcript.specs.PutTexts
 pub use Rattle.lv_transcript.specs.FlatEdits

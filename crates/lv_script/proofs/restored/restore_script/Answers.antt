@@ -3,14 +3,14 @@ use Rattle.std.proofs.Common.{refl}
 use Rattle.lv_script.proofs.restored.restore_script.Goals as goal
 
 pub resume_found-requires : goal.resume_found-requires
-resume_found-requires g c = let r = c.in-Ok.ensures in (r.rest, r.seen, r.ends)
+resume_found-requires g c = let r = c.in-Ok.ensures in (r.0, r.1.seen, r.1.ends)
 
 pub returns-in-Ok : goal.returns-in-Ok
 returns-in-Ok g c =
     let r = c.in-Ok.ensures in
-    record { rest = r.rest; seen = r.seen; read = r.read; few = r.few; ends = c.resume_found.ensures r.rest r.seen r.ends }
+    record { rest = r.0; seen = r.1.seen; read = r.1.read; few = r.1.few; ends = c.resume_found.ensures r.0 r.1.seen r.1.ends }
 
 pub returns-in-Err : goal.returns-in-Err
 returns-in-Err g c =
     let r = c.in-Err.ensures in
-    record { rest = r.rest; seen = r.seen; read = r.read; few = r.few; ends = (r.ends, (refl, refl)) }
+    record { rest = r.0; seen = r.1.seen; read = r.1.read; few = r.1.few; ends = (r.1.ends, (refl, refl)) }
