@@ -107,10 +107,11 @@ continues from it. At a good end its last line is `end`. With --sync it is on th
 reply. If FILE can't be written, that is a fault at the end.
 
 With --watch FILE, up to 4 times, a subscriber runs next to the sessions. FILE has at most 64 lines
-`watch NAME KIND LO HI`, blank lines and comments. A wrong line is a fault, which names the line before
-a session begins. Whenever the answer of a name differs from the last one reported, `at E NAME VALUE`
-is written to FILE.out: VALUE is the answer after update E. Updates may be skipped; at the end each
-answer has been reported. Before its first report a name counts as reported for an empty vector. FILE
+`watch NAME KIND LO HI`, blank lines and comments. `last N` in place of LO HI means the last N elements,
+and `at-least X` or `at-most X` may follow. A wrong line is a fault, which names the line before a
+session begins. Whenever the answer of a name differs from the last one reported, or with at-least or
+at-most begins or ceases to be so, `at E NAME VALUE` is written to FILE.out: VALUE is the answer after
+update E. Updates may be skipped; at the end each such change has been reported. Before its first report a name counts as reported for an empty vector. FILE
 and FILE.out are opened after those of the sessions, by the same rules. If FILE.out can't be written,
 only its subscriber ends, and that is a fault at the end.
 

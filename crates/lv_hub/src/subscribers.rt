@@ -13,7 +13,7 @@ use crate::shares::Share;
 use crate::told::Told;
 use lv_bodies::Six;
 use lv_geometry::Refusal;
-use lv_standing::{Note, Query, QuerySet, Question};
+use lv_standing::{Note, Query, QuerySet};
 use std::alloc::Global;
 use std::marker::Model;
 use std::sync::Wait;
@@ -90,7 +90,7 @@ impl<N: WithBody<Six>> Subscriber<N> {
     fn refusal_without_room(&self, question: &Query) -> Refusal
         ensures { IsRefusal (question_refusal self.now.questions question.now) result }
     {
-        match question.refusal_among(self.queries.queries(), MOST_QUERIES) {
+        match self.queries.refusal(question) {
             Some(refusal) => refusal,
             None => Refusal::NoMemory,
         }

@@ -29,7 +29,8 @@ use Rattle.lv_script.specs.declared.long_commands.LongCommand.{LongCommand}
 use Rattle.lv_script.specs.declared.long_commands.LongCommand.TheVariants as command
 use Rattle.lv_script.specs.declared.long_commands.Search.{Search}
 use Rattle.lv_standing.specs.declared.queries.Query.{Query}
-use Rattle.lv_script.specs.Inside.{AreNotesDue, IsReady, Told, SeriesStep, brought_up, known_of, watch_of}
+use Rattle.lv_script.specs.Inside.{AreNotesDue, IsReady, Told, SeriesStep, brought_up, known_of}
+use Rattle.lv_script.specs.LongGrammar.{watch_of}
 use Rattle.lv_standing.specs.Queries.{query_refusal}
 use Rattle.lv_standing.specs.Standings.{HaveOwnNames}
 use Rattle.lv_script.specs.LongTexts.{index_text, long_receipt_text, run_text}

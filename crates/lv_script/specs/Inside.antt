@@ -9,7 +9,6 @@ use Rattle.lv_standing.specs.Queries.{AreNotesOf}
 use Rattle.lv_standing.specs.Standings.{HaveOwnNames}
 use Rattle.lv_standing.specs.declared.notes.Note.{Note}
 use Rattle.lv_script.specs.declared.long_commands.LongCommand.{LongCommand}
-use Rattle.lv_script.specs.declared.long_commands.LongCommand.TheVariants.{Watch}
 use Rattle.lv_standing.specs.declared.queries.Query.{Query}
 use Rattle.lv_script.specs.Interpreter.{PlainLine, PlainStep}
 use Rattle.lv_script.specs.PlainSeriesScript.{PlainSeries, long_answer, series_script}
@@ -33,10 +32,6 @@ pub record IsReady (s : SeriesState) (set : QuerySetState Query) (capacity : ℕ
   pub most : set.most ≡ 64
   pub few : length set.queries ≤ 64
   pub room : length set.queries ≤ capacity
-
--- the command that registers a query
-abbrev pub watch_of : Query → LongCommand
-watch_of q = Watch q.name q.kind q.span q.bound
 
 -- ---- what is known
 

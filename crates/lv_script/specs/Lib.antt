@@ -12,6 +12,7 @@ pub mod Beginnings
 pub mod BoardLine
 pub mod PlainSeriesScript
 pub mod LongGrammar
+pub mod QueryGrammar
 pub mod LongTexts
 pub mod Searched
 pub mod Values

@@ -1,20 +1,16 @@
 -- What a line of a series' script says.
-use Rattle.std.specs.Prelude.{ℕ, ◌^◌, Bool, true, false, if◌then◌else◌, List, [], ◌∷◌, codes, Option, Some, None, option_map}
-use Rattle.std.specs.Str.{bytes_eq}
+use Rattle.std.specs.Prelude.{ℕ, ◌^◌, true, false, List, [], ◌∷◌, codes, Option, Some, None, option_map}
 use Rattle.lv_bodies.specs.declared.kinds.Kind.{Kind}
-use Rattle.lv_bodies.specs.declared.kinds.Kind.TheVariants.{Affine, Automaton}
 use Rattle.lv_tree.specs.declared.places.Bound.{Bound}
-use Rattle.lv_tree.specs.declared.places.Bound.TheVariants.{AtLeast, AtMost}
 use Rattle.lv_series.specs.declared.edits.LongEdit.TheVariants as edit
-use Rattle.lv_lines.specs.Grammar.{◌>>=◌, alone, first_and, Forms, kind_in, lone, made_of, name_in, read_by, bounds_up_to, range_up_to, line_by}
+use Rattle.lv_lines.specs.Grammar.{◌>>=◌, alone, first_and, Forms, lone, made_of, name_in, read_by, bounds_up_to, range_up_to, line_by}
 use Rattle.lv_lines.specs.Numbers.{element_in, number_up_to}
 use Rattle.lv_script.specs.declared.long_commands.LongCommand.{LongCommand}
 use Rattle.lv_script.specs.declared.long_commands.LongCommand.TheVariants.{Edit, First, Size, Get, Reduce, Scan, Find, BestRun, Watch, Unwatch, Answer}
 use Rattle.lv_lines.specs.declared.lines.Line.{Line}
 use Rattle.lv_script.specs.declared.long_commands.Search.TheVariants as sought
-use Rattle.lv_standing.specs.declared.spans.Span.{Span}
-use Rattle.lv_standing.specs.declared.spans.Span.TheVariants.{Between}
-use Rattle.lv_standing.specs.declared.spans.Span.TheVariants as spans
+use Rattle.lv_standing.specs.declared.queries.Query.{Query}
+use Rattle.lv_script.specs.QueryGrammar.{bound_in, query_in}
 
 -- the most that an index behind the last element may be
 abbrev pub most_long : ℕ
@@ -30,43 +26,9 @@ long_bounds_in words = bounds_up_to most_long words
 abbrev pub long_range_in : List (List ℕ) → Option (Kind × ℕ × ℕ)
 long_range_in words = range_up_to most_long words
 
--- the span that a query asks for: two words `lo hi`, or `last n`
-unfoldable pub span_in : List ℕ → List ℕ → Option Span
-span_in word second =
-    if bytes_eq word (codes "last") then option_map spans.Last (long_number_in second) else (do
-      lo ← long_number_in word
-      hi ← long_number_in second
-      Some (Between lo hi))
-
--- a bound: two words `at-least x`, or `at-most x`
-unfoldable pub bound_in : List ℕ → List ℕ → Option Bound
-bound_in word second =
-    if bytes_eq word (codes "at-least") then option_map AtLeast (element_in second)
-    else (if bytes_eq word (codes "at-most") then option_map AtMost (element_in second) else None)
-
--- whether the value of a kind is one number
-abbrev pub is_one_number : Kind → Bool
-is_one_number Affine = false
-is_one_number Automaton = false
-is_one_number kind = true
-
--- the bound of a query, whose value is then one number; or none where there are no words
-unfoldable pub threshold_in : Kind → List (List ℕ) → Option (Option Bound)
-threshold_in kind [] = Some None
-threshold_in kind (word ∷ words) = if is_one_number kind then option_map Some (lone (bound_in word) words) else None
-
--- the command `watch`: the words `name kind`, those of a span, and maybe those of a bound
-unfoldable pub watch_in : List (List ℕ) → Option LongCommand
-watch_in [] = None
-watch_in (word ∷ []) = None
-watch_in (word ∷ second ∷ []) = None
-watch_in (word ∷ second ∷ third ∷ []) = None
-watch_in (word ∷ second ∷ third ∷ fourth ∷ words) = do
-  name ← name_in word
-  kind ← kind_in second
-  span ← span_in third fourth
-  bound ← threshold_in kind words
-  Some (Watch name kind span bound)
+-- the command that registers a query
+abbrev pub watch_of : Query → LongCommand
+watch_of q = Watch q.name q.kind q.span q.bound
 
 -- the words of a bound, and `lo hi`
 unfoldable pub within_in : List (List ℕ) → Option (Bound × ℕ × ℕ)
@@ -110,7 +72,7 @@ long_forms =
     ∷ (codes "reduce", made_of long_range_in (λ w. Reduce w.0 w.1 w.2))
     ∷ (codes "inc", made_of long_range_in (λ w. Scan true w.0 w.1 w.2))
     ∷ (codes "exc", made_of long_range_in (λ w. Scan false w.0 w.1 w.2))
-    ∷ (codes "watch", watch_in)
+    ∷ (codes "watch", made_of (query_in most_long) watch_of)
     ∷ (codes "unwatch", made_of (lone name_in) Unwatch)
     ∷ (codes "answer", made_of (lone name_in) Answer)
     ∷ (codes "last", made_of within_in (λ w. Find (sought.Last w.0) w.1 w.2))

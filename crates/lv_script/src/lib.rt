@@ -22,6 +22,7 @@ mod long_commands;
 mod long_grammar;
 mod plain_calls;
 mod query_answers;
+mod query_grammar;
 mod refresh_replies;
 mod restored;
 mod running_scans;
@@ -50,6 +51,7 @@ pub use lv_lines::{
 pub use lv_transcript::{
     Claimed, FrontVerdict, Verdict, audit, audit_front, read_front, write_transcript,
 };
+pub use query_grammar::read_query;
 pub use restored::{Unrestored, restore_script, resume_script};
 pub use running_scans::{Elements, Slice, put_running_scan};
 pub use scans::Asked;

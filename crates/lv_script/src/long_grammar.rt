@@ -3,16 +3,17 @@ ghost use Rattle.std.specs.Prelude.{◌≡◌, ◌∷◌, drop};
 ghost use Rattle.lv_lines.specs.Grammar.{first_and, lone, made_of, read_by};
 ghost use Rattle.lv_lines.specs.Numbers.{element_in};
 ghost use Rattle.lv_lines.specs.Words.{words_of};
-ghost use Rattle.lv_script.specs.LongGrammar.{bound_in, first_in, is_one_number, long_bounds_in, long_command_in, long_forms, long_line_of, long_number_in, long_range_in, span_in, threshold_in, watch_in, where_in, within_in};
+ghost use Rattle.lv_script.specs.LongGrammar.{first_in, long_bounds_in, long_command_in, long_forms, long_line_of, long_number_in, long_range_in, most_long, watch_of, where_in, within_in};
+ghost use Rattle.lv_script.specs.QueryGrammar.{query_in};
 
 use crate::long_commands::{LongCommand, Search};
-use lv_bodies::{Kind, Name};
+use crate::query_grammar::{bound, read_query};
 use lv_lines::grammar::{
-    alone, bounds_up_to, kind, lone_element, lone_name, lone_up_to, range_up_to, spells,
+    alone, bounds_up_to, lone_element, lone_name, lone_up_to, range_up_to, spells,
 };
-use lv_lines::{Line, LineGrammar, element, next_word, number_up_to, only_word, read_line_by};
+use lv_lines::{Line, LineGrammar, element, next_word, number_up_to, read_line_by};
 use lv_series::LongEdit;
-use lv_standing::Span;
+use lv_standing::Query;
 use lv_tree::Bound;
 
 /// The most that a number of a series' line may be, 2^62.
@@ -41,60 +42,6 @@ impl LineGrammar for SeriesGrammar {
     }
 }
 
-#[tactic(auto, unfolding(crate::specs::LongGrammar::span_in))]
-fn span(word: &[u8], second: &[u8]) -> Option<Span>
-    ensures { result ≡ span_in word.now second.now }
-{
-    if spells(word, "last") {
-        return number_up_to(second, MOST).map(Span::Last);
-    }
-    let lo = number_up_to(word, MOST)?;
-    let hi = number_up_to(second, MOST)?;
-    Some(Span::Between { lo, hi })
-}
-
-#[tactic(auto, unfolding(crate::specs::LongGrammar::bound_in))]
-fn bound(word: &[u8], second: &[u8]) -> Option<Bound>
-    ensures { result ≡ bound_in word.now second.now }
-{
-    if spells(word, "at-least") {
-        return element(second).map(Bound::AtLeast);
-    }
-    if spells(word, "at-most") {
-        return element(second).map(Bound::AtMost);
-    }
-    None
-}
-
-fn lone_bound(word: &[u8], words: &[u8]) -> Option<Bound>
-    ensures { result ≡ lone (bound_in word.now) (words_of words.now) }
-{
-    bound(word, only_word(words)?)
-}
-
-// Whether the value of a kind is one number.
-fn is_one_number(kind: Kind) -> bool
-    ensures { result ≡ is_one_number kind }
-{
-    match kind {
-        Kind::Affine | Kind::Automaton => false,
-        _ => true,
-    }
-}
-
-#[tactic(auto, unfolding(crate::specs::LongGrammar::threshold_in))]
-fn threshold(kind: Kind, words: &[u8]) -> Option<Option<Bound>>
-    ensures { result ≡ threshold_in kind (words_of words.now) }
-{
-    let Some((word, rest)) = next_word(words) else {
-        return Some(None);
-    };
-    if !is_one_number(kind) {
-        return None;
-    }
-    lone_bound(word, rest).map(Some)
-}
-
 fn write(words: &[u8]) -> Option<LongCommand>
     ensures { result ≡ made_of (first_and long_number_in (lone element_in)) (λ w. LongCommand.Edit (LongEdit.Write w.0 w.1)) (words_of words.now) }
 {
@@ -104,18 +51,15 @@ fn write(words: &[u8]) -> Option<LongCommand>
     Some(LongCommand::Edit(LongEdit::Write { index, value }))
 }
 
-#[tactic(auto, unfolding(crate::specs::LongGrammar::watch_in))]
 fn watch(words: &[u8]) -> Option<LongCommand>
-    ensures { result ≡ watch_in (words_of words.now) }
+    ensures { result ≡ made_of (query_in most_long) watch_of (words_of words.now) }
 {
-    let (word, rest) = next_word(words)?;
-    let (second, rest) = next_word(rest)?;
-    let (third, rest) = next_word(rest)?;
-    let (fourth, rest) = next_word(rest)?;
-    let name = Name::new(word)?;
-    let kind = kind(second)?;
-    let span = span(third, fourth)?;
-    let bound = threshold(kind, rest)?;
+    let Query {
+        name,
+        kind,
+        span,
+        bound,
+    } = read_query(words, MOST)?;
     Some(LongCommand::Watch {
         name,
         kind,

@@ -1,6 +1,7 @@
 -- Names the files of lemmas of `lv_standing`.
 pub mod BesideLaws
 pub mod EditLaws
+mod NameLaws
 pub mod QueryLaws
 mod QuerySetLaws
 pub mod RangeLaws

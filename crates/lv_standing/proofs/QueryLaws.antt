@@ -1,13 +1,13 @@
 -- Queries by name: at most one has it. And when no note of an answer is due.
-use Rattle.std.proofs.Common.{◌≡◌, ◌≢◌, ℕ, zero, suc, ◌<◌, ◌≤◌, Bool, true, false, cond, ◌||◌, Option, Some, None, List, [], ◌∷◌, ◌++◌, filter, length, map, not, ◌&&◌, ap₂, ℤ, position, remove, get_or, take, drop, refl, sym, ap, ◌∙◌, inl, inr, arith, true≢false}
+use Rattle.std.proofs.Common.{◌≡◌, ◌≢◌, ℕ, zero, suc, ◌<◌, ◌≤◌, Bool, true, false, cond, Option, Some, None, List, [], ◌∷◌, ◌++◌, filter, length, map, not, ◌&&◌, ap₂, ℤ, position, is_some, remove, get_or, take, drop, refl, sym, ap, ◌∙◌, inl, inr, arith, true≢false}
 use Rattle.std.specs.Prelude.{nat_lt}
 use Rattle.std.specs.Bool.{beq}
 use Rattle.std.specs.Option.{option_eq}
 use Rattle.std.specs.Ordering.{int_eq}
-use Rattle.std.specs.List.{list_any, position_or_len}
+use Rattle.std.specs.List.{position_or_len}
 use Rattle.std.specs.Str.{bytes_eq}
 use Rattle.std.proofs.lemmas.Bool.Decides.{Decides-eqb, Decides-int_eq}
-use Rattle.std.proofs.lemmas.Bool.{cases_Bool, cases_lt, cond-false, cond-true, le-ltb, lt-ltb}
+use Rattle.std.proofs.lemmas.Bool.{cases_Bool, cases_lt, cond-false, cond-true, lt-ltb}
 use Rattle.std.proofs.lemmas.List.{drop-map, get_or-map, map-append, take-map}
 use Rattle.std.proofs.lemmas.List.Quantifiers.{all_pairs_push, position-Some}
 use Rattle.std.proofs.lemmas.List.Sums.{fails_before_first}
@@ -19,8 +19,7 @@ use Rattle.lv_bodies.specs.declared.kinds.Shown.TheVariants.{Sum, Least, Greates
 use Rattle.lv_tree.specs.declared.places.Bound.{Bound}
 use Rattle.lv_standing.specs.declared.queries.Query.{Query}
 use Rattle.lv_standing.specs.declared.spans.Span.{Span}
-use Rattle.lv_standing.specs.declared.spans.Span.TheVariants.{Between, Last}
-use Rattle.lv_standing.specs.Queries.{holds, is_due, name_refusal, query_of, same_value, span_refusal, without_query}
+use Rattle.lv_standing.specs.Queries.{holds, is_backwards, is_due, name_refusal, query_of, query_refusal, same_value, span_refusal, without_query}
 use Rattle.lv_standing.specs.Standings.{HaveOwnNames}
 
 -- ---- one element of a list
@@ -139,31 +138,25 @@ free_name most all None free = refl
 free_name most all (Some q) free = absurd (none-some NameTaken (sym free))
 
 pub new_name : (most : ℕ) (qs : List Query) (name : List ℕ) (span : Span) → span_refusal most qs name span ≡ None → query_of qs name ≡ None
-new_name most qs name (Last n) free = free_name most qs (query_of qs name) free
-new_name most qs name (Between lo hi) free =
-    elim (cases_Bool (nat_lt hi lo)) [
+new_name most qs name span free =
+    elim (cases_Bool (is_backwards span)) [
       | inl backwards ↦ absurd (none-some BadRange (sym free ∙ cond-true _ _ _ backwards))
       | inr order ↦ free_name most qs (query_of qs name) (sym (cond-false _ _ _ order) ∙ free)
     ]
 
 -- a query is refused for its name where one of them has it, else where they are as many as may be
-refused_by_name : (most : ℕ) (all qs : List Query) (name : List ℕ) → name_refusal most all (query_of qs name) ≡ cond (list_any (λ q. bytes_eq q.name name) qs) (Some NameTaken) (cond (nat_lt (length all) most) None (Some TooMany))
-refused_by_name most all [] name = refl
-refused_by_name most all (q ∷ qs) name =
-    elim (bytes_eq q.name name) as (λ same. name_refusal most all (cond same (Some q) (query_of qs name)) ≡ cond (same || list_any (λ q. bytes_eq q.name name) qs) (Some NameTaken) (cond (nat_lt (length all) most) None (Some TooMany))) [
-      | true ↦ refl
-      | false ↦ refused_by_name most all qs name
-    ]
+refused_by_place : (most : ℕ) (qs : List Query) (name : List ℕ) (o : Option ℕ) → position (has name) qs ≡ o → name_refusal most qs (query_of qs name) ≡ cond (is_some o) (Some NameTaken) (cond (nat_lt (length qs) most) None (Some TooMany))
+refused_by_place most qs name None at = ap (name_refusal most qs) (not_placed name qs at)
+refused_by_place most qs name (Some i) at = ap (name_refusal most qs) (placed name (λ q. q.name) qs i [] at).1
 
-module _ (most : ℕ) (qs : List Query) (name : List ℕ) where
-  pub name_taken : list_any (λ q. bytes_eq q.name name) qs ≡ true → name_refusal most qs (query_of qs name) ≡ Some NameTaken
-  name_taken named = refused_by_name most qs qs name ∙ cond-true _ _ _ named
-
-  pub too_many : list_any (λ q. bytes_eq q.name name) qs ≡ false → most ≤ length qs → name_refusal most qs (query_of qs name) ≡ Some TooMany
-  too_many named many = refused_by_name most qs qs name ∙ cond-false _ _ _ named ∙ cond-false _ _ _ (le-ltb (length qs) most many)
-
-  pub not_refused : list_any (λ q. bytes_eq q.name name) qs ≡ false → length qs < most → name_refusal most qs (query_of qs name) ≡ None
-  not_refused named few = refused_by_name most qs qs name ∙ cond-false _ _ _ named ∙ cond-true _ _ _ (lt-ltb (length qs) most few)
+-- so it is refused by its range, by whether its name is taken, and by how many there are
+pub why_refused : (most count : ℕ) (qs : List Query) (q : Query) (taken : Bool) → length qs ≡ count → is_some (position (has q.name) qs) ≡ taken
+    → query_refusal most qs q ≡ cond (is_backwards q.span) (Some BadRange) (cond taken (Some NameTaken) (cond (nat_lt count most) None (Some TooMany)))
+why_refused most count qs q taken many at =
+    ap (cond (is_backwards q.span) (Some BadRange)) (
+    refused_by_place most qs q.name (position (has q.name) qs) refl
+    ∙ ap₂ (λ b n. cond b (Some NameTaken) (cond (nat_lt n most) None (Some TooMany))) at many
+    )
 
 -- ---- notes
 

@@ -127,11 +127,15 @@ abbrev pub name_refusal : ℕ → List Query → Option Query → Option Refusal
 name_refusal most queries (Some q) = Some NameTaken
 name_refusal most queries None = if nat_lt (length queries) most then None else Some TooMany
 
+-- whether a span is a range whose end is before its start
+abbrev pub is_backwards : Span → Bool
+is_backwards (Between lo hi) = nat_lt hi lo
+is_backwards (Last n) = false
+
 -- why a query of a name and a span is refused among others, of which so many are allowed, out of memory apart: its range is backwards, or
 -- its name is taken, or there are as many as are allowed
 abbrev pub span_refusal : ℕ → List Query → List ℕ → Span → Option Refusal
-span_refusal most queries name (Between lo hi) = if nat_lt hi lo then Some BadRange else name_refusal most queries (query_of queries name)
-span_refusal most queries name (Last n) = name_refusal most queries (query_of queries name)
+span_refusal most queries name span = if is_backwards span then Some BadRange else name_refusal most queries (query_of queries name)
 
 abbrev pub query_refusal : ℕ → List Query → Query → Option Refusal
 query_refusal most queries q = span_refusal most queries q.name q.span

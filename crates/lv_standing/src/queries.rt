@@ -1,6 +1,6 @@
 //! Queries by name, and why one is refused.
-ghost use Rattle.std.specs.Prelude.{◌≡◌, ◌<◌, [], None, length};
-ghost use Rattle.lv_standing.specs.Queries.{between, name_refusal, query_of, query_refusal, untold, watch_answer};
+ghost use Rattle.std.specs.Prelude.{◌≡◌, []};
+ghost use Rattle.lv_standing.specs.Queries.{between, query_refusal, untold, watch_answer};
 
 use crate::questions::Question;
 use crate::spans::Span;
@@ -31,16 +31,17 @@ impl Question for Query {
     ghost due = { λ q before now. is_due q.bound before now ≡ true };
 
     // `BadRange`, `NameTaken`, then `TooMany`.
-    fn refusal_among(&self, queries: &[Query], most: usize) -> Option<Refusal> {
-        match self.span {
-            Span::Between { lo, hi } => {
-                if hi < lo {
-                    return Some(Refusal::BadRange);
-                }
-                name_refusal(queries, self.name, most)
-            }
-            Span::Last(_) => name_refusal(queries, self.name, most),
+    fn refusal_among(&self, is_taken: bool, count: usize, most: usize) -> Option<Refusal> {
+        if self.span.is_backwards() {
+            return Some(Refusal::BadRange);
         }
+        if is_taken {
+            return Some(Refusal::NameTaken);
+        }
+        if count >= most {
+            return Some(Refusal::TooMany);
+        }
+        None
     }
 
     fn name(&self) -> Name {
@@ -75,18 +76,4 @@ impl Query {
     {
         face(self.kind, Six.identity())
     }
-}
-
-// Why a name is refused among queries, of which so many are allowed, or nothing.
-fn name_refusal(queries: &[Query], name: Name, most: usize) -> Option<Refusal>
-    ensures why { result ≡ name_refusal most queries.now (query_of queries.now name) }
-    ensures few { result ≡ None → length queries.now < most }
-{
-    if queries.iter().any(|query| query.name == name) {
-        return Some(Refusal::NameTaken);
-    }
-    if queries.len() >= most {
-        return Some(Refusal::TooMany);
-    }
-    None
 }

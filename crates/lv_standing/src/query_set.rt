@@ -6,6 +6,7 @@ ghost use Rattle.lv_standing.specs.QuerySets.{AddsDue, place_of, told_at, with_a
 
 use crate::notes::Note;
 use crate::questions::{Answers, Question};
+use indexmap::IndexSet;
 use lv_bodies::{Name, Shown};
 use lv_geometry::Refusal;
 use std::alloc::{AllocError, Global};
@@ -15,23 +16,25 @@ use std::mem;
 /// Queries by name, in the order of their registration, and what each was told last. Asking is one step and telling another, so that all
 /// answers are of one edit and a lock need be held for the first only.
 #[derive(Drop)]
-pub struct QuerySet<Q> {
+pub struct QuerySet<Q: Question> {
     queries: Vec<Q>,
+    // The names of the queries, in the same order: the index by which one is found. Asking and telling don't look into it.
+    names: IndexSet<Name>,
     told: Vec<Shown>,
     // What they were answered last, and room for the answers of all.
     answers: Vec<Shown>,
     most: usize,
 }
 
-impl<Q> Model for QuerySet<Q> {
-    ghost use Rattle.std.specs.Prelude.{◌≡◌, ◌≤◌, length, vec_capacity};
+impl<Q: Question> Model for QuerySet<Q> {
+    ghost use Rattle.std.specs.Prelude.{◌≡◌, ◌≤◌, length, map, vec_capacity};
     ghost use Rattle.lv_standing.specs.QuerySets.{QuerySetState};
 
     ghost Value = { QuerySetState Q };
 
     ghost view = { λ s. record { queries = s.queries.items; told = s.told.items; answers = s.answers.items; most = s.most } };
 
-    ghost invariant = { λ s. (length s.told.items ≡ length s.queries.items) × (length s.queries.items ≤ vec_capacity s.told) × (length s.queries.items ≤ vec_capacity s.answers) × (length s.queries.items ≤ s.most) };
+    ghost invariant = { λ s. (s.names.keys ≡ map Q.name_of s.queries.items) × (length s.told.items ≡ length s.queries.items) × (length s.queries.items ≤ vec_capacity s.told) × (length s.queries.items ≤ vec_capacity s.answers) × (length s.queries.items ≤ s.most) };
 }
 
 impl<Q: Question> QuerySet<Q> {
@@ -41,42 +44,53 @@ impl<Q: Question> QuerySet<Q> {
     {
         QuerySet {
             queries: Vec::new(alloc),
+            names: IndexSet::new(alloc),
             told: Vec::new(alloc),
             answers: Vec::new(alloc),
             most,
         }
     }
 
-    /// Registers a query behind the others, which counts as told this answer. Refused as the query says, then with `NoMemory`; nothing has
+    /// Registers a query behind the others, which counts as told this answer. Refused as `refusal` says, then with `NoMemory`; nothing has
     /// changed then. What was answered before is forgotten.
     pub fn watch(&mut self, query: &Q, told: Shown) -> Result<(), Refusal>
         ensures ok { OnOk result ((Q.refusal self.old.most self.old.queries query.now ≡ None) × (self.new ≡ with_query self.old query.now told)) }
         ensures err { IfErr result (λ refusal. IsRefusal (Q.refusal self.old.most self.old.queries query.now) refusal) }
-        ensures unchanged { OnErr result (self.new.queries ≡ self.old.queries) }
-        ensures untold { OnErr result (self.new.told ≡ self.old.told) }
-        ensures most { self.new.most ≡ self.old.most }
+        ensures unchanged { OnErr result (self.new ≡ self.old) }
     {
-        match query.refusal_among(&self.queries, self.most) {
+        match self.refusal(query) {
             Some(refusal) => Err(refusal),
             None => self.add(query, told),
         }
     }
 
+    /// Why a query is refused, out of memory apart, if it is.
+    pub fn refusal(&self, query: &Q) -> Option<Refusal>
+        ensures why { result ≡ Q.refusal self.now.most self.now.queries query.now }
+        ensures free { result ≡ None → place_of Q.name_of self.now.queries (Q.name_of query.now) ≡ None }
+        ensures few { result ≡ None → length self.now.queries < self.now.most }
+    {
+        let place = self.place(&query.name());
+        query.refusal_among(place.is_some(), self.queries.len(), self.most)
+    }
+
     // Registers a query that only a lack of memory refuses.
     fn add(&mut self, query: &Q, told: Shown) -> Result<(), Refusal>
-        requires free { Q.refusal self.old.most self.old.queries query.now ≡ None }
+        requires free { place_of Q.name_of self.old.queries (Q.name_of query.now) ≡ None }
         requires few { length self.old.queries < self.old.most }
         ensures ok { OnOk result (self.new ≡ with_query self.old query.now told) }
         ensures err { IfErr result (λ refusal. refusal ≡ Refusal.NoMemory) }
-        ensures unchanged { OnErr result (self.new.queries ≡ self.old.queries) }
-        ensures untold { OnErr result (self.new.told ≡ self.old.told) }
-        ensures most { self.new.most ≡ self.old.most }
+        ensures unchanged { OnErr result (self.new ≡ self.old) }
     {
         let Ok(()) = make_room(&mut self.queries, &mut self.told, &mut self.answers) else {
             return Err(Refusal::NoMemory);
         };
+        let Ok(_) = self.names.insert(query.name()) else {
+            return Err(Refusal::NoMemory);
+        };
         self.queries.push_reserved(*query);
         self.told.push_reserved(told);
+        self.answers.clear();
         Ok(())
     }
 
@@ -84,7 +98,7 @@ impl<Q: Question> QuerySet<Q> {
     pub fn place(&self, name: &Name) -> Option<usize>
         ensures { result ≡ place_of Q.name_of self.now.queries name.now }
     {
-        self.queries.iter().position(|query| query.name() == *name)
+        self.names.get_index_of(name)
     }
 
     /// Forgets the query at a place; the others keep their order, and what they were told.
@@ -93,6 +107,7 @@ impl<Q: Question> QuerySet<Q> {
         ensures { self.new ≡ without_place self.old place }
     {
         self.queries.remove(place);
+        self.names.shift_remove_index(place);
         self.told.remove(place);
         self.answers.clear();
     }
@@ -103,6 +118,14 @@ impl<Q: Question> QuerySet<Q> {
         ensures few { length result.now ≤ self.now.most }
     {
         &self.queries
+    }
+
+    /// The queries, in that order, without the set.
+    pub fn into_queries(self) -> Vec<Q>
+        ensures { result.items ≡ self.queries }
+    {
+        let QuerySet { queries, .. } = self;
+        queries
     }
 
     /// What each was told last.
@@ -171,7 +194,7 @@ fn make_room<Q>(
 ) -> Result<(), AllocError>
     ensures queries { queries.new.items ≡ queries.old.items }
     ensures told { told.new.items ≡ told.old.items }
-    ensures answers { answers.new.items ≡ [] }
+    ensures answers { answers.new.items ≡ answers.old.items }
     ensures query_room { OnOk result (vec_len queries.new + 1 ≤ vec_capacity queries.new) }
     ensures told_room { OnOk result (vec_len told.new + 1 ≤ vec_capacity told.new) }
     ensures answer_room { OnOk result (vec_len queries.new + 1 ≤ vec_capacity answers.new) }
@@ -179,8 +202,7 @@ fn make_room<Q>(
     ensures answers_keep { vec_capacity answers.old ≤ vec_capacity answers.new }
 {
     let count = queries.len().saturating_add(1);
-    answers.clear();
-    answers.reserve(count)?;
+    answers.reserve(count.saturating_sub(answers.len()))?;
     told.reserve(1)?;
     queries.reserve(1)
 }

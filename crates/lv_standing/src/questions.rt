@@ -1,9 +1,10 @@
 //! What a query asks by a name, and who can be asked.
-ghost use Rattle.std.specs.Prelude.{◌≡◌, ◌<◌, ℕ, Option, None, List, length, true, false};
+ghost use Rattle.std.specs.Prelude.{◌≡◌, ◌<◌, ℕ, Option, None, List, is_some, length, true, false};
 ghost use Rattle.lv_geometry.specs.declared.refusals.Refusal.{Refusal as Refused};
 ghost use Rattle.lv_bodies.specs.declared.kinds.Shown.{Shown as Value};
 ghost use Rattle.lv_edits.specs.Kept.{IsLegalInLimits};
 ghost use Rattle.lv_standing.specs.Queries.{watch_answer};
+ghost use Rattle.lv_standing.specs.QuerySets.{place_of};
 
 use crate::queries::Query;
 use crate::spans::Indices;
@@ -25,10 +26,12 @@ pub trait Question: Copy {
 
     ghost due: { Self → Value → Value → Type 0 };
 
-    /// Why a set that has these queries, and may have at most so many, refuses it, out of memory apart, if it does.
-    fn refusal_among(&self, queries: &[Self], most: usize) -> Option<Refusal>
-        ensures why { result ≡ refusal most queries.now self.now }
-        ensures few { result ≡ None → length queries.now < most };
+    /// Why a set refuses it, out of memory apart, if it does: by whether one of its queries has the name, how many there are, and how many
+    /// there may be.
+    fn refusal_among(&self, is_taken: bool, count: usize, most: usize) -> Option<Refusal>
+        ensures why { (queries : List Self) → length queries ≡ count → is_some (place_of name_of queries (name_of self.now)) ≡ is_taken → result ≡ refusal most queries self.now }
+        ensures free { result ≡ None → is_taken ≡ false }
+        ensures few { result ≡ None → count < most };
 
     /// Its name.
     fn name(&self) -> Name

@@ -2,7 +2,7 @@
 ghost use Rattle.std.specs.Prelude.{◌≡◌, ◌≤◌, ℤ, List, length};
 ghost use Rattle.std.specs.List.{slice_range};
 ghost use Rattle.lv_standing.specs.Inner.{has_changed, has_index, has_written};
-ghost use Rattle.lv_standing.specs.Queries.{span_of};
+ghost use Rattle.lv_standing.specs.Queries.{is_backwards, span_of};
 
 use crate::changes::Changed;
 use lv_live::Touched;
@@ -44,6 +44,16 @@ impl Span {
                 lo: (end - count.min(end)) as u32,
                 hi: size,
             },
+        }
+    }
+
+    /// Whether it is a range whose end is before its start.
+    pub fn is_backwards(&self) -> bool
+        ensures { result ≡ is_backwards self.now }
+    {
+        match *self {
+            Span::Between { lo, hi } => hi < lo,
+            Span::Last(_) => false,
         }
     }
 

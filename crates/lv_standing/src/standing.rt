@@ -28,7 +28,6 @@ use crate::edits::edit_noted;
 use crate::notes::{Answered, Note};
 use crate::queries::Query;
 use crate::query_set::QuerySet;
-use crate::questions::Question;
 use crate::values::value_beside;
 use lv_bodies::{Automaton, Body, Kind, Name, Six, SixSummary};
 use lv_edits::{Edit, Receipt};
@@ -103,7 +102,7 @@ impl Standing {
         ensures live { self.new.live ≡ self.old.live }
         ensures others { LeavesOthers query.now.kind self.old.kinds self.new.kinds }
     {
-        if let Some(refusal) = query.refusal_among(self.set.queries(), MOST) {
+        if let Some(refusal) = self.set.refusal(query) {
             return Err(refusal);
         }
         let Ok(()) = self.summaries.reserve(1) else {

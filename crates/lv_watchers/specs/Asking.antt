@@ -1,17 +1,17 @@
 -- What the lines of a subscriber's file ask.
-use Rattle.std.specs.Prelude.{◌≡◌, ◌⊎◌, ℕ, Option, Some, None, Result, Ok, Err, List, [], ◌∷◌, ◌++◌, Vec}
+use Rattle.std.specs.Str.{bytes_eq}
+use Rattle.std.specs.Prelude.{◌≡◌, ◌⊎◌, ℕ, codes, if◌then◌else◌, Option, Some, None, Result, Ok, Err, List, [], ◌∷◌, ◌++◌, Vec}
 use Rattle.lv_geometry.specs.declared.refusals.Refusal.{Refusal}
 use Rattle.lv_geometry.specs.declared.refusals.Refusal.TheVariants as refusals
 use Rattle.lv_edits.specs.Verdict.{IsRefusal}
-use Rattle.lv_lines.specs.declared.command.Command.TheVariants.{Watch}
-use Rattle.lv_lines.specs.declared.command.Command.{Command}
 use Rattle.lv_lines.specs.declared.lines.Line.{Line}
-use Rattle.lv_lines.specs.declared.lines.Line.TheVariants.{Nothing, Do}
+use Rattle.lv_lines.specs.declared.lines.Line.TheVariants.{Nothing, Bad, Do}
 use Rattle.lv_lines.specs.declared.fault.Fault.{Fault}
-use Rattle.lv_lines.specs.Grammar.{line_of}
+use Rattle.lv_lines.specs.Grammar.{line_by}
+use Rattle.lv_lines.specs.Numbers.{most_32}
 use Rattle.lv_lines.specs.Replies.{LinesServed}
 use Rattle.lv_standing.specs.declared.queries.Query.{Query}
-use Rattle.lv_standing.specs.Queries.{between}
+use Rattle.lv_script.specs.QueryGrammar.{query_in}
 use Rattle.lv_hub.specs.Notes.{question_refusal}
 use Rattle.lv_watchers.specs.declared.queries.Damage as damages
 use Rattle.lv_watchers.specs.declared.queries.Unasked.{Unasked}
@@ -36,20 +36,25 @@ Asks questions n q new =
     ((question_refusal questions q ≡ None) × (new ≡ record { questions = questions ++ q ∷ []; damage = None }))
     ⊎ ((refusal : Refusal) × IsRefusal (question_refusal questions q) refusal × (new ≡ damaged questions n (Some refusal)))
 
--- line n says this, where no line before it is wrong. One that says nothing changes nothing, and one that is no `watch` is wrong
-abbrev pub Takes : List Query → ℕ → Line Command → Asked → Type 0
+-- the query that the words of a line ask: those behind `watch`, of numbers that fit into 32 bits
+unfoldable pub asked_in : List (List ℕ) → Option Query
+asked_in [] = None
+asked_in (verb ∷ words) = if bytes_eq verb (codes "watch") then query_in most_32 words else None
+
+-- line n says this, where no line before it is wrong. One that says nothing changes nothing, and one that asks no query is wrong
+abbrev pub Takes : List Query → ℕ → Line Query → Asked → Type 0
 Takes questions n Nothing new = new ≡ record { questions = questions; damage = None }
-Takes questions n (Do (Watch name kind lo hi)) new = Asks questions n (between name kind lo hi) new
-Takes questions n _ new = new ≡ damaged questions n None
+Takes questions n (Do q) new = Asks questions n q new
+Takes questions n Bad new = new ≡ damaged questions n None
 
 -- what stands behind a line that is wrong changes nothing
-abbrev pub TakesUnless : Option damages.Damage → Asked → ℕ → Line Command → Asked → Type 0
+abbrev pub TakesUnless : Option damages.Damage → Asked → ℕ → Line Query → Asked → Type 0
 TakesUnless (Some damage) old n line new = new ≡ old
 TakesUnless None old n line new = Takes old.questions n line new
 
 -- a line is taken, and answered by nothing
 unfoldable pub AskStep : Asked → ℕ → List ℕ → List ℕ → Asked → Type 0
-AskStep old n line text new = (text ≡ []) × TakesUnless old.damage old n (line_of line) new
+AskStep old n line text new = (text ≡ []) × TakesUnless old.damage old n (line_by asked_in line) new
 
 -- the lines of an input were taken in turn, up to its end or to a fault
 pub record AsksAll {T : Type 0} (remaining_old remaining_new : Option (List ℕ)) (asked : Asked) (result : Result T Fault) : Type 0 where

@@ -1,15 +1,19 @@
 //! The file of a subscriber: what its lines ask.
 
-ghost use Rattle.std.specs.Prelude.{◌≡◌, None, Some};
-ghost use Rattle.lv_watchers.specs.Asking.{AskStep, Asked, Asks, Finds, ReadsQuestions, Takes, TakesUnless};
+ghost use Rattle.std.specs.Prelude.{◌≡◌, ◌∷◌, None, Some};
+ghost use Rattle.lv_lines.specs.Words.{words_of};
+ghost use Rattle.lv_watchers.specs.Asking.{Asks, Finds, ReadsQuestions, TakesUnless, asked_in};
 
 use lv_geometry::Refusal;
 use lv_hub::{MOST_QUERIES, Query};
-use lv_lines::{Command, Fault, Line, LineHandler, ReplyBuffer, read_line, serve_lines};
-use lv_standing::Question;
+use lv_lines::grammar::spells;
+use lv_lines::{Fault, Line, LineGrammar, LineHandler, ReplyBuffer, read_line_by, serve_lines};
+use lv_script::read_query;
+use lv_standing::QuerySet;
 use std::alloc::Global;
 use std::io;
 use std::io::{Read, Write};
+use std::marker::Model;
 
 /// What is wrong with a line of such a file.
 #[derive(Clone, Copy, Debug, PartialEq, Eq)]
@@ -29,14 +33,15 @@ pub enum Unasked {
     Damage(Damage),
 }
 
-/// Reads a file to its end: lines `watch NAME KIND LO HI`, blank ones and comments. Nothing else is kept. A fault of reading comes
+/// Reads a file to its end: lines `watch NAME KIND LO HI`, or with `last N` for the range, and maybe with `at-least X` or `at-most X` behind it,
+/// blank ones and comments. Nothing else is kept. A fault of reading comes
 /// before a line that is wrong, of which the first is told: a question is refused with `BadRange`, `NameTaken`, `TooMany`, then
 /// `NoMemory`.
 pub fn read_questions<R: Read>(alloc: Global, reader: &mut R) -> Result<Vec<Query>, Unasked>
     ensures { ReadsQuestions (R.remaining reader.old) (R.remaining reader.new) result }
 {
     let mut asker = Asker {
-        questions: Vec::new(alloc),
+        queries: QuerySet::new(alloc, MOST_QUERIES),
         damage: None,
     };
     match serve_lines(alloc, &mut asker, reader, &mut io::sink()) {
@@ -45,17 +50,57 @@ pub fn read_questions<R: Read>(alloc: Global, reader: &mut R) -> Result<Vec<Quer
     }
 }
 
+// How the words of a line of such a file are read.
+#[derive(Clone, Copy)]
+struct WatchGrammar;
+
+impl LineGrammar for WatchGrammar {
+    type Command = Query;
+
+    ghost use Rattle.lv_watchers.specs.Asking.{asked_in};
+
+    ghost command_in = { λ _. asked_in };
+
+    fn command(&self, verb: &[u8], words: &[u8]) -> Option<Query> {
+        asked(verb, words)
+    }
+}
+
+// The query that a first word and the words after it ask.
+#[tactic(auto, unfolding(crate::specs::Asking::asked_in))]
+fn asked(verb: &[u8], words: &[u8]) -> Option<Query>
+    ensures { result ≡ asked_in (verb.now ∷ words_of words.now) }
+{
+    if !spells(verb, "watch") {
+        return None;
+    }
+    read_query(words, u64::from(u32::MAX))
+}
+
 // What was read so far.
 #[derive(Drop)]
 struct Asker {
-    questions: Vec<Query>,
+    queries: QuerySet<Query>,
     damage: Option<Damage>,
 }
 
+impl Model for Asker {
+    ghost use Rattle.std.specs.Prelude.{◌≡◌};
+    ghost use Rattle.lv_watchers.specs.Asking.{Asked};
+
+    ghost Value = { Asked };
+
+    ghost view = { λ a. record { questions = a.queries.queries; damage = a.damage } };
+
+    ghost invariant = { λ a. a.queries.most ≡ 64 };
+}
+
 impl<W: Write> LineHandler<W> for Asker {
+    ghost use Rattle.lv_watchers.specs.Asking.{AskStep, Asked};
+
     ghost State = { Asked };
 
-    ghost state = { λ a. record { questions = a.questions.items; damage = a.damage } };
+    ghost state = { λ a. a };
 
     ghost step = { AskStep };
 
@@ -65,15 +110,15 @@ impl<W: Write> LineHandler<W> for Asker {
         line: &[u8],
         _buffer: &mut ReplyBuffer<'_, W>,
     ) -> Result<(), Fault> {
-        self.take(number, read_line(line));
+        self.take(number, read_line_by(&WatchGrammar, line));
         Ok(())
     }
 }
 
 impl Asker {
     // Takes a line, unless one before it is wrong.
-    fn take(&mut self, number: u32, line: Line<Command>)
-        ensures { TakesUnless self.old.damage (record { questions = self.old.questions.items; damage = self.old.damage }) number line (record { questions = self.new.questions.items; damage = self.new.damage }) }
+    fn take(&mut self, number: u32, line: Line<Query>)
+        ensures { TakesUnless self.old.damage self.old number line self.new }
     {
         if self.damage.is_some() {
             return;
@@ -81,47 +126,30 @@ impl Asker {
         match line {
             Line::Nothing => {}
             Line::Bad => self.damage = damage_at(number, None),
-            Line::Do(command) => self.obey(number, command),
-        }
-    }
-
-    // Takes a command.
-    fn obey(&mut self, number: u32, command: Command)
-        requires { self.old.damage ≡ None }
-        ensures { Takes self.old.questions.items number (Line.Do command) (record { questions = self.new.questions.items; damage = self.new.damage }) }
-    {
-        match command {
-            Command::Watch { name, kind, lo, hi } => {
-                self.ask(number, &Query::between(name, kind, lo, hi));
-            }
-            _ => self.damage = damage_at(number, None),
+            Line::Do(query) => self.ask(number, &query),
         }
     }
 
     // Takes a question.
     fn ask(&mut self, number: u32, question: &Query)
         requires { self.old.damage ≡ None }
-        ensures { Asks self.old.questions.items number question.now (record { questions = self.new.questions.items; damage = self.new.damage }) }
+        ensures { Asks self.old.questions number question.now self.new }
     {
-        match question.refusal_among(&self.questions, MOST_QUERIES) {
-            Some(refusal) => self.damage = damage_at(number, Some(refusal)),
-            None => {
-                if self.questions.push(*question).is_err() {
-                    self.damage = damage_at(number, Some(Refusal::NoMemory));
-                }
-            }
+        match self.queries.watch(question, question.untold()) {
+            Ok(()) => {}
+            Err(refusal) => self.damage = damage_at(number, Some(refusal)),
         }
     }
 }
 
 // The questions, or what is wrong.
 fn found(asker: Asker) -> Result<Vec<Query>, Unasked>
-    ensures { Finds (record { questions = asker.questions.items; damage = asker.damage }) result }
+    ensures { Finds asker result }
 {
-    let Asker { questions, damage } = asker;
+    let Asker { queries, damage } = asker;
     match damage {
         Some(damage) => Err(Unasked::Damage(damage)),
-        None => Ok(questions),
+        None => Ok(queries.into_queries()),
     }
 }
 

@@ -7,7 +7,8 @@ ghost use Rattle.lv_series.specs.Series.{SeriesState, element_at, size_of};
 ghost use Rattle.lv_standing.specs.QuerySets.{QuerySetState};
 ghost use Rattle.lv_standing.specs.declared.queries.Query.{Query as Asked};
 ghost use Rattle.lv_standing.specs.Standings.{HaveOwnNames};
-ghost use Rattle.lv_script.specs.Inside.{IsReady, Told, known_of, watch_of};
+ghost use Rattle.lv_script.specs.Inside.{IsReady, Told, known_of};
+ghost use Rattle.lv_script.specs.LongGrammar.{watch_of};
 ghost use Rattle.lv_script.specs.PlainSeriesScript.{long_answer};
 ghost use Rattle.lv_script.specs.LongTexts.{first_text, long_element_text};
 

@@ -12,7 +12,7 @@ use crate::series_scripts::values::value_of;
 use lv_bodies::Shown;
 use lv_geometry::Refusal;
 use lv_series::Series;
-use lv_standing::{Answers, Note, Query, QuerySet, Question};
+use lv_standing::{Answers, Note, Query, QuerySet};
 
 // A series that is asked by the queries of a set.
 #[derive(Drop)]
@@ -67,11 +67,10 @@ pub fn register(
     ensures most { queries.new.most ≡ 64 }
     ensures keeps { vec_capacity notes.old ≤ vec_capacity notes.new }
 {
-    let standing = queries.queries();
-    if let Some(refusal) = query.refusal_among(standing, 64) {
+    if let Some(refusal) = queries.refusal(query) {
         return Err(refusal);
     }
-    let Ok(()) = notes.reserve(standing.len() + 1) else {
+    let Ok(()) = notes.reserve(queries.queries().len() + 1) else {
         return Err(Refusal::NoMemory);
     };
     let told = value_of(series, query.kind, query.span);

@@ -1,7 +1,8 @@
 -- Proof of `put_watch`: registers a query.
 use Rattle.std.proofs.Common.{ap, refl, vec_capacity}
 use Rattle.lv_lines.specs.Texts.{refused_by, watching_text}
-use Rattle.lv_script.specs.Inside.{known_of, watch_of}
+use Rattle.lv_script.specs.Inside.{known_of}
+use Rattle.lv_script.specs.LongGrammar.{watch_of}
 use Rattle.lv_script.specs.PlainSeriesScript.{long_answer}
 use Rattle.lv_script.proofs.KnownLaws.{no_watch_ready, ready_still, told_still, watch_ready, watch_refused, watch_told}
 use Rattle.lv_script.proofs.series_scripts.answers.put_watch.Goals as goal

@@ -24,8 +24,8 @@ invariant_of-self-in-Ok-watch c =
     let answer = c.shown.ensures ∙ ap shown_of c.ask_span-summary.ensures.value ∙ shown_is_plain q.kind (span_of q.span (list_of h.journal)) (span_can_fold (list_of h.journal) q.span (can_fold h c.self.invariant.limits)) in
     record {
       limits = c.self.invariant.limits;
-      most = c.watch.ensures.most ∙ c.self.invariant.most;
-      few = omega (arith, ap length queries, length-append set.queries (q ∷ []), c.refusal_among.ensures.few c.in_default.is, ap length c.queries.ensures.queries);
+      most = ap (λ (s : QuerySetState Query). s.most) added.1 ∙ c.self.invariant.most;
+      few = omega (arith, ap length queries, length-append set.queries (q ∷ []), c.refusal.ensures.few c.in_default.is, c.self.invariant.most);
       apart = subst HaveOwnNames (sym queries) (apart_more set.queries q c.self.invariant.apart (new_name set.most set.queries q.name q.span added.0));
       told = told ∙ ap₂ (λ vs v. vs ++ v ∷ []) c.self.invariant.told answer ∙ sym (map-append (watch_answer h.journal) set.queries (q ∷ [])) ∙ ap (map (watch_answer h.journal)) (sym queries);
       summaries_are = c.push_reserved.ensures.items ∙ ap₂ (λ vs v. vs ++ v ∷ []) (c.reserve.ensures.items ∙ c.self.invariant.summaries_are) c.ask_span-summary.ensures.value ∙ sym (map-append (summary_at h.journal) set.queries (q ∷ [])) ∙ ap (map (summary_at h.journal)) (sym queries);

@@ -6,4 +6,4 @@ use Rattle.lv_watchers.proofs.queries.AskerLineHandler.handle.Goals as goal
 
 pub returns-clause-ok : goal.returns-clause-ok
 unfolding AskStep
-returns-clause-ok g c = record { reply = []; answered = (refl, rw c.read_line.ensures at c.take.ensures); written = Writes-nil _ _ }
+returns-clause-ok g c = record { reply = []; answered = (refl, rw c.read_line_by.ensures at c.take.ensures); written = Writes-nil _ _ }
