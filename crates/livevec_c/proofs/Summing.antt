@@ -12,7 +12,7 @@ use Rattle.lv_edits.specs.History.{History, list_of}
 use Rattle.lv_edits.specs.Kept.{IsLegalInLimits}
 use Rattle.lv_edits.specs.declared.edit.Edit.{Edit}
 use Rattle.lv_edits.specs.Ranges.{range_refusal, slice_of}
-use Rattle.lv_known.proofs.FoldableLaws.{can_fold, part_can_fold}
+use Rattle.lv_summary.proofs.FoldableLaws.{can_fold, part_can_fold}
 use Rattle.lv_shards.specs.Summaries.{IsFold, IsSummaryOf, Summary, leads_of}
 
 -- a range that is not refused

@@ -109,39 +109,37 @@ fn lifts_are_counted(rt: HostRuntime) -> Result<(), Refusal> {
     seen
 }
 
-// What was asked for is known: asked again it lifts the cells at both ends alone. What `reduce` counts stays as it was.
-fn check_asked(
+// A reduction keeps nothing: where no node is fresh it lifts each element of the range, and the next does so again.
+fn check_unkept(
     rt: &impl Abort,
     live: &mut Live<Counted<'_>>,
     lifts: &AtomicU32,
 ) -> Result<(), Refusal> {
     push_all(live, 64, 1)?;
-    for (lifted, cells, summaries) in [(62, 62, 0), (14, 14, 6)] {
+    for _ in 0..2 {
         lifts.store(0, Ordering::SeqCst);
-        let asked = live.ask(1, 63)?;
+        let answer = live.reduce(1, 63)?;
         let counted = lifts.load(Ordering::SeqCst);
         assert_same(
             rt,
             &(
-                asked.edit,
-                asked.value,
-                asked.cells_read,
-                asked.summaries_read,
+                answer.edit,
+                answer.value,
+                answer.cells_read,
+                answer.summaries_read,
                 counted,
             ),
-            &(64, 62, cells, summaries, lifted),
+            &(64, 62, 62, 0, 62),
         );
     }
-    let reduced = live.reduce(1, 63)?;
-    assert_same(rt, &(reduced.cells_read, reduced.summaries_read), &(62, 0));
     Ok(())
 }
 
 #[test]
-fn what_is_asked_is_kept(rt: HostRuntime) -> Result<(), Refusal> {
+fn a_reduction_keeps_nothing(rt: HostRuntime) -> Result<(), Refusal> {
     let lifts = AtomicU32::new(0);
     let mut live = Live::new(rt.alloc(), Limits::greatest(), Counted { lifts: &lifts });
-    let seen = check_asked(&rt, &mut live, &lifts);
+    let seen = check_unkept(&rt, &mut live, &lifts);
     drop(live);
     seen
 }

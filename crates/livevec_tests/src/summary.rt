@@ -64,37 +64,6 @@ fn a_summary_is_kept_for_a_block(rt: HostRuntime) -> Result<(), Refusal> {
     seen
 }
 
-// What who asks computed is known, and neither fresh nor held; a touch makes it unknown.
-fn check_learnt(rt: &impl Abort, table: &mut Summaries<u64>) -> Result<(), Refusal> {
-    fill(table, 1)?;
-    let block = node(1, 0);
-    assert_same(rt, &table.known(block), &None);
-    assert!(rt; table.whole(block));
-    table.learn(block, 36);
-    assert_same(
-        rt,
-        &(
-            table.known(block),
-            table.entry(block),
-            table.kept_version(block),
-        ),
-        &(Some(36), None, None),
-    );
-    assert_same(rt, &table.install(block, 8, 36), &Accepted::Installed);
-    assert_same(rt, &table.install(block, 8, 36), &Accepted::Held);
-    table.touch(3, 9);
-    assert_same(rt, &table.known(block), &None);
-    Ok(())
-}
-
-#[test]
-fn what_was_computed_is_known(rt: HostRuntime) -> Result<(), Refusal> {
-    let mut table = Summaries::new(rt.alloc(), 0);
-    let seen = check_learnt(&rt, &mut table);
-    drop(table);
-    seen
-}
-
 // After a touch of index 3 by edit 65, of 64 indices whose parent's summary was kept.
 fn check_parent(rt: &impl Abort, table: &mut Summaries<u64>) -> Result<(), Refusal> {
     fill(table, 8)?;

@@ -9,7 +9,7 @@ use Rattle.lv_summary.specs.declared.accepted.Accepted.{Accepted}
 use Rattle.lv_summary.specs.declared.accepted.Accepted.TheVariants.{Held, Installed, Stale}
 use Rattle.lv_summary.specs.Changes.{Keeps}
 use Rattle.lv_summary.specs.Table.{Table, delivery_in, fresh_in, touched_in, whole_in}
-use Rattle.lv_known.proofs.AgreesLaws.{whole_agrees}
+use Rattle.lv_summary.proofs.AgreesLaws.{whole_agrees}
 use Rattle.lv_refresh.specs.ClaimTable.{ClaimTable}
 use Rattle.lv_refresh.specs.declared.contents.Contents.TheVariants.{Elements}
 use Rattle.lv_refresh.specs.Delivery.{delivery_of}

@@ -9,8 +9,8 @@ use Rattle.lv_summary.specs.declared.accepted.Accepted.{Accepted}
 use Rattle.lv_summary.specs.declared.accepted.Accepted.TheVariants.{Held, Installed, Stale}
 use Rattle.lv_summary.specs.Changes.{AfterDelivery, Keeps}
 use Rattle.lv_summary.specs.Table.{Table, delivery_in, kept_in, touched_in, whole_in}
-use Rattle.lv_known.proofs.AgreesLaws.{whole_agrees}
-use Rattle.lv_known.proofs.FoldableLaws.{can_fold}
+use Rattle.lv_summary.proofs.AgreesLaws.{whole_agrees}
+use Rattle.lv_summary.proofs.FoldableLaws.{can_fold}
 use Rattle.lv_summary.proofs.TableLaws.{current_of_installed, same_node-self, version_kept}
 use Rattle.lv_refresh.specs.declared.contents.Contents.{Contents}
 use Rattle.lv_refresh.specs.Carried.{Carried}

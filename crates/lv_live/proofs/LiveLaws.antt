@@ -19,10 +19,10 @@ use Rattle.lv_edits.specs.Verdict.{verdict_of}
 use Rattle.lv_edits.proofs.HistoryLaws.{accepted_is_possible, list_of-snoc}
 use Rattle.lv_edits.proofs.TouchLaws.{none_whole}
 use Rattle.lv_summary.specs.declared.accepted.Accepted.TheVariants.{Held, Installed, Stale}
-use Rattle.lv_known.specs.Agrees.{Agrees}
-use Rattle.lv_summary.specs.Changes.{AnswersAlike, Keeps, OnlyLearns, TouchesEach}
-use Rattle.lv_summary.specs.Table.{Table, computed_in, delivery_in, has_version, kept_in, touched_in, whole_in}
-use Rattle.lv_known.proofs.AgreesLaws.{agrees_after_touches, agrees_alike, agrees_empty, agrees_installed, whole_agrees}
+use Rattle.lv_summary.specs.Agrees.{Agrees}
+use Rattle.lv_summary.specs.Changes.{AnswersAlike, Keeps, TouchesEach}
+use Rattle.lv_summary.specs.Table.{Table, delivery_in, has_version, kept_in, touched_in, whole_in}
+use Rattle.lv_summary.proofs.AgreesLaws.{agrees_after_touches, agrees_alike, agrees_empty, agrees_installed, whole_agrees}
 use Rattle.lv_summary.proofs.TableLaws.{same_node-eq, version_kept}
 use Rattle.lv_refresh.specs.ClaimTable.{AreHints, ClaimTable, claim_blocks, claimed_in, is_hinted, record_of}
 use Rattle.lv_refresh.specs.Delivery.{delivery_of}
@@ -80,17 +80,6 @@ module _ {S : Type 0} (o : Operations S) where
         agrees = agrees_alike o s.history.journal s.table t alike live.agrees;
         hints = λ n wants. same.hints n (live.hints n (sym (wants_job-same (recorded s) (record_of s.history.journal t c) records n) ∙ wants));
         grown = omega (arith, live.grown, alike.size, same.more);
-      }
-
-  -- a table that learnt summaries keeps all
-  pub live_learnt : {B : Type 0} (s : LiveState B S) (t : Table S) → IsLive o s → OnlyLearns s.table t → Agrees o s.history.journal t → IsLive o (record s { table = t })
-  live_learnt s t live learns agrees =
-      let records : SameRecord (recorded s) (record_of s.history.journal t s.claims) = record { edits = refl; issued = refl; claimed = λ n. refl; kept = learns.versions } in
-      record {
-        limits = live.limits;
-        agrees = agrees;
-        hints = λ n wants. live.hints n (sym (wants_job-same (recorded s) (record_of s.history.journal t s.claims) records n) ∙ wants);
-        grown = omega (arith, live.grown, learns.size);
       }
 
   -- the table that follows an edit agrees with the journal that has it
@@ -178,11 +167,11 @@ module _ {S : Type 0} (o : Operations S) where
       }
 
   -- an empty vector, for which nothing is claimed and nothing kept
-  pub live_empty : {B : Type 0} (s : LiveState B S) → s.history.journal ≡ [] → IsLegalInLimits s.history → s.table.size ≡ 0 → ((n : Node) → touched_in s.table n ≡ 0) → ((n : Node) → kept_in s.table n ≡ None) → ((n : Node) → computed_in s.table n ≡ None) → IsLive o s
-  live_empty s journal limits size touched kept computed =
+  pub live_empty : {B : Type 0} (s : LiveState B S) → s.history.journal ≡ [] → IsLegalInLimits s.history → s.table.size ≡ 0 → ((n : Node) → touched_in s.table n ≡ 0) → ((n : Node) → kept_in s.table n ≡ None) → IsLive o s
+  live_empty s journal limits size touched kept =
       record {
         limits = limits;
-        agrees = rw journal (agrees_empty o s.table size touched kept computed);
+        agrees = rw journal (agrees_empty o s.table size touched kept);
         hints = λ n wants. absurd (none_whole n (ap (λ es. is_whole es n) (sym journal) ∙ whole_of_wanted (recorded s) n wants));
         grown = omega (arith, size);
       }

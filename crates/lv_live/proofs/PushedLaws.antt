@@ -17,8 +17,8 @@ use Rattle.lv_edits.specs.Touch.{touches}
 use Rattle.lv_edits.proofs.HistoryLaws.{legal-snoc}
 use Rattle.lv_edits.proofs.PushLaws.{keeps_limits, made_by_pushes, size_pushed}
 use Rattle.lv_edits.proofs.RunLaws.{AreOfBlock, AreOfBlock-from, block_first, block_rest, grown, with_pushes-append}
-use Rattle.lv_known.specs.Agrees.{Agrees}
-use Rattle.lv_known.proofs.PushedLaws.{agrees_pushed}
+use Rattle.lv_summary.specs.Agrees.{Agrees}
+use Rattle.lv_summary.proofs.PushedLaws.{agrees_pushed}
 use Rattle.lv_summary.specs.Changes.{AnswersAlike}
 use Rattle.lv_summary.specs.Table.{Table}
 use Rattle.lv_refresh.specs.Claim.{wants_job}
@@ -79,7 +79,6 @@ module _ {S : Type 0} where
         size = omega (arith, size);
         blocks = refl;
         kept = λ n. refl;
-        computed = λ n. refl;
         claims = record { claimed = λ n. refl; hints = λ n is. is; more = omega arith };
         agrees = λ o h xs are agrees. none_pushed (λ h. Agrees o h.journal t) h xs are.count_is agrees;
         hints = λ o h xs are agrees hints. none_pushed (λ h. AreHints (record_of h.journal t c) c) h xs are.count_is hints;
@@ -138,7 +137,6 @@ module _ {S : Type 0} where
           size = table.2.size_is;
           blocks = table.2.blocks ∙ table.1.blocks ∙ before.blocks;
           kept = λ n. table.2.kept n ∙ table.1.kept n ∙ before.kept n;
-          computed = λ n. table.2.computed n ∙ table.1.computed n ∙ before.computed n;
           claims = record {
             claimed = λ n. claims.alike.claimed n ∙ before.claims.claimed n;
             hints = λ n was. claims.alike.hints n (before.claims.hints n was);
@@ -173,10 +171,10 @@ module _ {B S : Type 0} (s : LiveState B S) (xs : List ℤ) (h : History) (t u :
         kept = λ n. ap (option_map (λ (kept : ℕ × S). kept.0)) (follows.kept n ∙ alike.kept n);
       }
 
-  -- and what is known of nodes that they don't touch
+  -- and nodes that they don't touch stay fresh
   pub remembers_pushed : (o : Operations S) → IsLive o s → IsLive o (record s { history = h; table = u; claims = d }) → AnswersAlike s.table t → Remembers s (record s { history = h; table = u; claims = d })
   remembers_pushed o live after alike =
-      remembers_same o s (record s { history = h; table = u; claims = d }) live after (λ n. follows.kept n ∙ alike.kept n) (λ n. follows.computed n ∙ alike.computed n)
+      remembers_same o s (record s { history = h; table = u; claims = d }) live after (λ n. follows.kept n ∙ alike.kept n)
 
 -- no pushes are accepted, and change nothing
 pub none_pushed : (h : History) (xs : List ℤ) → length xs ≡ 0 → verdict_of_pushes h xs ≡ None → AcceptsAll h xs (length h.journal) h

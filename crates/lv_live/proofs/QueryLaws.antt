@@ -4,7 +4,7 @@ use Rattle.lv_geometry.specs.declared.refusals.Refusal.{Refusal}
 use Rattle.lv_bodies.specs.Body.{Operations}
 use Rattle.lv_edits.specs.declared.edit.Edit.{Edit}
 use Rattle.lv_edits.specs.Ranges.{range_refusal}
-use Rattle.lv_known.specs.Agrees.{Agrees}
+use Rattle.lv_summary.specs.Agrees.{Agrees}
 use Rattle.lv_summary.specs.Table.{Table, fresh_in}
 use Rattle.lv_refresh.specs.ClaimTable.{ClaimTable, record_of}
 use Rattle.lv_refresh.specs.Record.{is_fresh}

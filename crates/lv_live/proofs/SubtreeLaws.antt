@@ -1,8 +1,8 @@
 -- What a live vector keeps when all summaries of a subtree are put in place at once.
-use Rattle.std.proofs.Common.{◌≡◌, ◌⊎◌, ℕ, ◌+◌, ◌-◌, ◌*◌, ◌/◌, ◌^◌, ◌<◌, ◌≤◌, true, false, ◌&&◌, ◌||◌, not, Option, Some, None, IfSome, option_map, List, length, take, drop, nat_eq, nat_le, if◌then◌else◌, refl, subst, sym, ap, ◌∙◌, inl, inr, arith}
+use Rattle.std.proofs.Common.{◌≡◌, ◌⊎◌, ℕ, ◌+◌, ◌-◌, ◌*◌, ◌/◌, ◌^◌, ◌<◌, ◌≤◌, true, false, ◌&&◌, ◌||◌, not, Option, Some, IfSome, option_map, List, length, take, drop, nat_eq, nat_le, if◌then◌else◌, refl, subst, sym, ap, ◌∙◌, inl, inr, arith}
 use Rattle.std.proofs.lemmas.Bool.{and_from, and_parts, cases_Bool, cond-false, cond-true, eq-eqb, eqb-false, eqb-true, le-leb, leb-true, or_left, or_right, true≢false}
 use Rattle.std.proofs.lemmas.List.{drop-drop, drop-take, take-take}
-use Rattle.std.proofs.lemmas.Option.{none-some, same_Some}
+use Rattle.std.proofs.lemmas.Option.{same_Some}
 use Rattle.lv_geometry.specs.declared.nodes.Node.{Node}
 use Rattle.lv_geometry.specs.Nodes.{child, is_below, is_node, parent, same_node}
 use Rattle.lv_geometry.proofs.NodeLaws.{at_each_level, level_of_node}
@@ -11,9 +11,9 @@ use Rattle.lv_edits.specs.declared.edit.Edit.{Edit}
 use Rattle.lv_edits.specs.History.{list_of}
 use Rattle.lv_edits.specs.Touch.{elements_under, is_whole, touched_by}
 use Rattle.lv_edits.proofs.TouchLaws.{touched_by-le}
-use Rattle.lv_summary.specs.Table.{Table, computed_in, fresh_in, has_version, kept_in, known_entry_in, known_in, touched_in, whole_in}
-use Rattle.lv_summary.proofs.TableLaws.{known_entry_in-fresh, known_entry_in-same, whole_in-size}
-use Rattle.lv_known.specs.Agrees.{Agrees}
+use Rattle.lv_summary.specs.Table.{Table, entry_in, fresh_in, has_version, kept_in, touched_in, whole_in}
+use Rattle.lv_summary.proofs.TableLaws.{entry_stays, whole_in-size}
+use Rattle.lv_summary.specs.Agrees.{Agrees}
 use Rattle.lv_refresh.specs.Claim.{children_fresh, wants_job}
 use Rattle.lv_refresh.specs.ClaimTable.{ClaimTable, claim_blocks, claimed_in, is_hinted, record_of}
 use Rattle.lv_refresh.specs.Inner.{node_at}
@@ -119,11 +119,6 @@ block_inside number n is =
     and_from _ _ (and_from _ _ (and_from _ _ (le-leb 1 n.level (omega arith)) (le-leb n.level 6 (omega arith))) (le-leb n.level 4 (omega arith)))
     (eq-eqb (n.number * 8 ^ n.level / 4096) number (ap (λ l. n.number * 8 ^ l / 4096) level ∙ covers))
 
--- the version of what was computed, with the summary that stands there
-computed_version : {S : Type 0} (version : ℕ) (kept : Option (ℕ × S)) → option_map (λ (c : ℕ × S). c.0) kept ≡ Some version → (s : S) × (kept ≡ Some (version, s))
-computed_version version None is = absurd (none-some version is)
-computed_version version (Some c) is = (c.1, ap (λ v. Some (v, c.1)) (same_Some c.0 version is))
-
 module _ {B S : Type 0} (o : Operations S) (es : List Edit) (old new : Table S) (copied : Copied B) (keeps : KeepsSubtree o old new copied) (inside : IsInside copied.number old.size) where
   -- a node of the subtree is fresh
   fresh_inside : (n : Node) → is_in_subtree copied.number n ≡ true → fresh_in new n ≡ true
@@ -132,21 +127,20 @@ module _ {B S : Type 0} (o : Operations S) (es : List Edit) (old new : Table S) 
       and_from _ _ whole (ap (λ kept. has_version (touched_in new n) kept) (keeps.kept n is) ∙ eq-eqb (touched_in old n) (touched_in new n) (sym (keeps.touched n)))
 
   -- and its summary is the fold of what was copied
-  entry_inside : (n : Node) → is_in_subtree copied.number n ≡ true → known_entry_in new n ≡ Some (fold_of o (copied_under copied n))
+  entry_inside : (n : Node) → is_in_subtree copied.number n ≡ true → entry_in new n ≡ Some (fold_of o (copied_under copied n))
   entry_inside n is =
-      let fresh = fresh_inside n is in
-      known_entry_in-fresh new n fresh ∙ cond-true (fresh_in new n) _ _ fresh ∙ ap (option_map (λ kept. kept.1)) (keeps.kept n is)
+      cond-true (fresh_in new n) _ _ (fresh_inside n is) ∙ ap (option_map (λ kept. kept.1)) (keeps.kept n is)
 
-  -- any other node is known as before
-  known_outside : (n : Node) → is_in_subtree copied.number n ≡ false → (known_in new n ≡ known_in old n) × (known_entry_in new n ≡ known_entry_in old n)
-  known_outside n out = known_entry_in-same old new n (whole_in-size old new keeps.size n) (keeps.touched n) (keeps.others_kept n out) (keeps.others_computed n out)
+  -- any other node is as before
+  stays_outside : (n : Node) → is_in_subtree copied.number n ≡ false → (fresh_in new n ≡ fresh_in old n) × (entry_in new n ≡ entry_in old n)
+  stays_outside n out = entry_stays old new n (whole_in-size old new keeps.size n) (keeps.touched n) (keeps.others_kept n out)
 
-  -- what was known stays known
-  pub known_after_subtree : (n : Node) → known_in old n ≡ true → known_in new n ≡ true
-  known_after_subtree n known =
+  -- what was fresh stays fresh
+  pub fresh_after_subtree : (n : Node) → fresh_in old n ≡ true → fresh_in new n ≡ true
+  fresh_after_subtree n fresh =
       elim (cases_Bool (is_in_subtree copied.number n)) [
-        | inl is ↦ or_left _ _ (fresh_inside n is)
-        | inr out ↦ (known_outside n out).0 ∙ known
+        | inl is ↦ fresh_inside n is
+        | inr out ↦ (stays_outside n out).0 ∙ fresh
       ]
 
   -- the versions that are kept
@@ -169,12 +163,9 @@ module _ {B S : Type 0} (o : Operations S) (es : List Edit) (old new : Table S) 
               omega (arith, ap (λ (kept : ℕ × S). kept.0) now, agrees.touched n (inside_of copied.number n in_it).node, touched_by-le es n)
           | inr out ↦ agrees.versions n version s (sym (keeps.others_kept n out) ∙ is)
         ];
-        computed = λ n version s is.
-            let before = computed_version version (computed_in old n) (sym (keeps.computed n) ∙ ap (option_map (λ computed. computed.0)) is) in
-            agrees.computed n version before.0 before.1;
         folds = λ n s is. elim (cases_Bool (is_in_subtree copied.number n)) [
           | inl in_it ↦ same_Some _ _ (sym is ∙ entry_inside n in_it) ∙ ap (fold_of o) (copied_elements es copied n elements in_it)
-          | inr out ↦ agrees.folds n s (sym (known_outside n out).1 ∙ is)
+          | inr out ↦ agrees.folds n s (sym (stays_outside n out).1 ∙ is)
         ];
       }
 
@@ -255,9 +246,9 @@ module _ {B S : Type 0} (o : Operations S) (s : LiveState B S) (t : Table S) (c 
         | inr other ↦ other
       ]
 
-  -- and what was known is remembered
+  -- and what was fresh is remembered
   pub remembers_subtree : Remembers s (record s { table = t; claims = c })
-  remembers_subtree n known still same = known_after_subtree o s.history.journal s.table t copied keeps whole n known
+  remembers_subtree n fresh still same = fresh_after_subtree o s.history.journal s.table t copied keeps whole n fresh
 
 -- an outcome that may be taken in was installed, and the claims passed over its subtree
 module _ {B S : Type 0} (o : Operations S) (by : B → Operations S) (same : B → Type 0) (decided : (body : B) → same body → o ≡ by body) (s : LiveState B S) (live : IsLive o s) (t : Table S) (c : ClaimTable) (outcome : Option (Copied B)) (number : ℕ)
@@ -287,6 +278,6 @@ module _ {B S : Type 0} (o : Operations S) (by : B → Operations S) (same : B �
       subst (λ outcome. IfSome outcome (λ copied. HasSubtree s (record s { table = t; claims = c }) copied.number)) (sym takes.outcome_is)
       (has_subtree o s t c takes.copied live keeps passes whole)
 
-  -- what was known is remembered
+  -- what was fresh is remembered
   pub taken_remembers : Remembers s (record s { table = t; claims = c })
   taken_remembers = remembers_subtree o s t c takes.copied live keeps passes whole

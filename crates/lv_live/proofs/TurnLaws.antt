@@ -5,11 +5,11 @@ use Rattle.lv_geometry.specs.declared.nodes.Node.{Node}
 use Rattle.lv_bodies.specs.Body.{BodyLaws, Operations, fold_of}
 use Rattle.lv_edits.specs.Touch.{elements_under}
 use Rattle.lv_summary.specs.declared.accepted.Accepted.TheVariants.{Installed}
-use Rattle.lv_summary.specs.Table.{Table, delivery_in, kept_in, known_in}
+use Rattle.lv_summary.specs.Table.{Table, delivery_in, fresh_in, kept_in}
 use Rattle.lv_summary.proofs.TableLaws.{current_of_installed, version_kept}
 use Rattle.lv_refresh.specs.ClaimTable.{AreHints, ClaimTable, claim_blocks, claimed_in, record_of}
-use Rattle.lv_known.specs.Agrees.{Agrees}
-use Rattle.lv_known.proofs.AgreesLaws.{agrees_installed}
+use Rattle.lv_summary.specs.Agrees.{Agrees}
+use Rattle.lv_summary.proofs.AgreesLaws.{agrees_installed}
 use Rattle.lv_refresh.specs.Refreshed.{RefreshesEach, RefreshesNext, RefreshesOne}
 use Rattle.lv_refresh.proofs.HonestyLaws.{whole_of_wanted}
 use Rattle.lv_live.specs.Kept.{IsLive}
@@ -18,7 +18,7 @@ use Rattle.lv_live.specs.Turns.{TakesTurn, TakesTurns}
 use Rattle.lv_live.proofs.DeliverLaws.{delivered}
 use Rattle.lv_live.proofs.LiveLaws.{delivery_agrees, live_after_install}
 use Rattle.lv_live.proofs.RefreshLaws.{installed_next, turns_idle, turns_next, turns_none}
-use Rattle.lv_live.proofs.RememberLaws.{known_after_delivery}
+use Rattle.lv_live.proofs.RememberLaws.{fresh_after_delivery}
 
 -- no turn was taken
 pub not_taken : {B S : Type 0} (s : LiveState B S) (t : Table S) (c : ClaimTable) → t ≡ s.table → ((n : Node) → claimed_in c n ≡ claimed_in s.claims n) → HasClaim s (record s { table = t; claims = c }) None
@@ -50,7 +50,7 @@ module _ {B S : Type 0} (o : Operations S) where
       } in
       record {
         turns = turns_next o s was is n turned.turns turn;
-        remembers = λ m known whole touched. known_after_delivery mid t one.node one.version (fold_of o (elements_under es one.node)) Installed (sym installs) one.keeps m (turned.remembers m known whole touched);
+        remembers = λ m fresh whole touched. fresh_after_delivery mid t one.node one.version (fold_of o (elements_under es one.node)) Installed (sym installs) one.keeps m (turned.remembers m fresh whole touched);
         agrees = agrees_installed o es mid t one.node one.version (fold_of o (elements_under es one.node)) turned.agrees one.keeps current.0 current.1 refl;
       }
 
@@ -59,7 +59,7 @@ module _ {B S : Type 0} (o : Operations S) where
   each_taken s t c zero agrees each =
       record {
         turns = turns_idle o s s (record s { table = t; claims = c }) 0 (turns_none o s) (not_taken s t c each.0 each.1);
-        remembers = λ m known whole touched. ap (λ t. known_in t m) each.0 ∙ known;
+        remembers = λ m fresh whole touched. ap (λ t. fresh_in t m) each.0 ∙ fresh;
         agrees = subst (Agrees o s.history.journal) (sym each.0) agrees;
       }
   each_taken s t c (suc n) agrees (mid, between, so, one) =
@@ -101,9 +101,9 @@ module _ {B S : Type 0} (o : Operations S) (within : S → ℕ → Type 0) (laws
           delivers = delivered o within laws (record s { claims = c }) live_claimed t c turn.node turn.version (fold_of o (elements_under s.history.journal turn.node)) Installed (λ n. refl) turn.keeps;
         }
 
-    -- what was known still is
-    known_taken : (n : Node) → known_in s.table n ≡ true → known_in t n ≡ true
-    known_taken n known = known_after_delivery s.table t turn.node turn.version (fold_of o (elements_under s.history.journal turn.node)) Installed (sym installs) turn.keeps n known
+    -- what was fresh still is
+    fresh_taken : (n : Node) → fresh_in s.table n ≡ true → fresh_in t n ≡ true
+    fresh_taken n fresh = fresh_after_delivery s.table t turn.node turn.version (fold_of o (elements_under s.history.journal turn.node)) Installed (sym installs) turn.keeps n fresh
 
   module _ (took : Bool) (taken : took ≡ true → RefreshesNext o s.history.journal s.table t s.claims c) (idle : took ≡ false → t ≡ s.table) where
     -- all is kept, whether a turn was taken or not
@@ -114,10 +114,10 @@ module _ {B S : Type 0} (o : Operations S) (within : S → ℕ → Type 0) (laws
           | inr none ↦ subst (λ t. IsLive o (record s { table = t; claims = c })) (sym (idle none)) live_claimed
         ]
 
-    -- and what was known still is
+    -- and what was fresh still is
     pub remembers_turned : Remembers s (record s { table = t; claims = c })
-    remembers_turned n known whole touched =
+    remembers_turned n fresh whole touched =
         elim (cases_Bool took) [
-          | inl some ↦ known_taken (taken some) n known
-          | inr none ↦ ap (λ t. known_in t n) (idle none) ∙ known
+          | inl some ↦ fresh_taken (taken some) n fresh
+          | inr none ↦ ap (λ t. fresh_in t n) (idle none) ∙ fresh
         ]

@@ -6,9 +6,8 @@ use Rattle.lv_geometry.specs.Nodes.{child}
 use Rattle.lv_bodies.specs.Body.{BodyLaws, Operations, fold_of}
 use Rattle.lv_edits.specs.declared.edit.Edit.{Edit}
 use Rattle.lv_edits.specs.Touch.{elements_under}
-use Rattle.lv_known.specs.Agrees.{Agrees}
+use Rattle.lv_summary.specs.Agrees.{Agrees}
 use Rattle.lv_summary.specs.Table.{Table, entry_in}
-use Rattle.lv_known.proofs.AgreesLaws.{entry_folds}
 use Rattle.lv_summary.proofs.TableLaws.{entry_of_fresh}
 use Rattle.lv_refresh.specs.declared.contents.Contents.TheVariants.{Children}
 use Rattle.lv_refresh.specs.declared.contents.Eight.{Eight}
@@ -42,7 +41,7 @@ module _ {S : Type 0} (o : Operations S) (within : S → ℕ → Type 0) (laws :
   child_entry : (n : Node) (k : ℕ) → k < 8 → children_fresh (record_of es t c) n ≡ true → entry_in t (child n k) ≡ Some (fold_of o (elements_under es (child n k)))
   child_entry n k small fresh =
       let is = entry_of_fresh t (child n k) (fresh_agrees o es t c agrees (child n k) ∙ each_child_fresh (record_of es t c) n fresh k small) in
-      is.1 ∙ ap Some (entry_folds o es t agrees (child n k) is.0 is.1)
+      is.1 ∙ ap Some (agrees.folds (child n k) is.0 is.1)
 
   -- gathered summaries stand
   pub stands_of_children : (n : Node) (x : Eight S) → 1 < n.level → children_fresh_in t n ≡ true → HaveEntries n x → Stands o (record_of es t c) n (Children x)

@@ -10,7 +10,7 @@ use Rattle.lv_edits.specs.History.{History, list_of, replayed, with_edit}
 use Rattle.lv_edits.specs.Kept.{IsLegalInLimits}
 use Rattle.lv_edits.proofs.BatchLaws.{free_parts, length-edits, length-writes}
 use Rattle.lv_edits.proofs.HistoryLaws.{applied_write, legal-snoc, list_of-snoc, not_refused, unrefused_write}
-use Rattle.lv_known.specs.Agrees.{Agrees}
+use Rattle.lv_summary.specs.Agrees.{Agrees}
 use Rattle.lv_summary.specs.Table.{Table}
 use Rattle.lv_refresh.specs.ClaimTable.{AreHints, ClaimTable, record_of}
 use Rattle.lv_live.specs.Follows.{ClaimsFollow, TableFollows}
@@ -98,7 +98,6 @@ module _ {S : Type 0} where
         size = refl;
         blocks = refl;
         kept = λ n. refl;
-        computed = λ n. refl;
         claims = record { claimed = λ n. refl; hints = λ n is. is; more = omega arith };
         agrees = λ o h xs are agrees. agrees;
         hints = λ o h xs are agrees hints. hints;
@@ -149,7 +148,6 @@ module _ {S : Type 0} where
           size = table.2.size_is;
           blocks = table.2.blocks ∙ table.1.blocks ∙ before.blocks;
           kept = λ n. table.2.kept n ∙ table.1.kept n ∙ before.kept n;
-          computed = λ n. table.2.computed n ∙ table.1.computed n ∙ before.computed n;
           claims = record {
             claimed = λ n. claims.alike.claimed n ∙ before.claims.claimed n;
             hints = λ n was. claims.alike.hints n (before.claims.hints n was);
@@ -188,7 +186,7 @@ module _ {B S : Type 0} (s : LiveState B S) (indices : List ℕ) (xs : List ℤ)
         kept = λ n. ap (option_map (λ (kept : ℕ × S). kept.0)) (follows.kept n);
       }
 
-  -- and what is known of nodes that they don't touch
+  -- and nodes that they don't touch stay fresh
   pub remembers_written : (o : Operations S) → IsLive o s → IsLive o (record s { history = h; table = u; claims = d }) → Remembers s (record s { history = h; table = u; claims = d })
   remembers_written o live after =
-      remembers_same o s (record s { history = h; table = u; claims = d }) live after follows.kept follows.computed
+      remembers_same o s (record s { history = h; table = u; claims = d }) live after follows.kept

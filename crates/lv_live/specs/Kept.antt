@@ -2,7 +2,7 @@
 use Rattle.std.specs.Prelude.{◌≡◌, ◌*◌, ◌≤◌, List, All}
 use Rattle.lv_bodies.specs.Body.{Operations}
 use Rattle.lv_edits.specs.Kept.{IsLegalInLimits}
-use Rattle.lv_known.specs.Agrees.{Agrees}
+use Rattle.lv_summary.specs.Agrees.{Agrees}
 use Rattle.lv_refresh.specs.Carried.{Carried}
 use Rattle.lv_refresh.specs.ClaimTable.{AreHints, claim_blocks}
 use Rattle.lv_refresh.specs.Honesty.{IsHonest}

@@ -6,7 +6,7 @@ use Rattle.lv_bodies.specs.Body.{Operations}
 use Rattle.lv_edits.specs.History.{History}
 use Rattle.lv_edits.specs.Touch.{is_whole, touched_by}
 use Rattle.lv_summary.specs.declared.accepted.Accepted.{Accepted}
-use Rattle.lv_summary.specs.Table.{Table, known_in}
+use Rattle.lv_summary.specs.Table.{Table, fresh_in}
 use Rattle.lv_refresh.specs.Carried.{Carried}
 use Rattle.lv_refresh.specs.Claim.{children_fresh}
 use Rattle.lv_refresh.specs.ClaimTable.{ClaimTable, record_of}
@@ -66,10 +66,10 @@ pub record CanRemake (r : Record) (n : Node) (v : ℕ) : Type 0 where
   pub node : is_node n ≡ true
   pub ready : is_whole r.edits n ≡ true → touched_by r.edits n ≡ v → 1 < n.level → children_fresh r n ≡ true
 
--- each summary that was known still is, while its node is whole and no edit has touched it since
+-- each node that was fresh still is, while it is whole and no edit has touched it since
 abbrev pub Remembers : {B S : Type 0} → LiveState B S → LiveState B S → Type 0
 Remembers old new =
-    (n : Node) → known_in old.table n ≡ true → is_whole new.history.journal n ≡ true → touched_by new.history.journal n ≡ touched_by old.history.journal n → known_in new.table n ≡ true
+    (n : Node) → fresh_in old.table n ≡ true → is_whole new.history.journal n ≡ true → touched_by new.history.journal n ≡ touched_by old.history.journal n → fresh_in new.table n ≡ true
 
 -- contents that were taken honestly from one state are so in another
 abbrev pub HonestyLasts : {B S : Type 0} → Operations S → LiveState B S → LiveState B S → Type 0

@@ -4,8 +4,8 @@ use Rattle.lv_geometry.specs.declared.nodes.Node.{Node}
 use Rattle.lv_bodies.specs.Body.{Operations}
 use Rattle.lv_edits.specs.Batches.{with_edits, writes_at}
 use Rattle.lv_edits.specs.History.{History, list_of, replayed}
-use Rattle.lv_known.specs.Agrees.{Agrees}
-use Rattle.lv_summary.specs.Table.{Table, blocks_in, computed_in, kept_in}
+use Rattle.lv_summary.specs.Agrees.{Agrees}
+use Rattle.lv_summary.specs.Table.{Table, blocks_in, kept_in}
 use Rattle.lv_refresh.specs.ClaimTable.{AreHints, ClaimTable, record_of}
 use Rattle.lv_live.specs.Follows.{ClaimsAlike}
 
@@ -22,7 +22,6 @@ pub record WritesFollow {S : Type 0} (t u : Table S) (c d : ClaimTable) (indices
   pub size : u.size ≡ t.size
   pub blocks : blocks_in u ≡ blocks_in t
   pub kept : (n : Node) → kept_in u n ≡ kept_in t n
-  pub computed : (n : Node) → computed_in u n ≡ computed_in t n
   pub claims : ClaimsAlike c d
   pub agrees : (o : Operations S) (h : History) (xs : List ℤ) → AreWritesAt h indices xs edit → Agrees o h.journal t → Agrees o (with_edits h (writes_at indices xs)).journal u
   pub hints : (o : Operations S) (h : History) (xs : List ℤ) → AreWritesAt h indices xs edit → Agrees o h.journal t → AreHints (record_of h.journal t c) c → AreHints (record_of (with_edits h (writes_at indices xs)).journal u d) d

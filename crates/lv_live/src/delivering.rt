@@ -3,7 +3,7 @@ ghost use Rattle.std.specs.Prelude.{◌≡◌, ◌*◌, true};
 ghost use Rattle.lv_geometry.specs.Nodes.{is_below};
 ghost use Rattle.lv_bodies.specs.Body.{fold_of};
 ghost use Rattle.lv_edits.specs.Touch.{elements_under};
-ghost use Rattle.lv_known.specs.Agrees.{Agrees};
+ghost use Rattle.lv_summary.specs.Agrees.{Agrees};
 ghost use Rattle.lv_summary.specs.Changes.{AfterDelivery};
 ghost use Rattle.lv_summary.specs.Table.{delivery_in};
 ghost use Rattle.lv_refresh.specs.ClaimTable.{claim_blocks};

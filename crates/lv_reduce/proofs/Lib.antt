@@ -1,10 +1,8 @@
 -- Names the files of lemmas of `lv_reduce`.
-pub mod AskLaws
 mod BlockWalks
 mod Bounds
 mod Counting
 mod GreatestLaws
-pub mod KnowLaws
 pub mod NodeLaws
 pub mod PieceLaws
 mod PieceSums

@@ -8,10 +8,9 @@ use Rattle.lv_bodies.specs.FoldLaws.{fold_of-append, fold_of-within}
 use Rattle.lv_edits.specs.declared.edit.Edit.{Edit}
 use Rattle.lv_edits.specs.History.{list_of}
 use Rattle.lv_edits.proofs.Slices.{length-slice_range, part_of_take, slice_range-more}
-use Rattle.lv_known.specs.Agrees.{Agrees}
+use Rattle.lv_summary.specs.Agrees.{Agrees}
 use Rattle.lv_summary.specs.Table.{Table}
-use Rattle.lv_known.proofs.AgreesLaws.{entry_folds}
-use Rattle.lv_known.proofs.FoldableLaws.{part_can_fold}
+use Rattle.lv_summary.proofs.FoldableLaws.{part_can_fold}
 use Rattle.lv_reduce.specs.Answer.{scan_of}
 use Rattle.lv_reduce.specs.Pieces.{IsGreatestFresh}
 use Rattle.lv_reduce.specs.Running.{CanGoOn, reached, scan_from}
@@ -150,6 +149,6 @@ module _ {S : Type 0} (o : Operations S) (within : S → ℕ → Type 0) (laws :
 pub piece_folds : {S : Type 0} (o : Operations S) (edits : List Edit) (t : Table S) (at hi level : ℕ) (s : S) → Agrees o edits t → IsGreatestFresh t at hi level s → s ≡ fold_of o (slice_range (list_of edits) at (at + 8 ^ level))
 piece_folds o edits t at hi level s agrees piece =
     let wide : 8 ^ level ≡ at + 8 ^ level - at = omega arith in
-    entry_folds o edits t agrees (over level at) s piece.entry
+    agrees.folds (over level at) s piece.entry
     ∙ ap (λ from. fold_of o (take (8 ^ level) (drop from (list_of edits)))) (first_of_aligned level at piece.fits.begins)
     ∙ ap (λ n. fold_of o (take n (drop at (list_of edits)))) wide

@@ -6,7 +6,7 @@ use Rattle.std.proofs.Math.Seq.{take-add}
 use Rattle.std.proofs.lemmas.List.FromFn.{get_or-map-range_with_len, length-map-range_with_len}
 use Rattle.lv_bodies.specs.Body.{BodyLaws, CanFold, CanJoin, Operations, fold_of}
 use Rattle.lv_bodies.specs.FoldLaws.{fold_of-append, fold_of-within}
-use Rattle.lv_known.proofs.FoldableLaws.{part_can_fold}
+use Rattle.lv_summary.proofs.FoldableLaws.{part_can_fold}
 use Rattle.lv_reduce.specs.Running.{AreBefore}
 
 module _ {S : Type 0} (o : Operations S) (within : S → ℕ → Type 0) (laws : BodyLaws o within) (xs : List ℤ) (can : CanFold xs) (size : ℕ) where

@@ -9,7 +9,7 @@ use Rattle.lv_geometry.specs.Elements.{IsElement}
 use Rattle.lv_bodies.specs.Body.{BodyLaws, CanFold, CanJoin, Operations, fold_of}
 use Rattle.lv_bodies.specs.ElementLaws.{All-range}
 use Rattle.lv_bodies.specs.FoldLaws.{fold_of-append, fold_of-within}
-use Rattle.lv_known.proofs.FoldableLaws.{part_can_fold}
+use Rattle.lv_summary.proofs.FoldableLaws.{part_can_fold}
 use Rattle.lv_reduce.specs.Answer.{scan_of}
 use Rattle.lv_reduce.specs.Running.{reached, scan_from}
 use Rattle.lv_reduce.proofs.PieceLaws.{slice_range-append}

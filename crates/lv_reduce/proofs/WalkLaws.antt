@@ -102,10 +102,6 @@ module _ (fresh : Node → Bool) (lo hi at cells summaries level : ℕ) (walk : 
         few = omega (arith, walk.few, walk.low);
       }
 
-  -- and no top begins there
-  pub no_top_here : level ≡ 0 → (l : ℕ) → 1 ≤ l → l ≤ 6 → is_top fresh lo hi l at ≡ false
-  no_top_here lowest l some few = none_greater l at (omega arith) few (omega arith) (omega (arith, some_width level))
-
   -- else the summary of a fresh node
   module _ (some : 1 ≤ level) (is_fresh : fresh (over level at) ≡ true) where
     -- the node is used
@@ -139,22 +135,6 @@ module _ (fresh : Node → Bool) (lo hi at cells summaries level : ℕ) (walk : 
     none_behind : (i : ℕ) → at < i → i < at + 8 ^ level → is_top fresh lo hi level i ≡ false
     none_behind i behind below =
         false_from_ne_true _ (λ is. absurd (omega (arith, multiples_apart (8 ^ level) at i fits.begins (top_parts fresh lo hi level i is).aligned behind)))
-
-    -- so of all that begin in the node it alone is a top
-    pub top_in_node : (l i : ℕ) → l ≤ 6 → at ≤ i → i < at + 8 ^ level → is_top fresh lo hi l i ≡ true → (l ≡ level) × (i ≡ at)
-    top_in_node l i few from below top =
-        elim (cases_lt l level) [
-          | inl lesser ↦ absurd (false≢true (sym (none_lesser l i lesser from below) ∙ top))
-          | inr no_lesser ↦ elim (cases_lt level l) [
-            | inl greater ↦ absurd (false≢true (sym (none_greater l i greater few from below) ∙ top))
-            | inr no_greater ↦
-                let same : l ≡ level = omega arith in
-                elim (cases_lt at i) [
-                  | inl behind ↦ absurd (false≢true (sym (none_behind i behind below) ∙ ap (λ l. is_top fresh lo hi l i) (sym same) ∙ top))
-                  | inr here ↦ (same, omega arith)
-                ]
-          ]
-        ]
 
     -- so the tops of other levels are no more than before
     other_tops : (l : ℕ) → l ≤ 6 → (l ≡ level → ⊥) → passes_below (is_top fresh lo hi l) (at + 8 ^ level) ≡ passes_below (is_top fresh lo hi l) at

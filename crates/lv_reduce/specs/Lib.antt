@@ -1,6 +1,5 @@
 -- Names the files of definitions of `lv_reduce`.
 pub mod Answer
-pub mod Asked
 pub mod Cost
 pub mod Pieces
 pub mod Rows

@@ -2,12 +2,11 @@
 //!
 //! The model of an answer is plain: the fold of the range's elements, by definition, at the number of the last edit.
 //! `reduce` joins the summaries of the greatest fresh nodes in the range, and lifts no cell that such a node has; what
-//! it read is told, and is stated of the fresh nodes alone. It changes no table, and keeps nothing. `ask` answers the same, and
-//! keeps in the table what it computed. `cost` counts what `reduce` reads. `fold_elements` folds where the elements lie, by any body. The parallel forms answer the
-//! same by several threads, from the elements where they lie.
+//! it read is told, and is stated of the fresh nodes alone. It changes no table, and keeps nothing. `cost` counts what `reduce`
+//! reads. `fold_elements` folds where the elements lie, by any body. The parallel forms answer the same by several threads, from the
+//! elements where they lie.
 #![tactic(auto)]
 
-mod asking;
 mod costs;
 mod folding;
 mod parallel;
@@ -18,7 +17,6 @@ mod stretches;
 mod values;
 mod views;
 
-pub use asking::ask;
 pub use costs::{Reads, cost};
 pub use folding::fold_elements;
 pub use parallel::{par_reduce, par_scan_exclusive, par_scan_inclusive, par_scan_slice};

@@ -2,7 +2,7 @@
 ghost use Rattle.std.specs.Prelude.{◌≡◌, ⊤, ◌+◌, ◌-◌, ◌*◌, ◌/◌, ◌%◌, ◌^◌, ◌<◌, ◌≤◌, ℕ, length, true, false, IfOk, IfErr, IfSome, IfNone};
 ghost use Rattle.lv_bodies.specs.Body.{CanJoin};
 ghost use Rattle.lv_edits.specs.Ranges.{range_refusal};
-ghost use Rattle.lv_known.specs.Agrees.{Agrees};
+ghost use Rattle.lv_summary.specs.Agrees.{Agrees};
 ghost use Rattle.lv_summary.specs.Table.{fresh_in};
 ghost use Rattle.lv_reduce.specs.Answer.{IsAnswer};
 ghost use Rattle.lv_reduce.specs.Cost.{IsCost, IsFew};
@@ -48,24 +48,6 @@ impl<S: Copy> Clone for Piece<S> {
     ghost is_infallible = { λ _. ⊤ };
 
     fn clone(&self) -> Result<Piece<S>, AllocError> {
-        Ok(*self)
-    }
-}
-
-/// The summary of a node, and how many cells and summaries were read for it.
-#[derive(Copy)]
-pub struct Known<S> {
-    pub summary: S,
-    pub cells_read: u32,
-    pub summaries_read: u32,
-}
-
-impl<S: Copy> Clone for Known<S> {
-    ghost is_clone = { λ x y. y ≡ x };
-
-    ghost is_infallible = { λ _. ⊤ };
-
-    fn clone(&self) -> Result<Known<S>, AllocError> {
         Ok(*self)
     }
 }

@@ -11,12 +11,11 @@ use Rattle.lv_bodies.specs.FoldLaws.{fold_of-append, fold_of-within}
 use Rattle.lv_edits.specs.declared.edit.Edit.{Edit}
 use Rattle.lv_edits.specs.History.{list_of}
 use Rattle.lv_edits.specs.Touch.{elements_under}
-use Rattle.lv_known.specs.Agrees.{Agrees}
+use Rattle.lv_summary.specs.Agrees.{Agrees}
 use Rattle.lv_summary.specs.declared.accepted.Accepted.TheVariants.{Installed}
 use Rattle.lv_summary.specs.Changes.{Keeps}
 use Rattle.lv_summary.specs.Table.{Table, delivery_in, entry_in, fresh_in, touched_in, whole_in}
-use Rattle.lv_known.proofs.AgreesLaws.{entry_folds}
-use Rattle.lv_known.proofs.FoldableLaws.{part_can_fold}
+use Rattle.lv_summary.proofs.FoldableLaws.{part_can_fold}
 use Rattle.lv_summary.proofs.TableLaws.{delivery_in-current, same_node-self}
 use Rattle.lv_refresh.specs.ClaimTable.{AreHints, ClaimTable, claimed_in, record_of}
 use Rattle.lv_refresh.specs.Inner.{HintsNode, IsReady, ServesNode, children_fresh_in, wants_in}
@@ -117,7 +116,7 @@ module _ {S : Type 0} (o : Operations S) (edits : List Edit) (t : Table S) (agre
         let parts = parts_of_all IsElement (front edits n k) (elements_under edits (child n k)) both.elements in
         let size = length-append (front edits n k) (elements_under edits (child n k)) in
         let here : CanFold (elements_under edits (child n k)) = record { few = omega (arith, both.few, size); elements = parts.1 } in
-        let is = entry_folds o edits t agrees (child n k) s at in
+        let is = agrees.folds (child n k) s at in
         record {
           left = length (front edits n k);
           right = length (elements_under edits (child n k));
@@ -132,7 +131,7 @@ module _ {S : Type 0} (o : Operations S) (edits : List Edit) (t : Table S) (agre
         let more = front_more edits n k above in
         let both : CanFold (front edits n k ++ elements_under edits (child n k)) = subst CanFold more (front_can_fold n (k + 1)) in
         is
-        ∙ ap (λ s. o.join sum s) (entry_folds o edits t agrees (child n k) s at)
+        ∙ ap (λ s. o.join sum s) (agrees.folds (child n k) s at)
         ∙ ap (λ sum. o.join sum (fold_of o (elements_under edits (child n k)))) joined
         ∙ sym (fold_of-append o within laws (front edits n k) (elements_under edits (child n k)) both)
         ∙ ap (fold_of o) (sym more)

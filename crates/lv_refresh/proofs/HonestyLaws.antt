@@ -20,7 +20,7 @@ use Rattle.lv_edits.specs.declared.edit.Edit.{Edit}
 use Rattle.lv_edits.specs.History.{list_of, replayed}
 use Rattle.lv_edits.specs.Touch.{elements_under, is_whole, touched_by}
 use Rattle.lv_edits.proofs.TouchLaws.{elements_under-length, touched_by-le, touched_by_grows, touched_by_parent, untouched_since, whole_below, whole_from}
-use Rattle.lv_known.proofs.FoldableLaws.{part_can_fold}
+use Rattle.lv_summary.proofs.FoldableLaws.{part_can_fold}
 use Rattle.lv_summary.proofs.TableLaws.{same_node-eq}
 use Rattle.lv_refresh.specs.declared.contents.Contents.{Contents}
 use Rattle.lv_refresh.specs.declared.contents.Contents.TheVariants.{Children, Elements}

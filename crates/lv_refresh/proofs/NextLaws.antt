@@ -10,10 +10,10 @@ use Rattle.lv_edits.specs.declared.edit.Edit.{Edit}
 use Rattle.lv_edits.specs.History.{History, list_of}
 use Rattle.lv_edits.specs.Kept.{IsLegalInLimits}
 use Rattle.lv_edits.specs.Touch.{touched_by}
-use Rattle.lv_known.specs.Agrees.{Agrees}
+use Rattle.lv_summary.specs.Agrees.{Agrees}
 use Rattle.lv_summary.specs.Table.{Table, entry_in, fresh_in, touched_in, whole_in}
-use Rattle.lv_known.proofs.AgreesLaws.{entry_folds, whole_agrees}
-use Rattle.lv_known.proofs.FoldableLaws.{can_fold}
+use Rattle.lv_summary.proofs.AgreesLaws.{whole_agrees}
+use Rattle.lv_summary.proofs.FoldableLaws.{can_fold}
 use Rattle.lv_summary.proofs.TableLaws.{fresh_of_entry}
 use Rattle.lv_refresh.specs.declared.contents.Contents.{Contents}
 use Rattle.lv_refresh.specs.declared.contents.Contents.TheVariants.{Children, Elements}
@@ -55,7 +55,7 @@ module _ {S : Type 0} (o : Operations S) (edits : List Edit) (t : Table S) (agre
       let entry : (k : ℕ) → k < 8 → entry_in t (child n k) ≡ Some (part k) = λ k small. sym (holds.1 k small) ∙ there k small in (
         holds.0,
         children_fresh_from (record_of edits t c) n (λ k small. sym (fresh_agrees o edits t c agrees (child n k)) ∙ fresh_of_entry t (child n k) (part k) (entry k small)),
-        λ k small. there k small ∙ ap Some (entry_folds o edits t agrees (child n k) (part k) (entry k small)),
+        λ k small. there k small ∙ ap Some (agrees.folds (child n k) (part k) (entry k small)),
       )
 
   -- and can be folded

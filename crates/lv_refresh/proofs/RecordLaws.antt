@@ -9,7 +9,7 @@ use Rattle.lv_bodies.specs.Body.{Operations}
 use Rattle.lv_edits.specs.declared.edit.Edit.{Edit}
 use Rattle.lv_edits.specs.History.{list_of}
 use Rattle.lv_edits.specs.Touch.{is_whole, touched_by}
-use Rattle.lv_known.specs.Agrees.{Agrees}
+use Rattle.lv_summary.specs.Agrees.{Agrees}
 use Rattle.lv_summary.specs.Table.{Table, fresh_in, has_version, kept_in, touched_in}
 use Rattle.lv_refresh.specs.Claim.{children_fresh}
 use Rattle.lv_refresh.specs.ClaimTable.{ClaimTable, record_of}

@@ -12,7 +12,7 @@ use Rattle.lv_geometry.specs.Elements.{IsElement}
 use Rattle.lv_bodies.specs.Body.{BodyLaws, CanFold, Operations, fold_of}
 use Rattle.lv_bodies.specs.FoldLaws.{fold_of-append, fold_of-within}
 use Rattle.lv_edits.proofs.Slices.{length-slice_range, part_of_take}
-use Rattle.lv_known.proofs.FoldableLaws.{part_can_fold}
+use Rattle.lv_summary.proofs.FoldableLaws.{part_can_fold}
 use Rattle.lv_refresh.specs.Subtrees.{AreFolds}
 
 -- a slice of a slice is a slice of the whole

@@ -1,24 +1,15 @@
 -- What a table is once the summaries of a subtree were kept, level by level.
-use Rattle.std.proofs.Common.{◌≡◌, ◌≢◌, ◌⊎◌, ℕ, ◌+◌, ◌-◌, ◌*◌, ◌/◌, ◌^◌, ◌<◌, ◌≤◌, true, false, ◌&&◌, Option, Some, None, option_map, List, length, nat_eq, nat_le, nat_lt, refl, sym, ap, subst, ◌∙◌, inl, inr, arith}
+use Rattle.std.proofs.Common.{◌≡◌, ◌≢◌, ◌⊎◌, ℕ, ◌+◌, ◌-◌, ◌*◌, ◌/◌, ◌^◌, ◌<◌, ◌≤◌, true, false, ◌&&◌, Some, List, length, nat_eq, nat_le, nat_lt, refl, sym, ap, subst, ◌∙◌, inl, inr, arith}
 use Rattle.std.specs.Prelude.{slice_range}
-use Rattle.std.proofs.lemmas.Bool.{and_from, and_parts, cases_Bool, cases_eq, eq-eqb, eqb-true, false_from_ne_true, false≢true, le-leb, leb-true, ltb-true}
+use Rattle.std.proofs.lemmas.Bool.{and_from, and_parts, cases_eq, eq-eqb, eqb-true, false_from_ne_true, false≢true, le-leb, leb-true, ltb-true}
 use Rattle.lv_geometry.specs.declared.nodes.Node.{Node}
 use Rattle.lv_geometry.specs.Nodes.{covers, first_index, is_node}
 use Rattle.lv_geometry.proofs.NodeLaws.{level_of_node, node_of_level}
 use Rattle.lv_bodies.specs.Body.{Operations, fold_of}
-use Rattle.lv_summary.specs.Changes.{KeepsRun, beside, is_in_run}
-use Rattle.lv_summary.specs.Table.{Table, blocks_in, computed_in, kept_in, touched_in}
+use Rattle.lv_summary.specs.Changes.{KeepsRun, is_in_run}
+use Rattle.lv_summary.specs.Table.{Table, blocks_in, kept_in, touched_in}
 use Rattle.lv_refresh.specs.Inner.{node_at}
 use Rattle.lv_refresh.specs.Subtrees.{AreFolds, Copied, KeepsSubtree, copied_under, is_in_subtree}
-
--- the version of what was computed, if any
-abbrev pub version_in : {S : Type 0} → Option (ℕ × S) → Option ℕ
-version_in computed = option_map (λ computed. computed.0) computed
-
--- a summary beside a version leaves it
-version_beside : {S : Type 0} (s : S) (computed : Option (ℕ × S)) → version_in (beside s computed) ≡ version_in computed
-version_beside s None = refl
-version_beside s (Some computed) = refl
 
 -- a level whose nodes have so many elements, so many of them in a subtree: which of them are in it, and where their elements are
 pub record Fits (width count : ℕ) : Type 0 where
@@ -47,9 +38,7 @@ pub record KeepsUpTo {B S : Type 0} (o : Operations S) (old new : Table S) (copi
   pub blocks : blocks_in new ≡ blocks_in old
   pub touched : (n : Node) → touched_in new n ≡ touched_in old n
   pub kept : (n : Node) → n.level ≤ top → is_in_subtree copied.number n ≡ true → kept_in new n ≡ Some (touched_in old n, fold_of o (copied_under copied n))
-  pub versions : (n : Node) → version_in (computed_in new n) ≡ version_in (computed_in old n)
   pub others_kept : (n : Node) → (top < n.level) ⊎ (is_in_subtree copied.number n ≡ false) → kept_in new n ≡ kept_in old n
-  pub others_computed : (n : Node) → (top < n.level) ⊎ (is_in_subtree copied.number n ≡ false) → computed_in new n ≡ computed_in old n
 
 module _ {B S : Type 0} (o : Operations S) (copied : Copied B) where
   -- none yet
@@ -59,9 +48,7 @@ module _ {B S : Type 0} (o : Operations S) (copied : Copied B) where
     blocks = refl;
     touched = λ n. refl;
     kept = λ n low inside. absurd (omega (arith, low, (level_of_node n (and_parts (is_node n) (nat_le n.level 4) (and_parts _ _ inside).0).0).0));
-    versions = λ n. refl;
     others_kept = λ n other. refl;
-    others_computed = λ n other. refl;
   }
 
   -- once all four levels are kept the subtree is
@@ -71,9 +58,7 @@ module _ {B S : Type 0} (o : Operations S) (copied : Copied B) where
     blocks = keeps.blocks;
     touched = keeps.touched;
     kept = λ n inside. keeps.kept n (leb-true n.level 4 (and_parts (is_node n) (nat_le n.level 4) (and_parts _ _ inside).0).1) inside;
-    computed = keeps.versions;
     others_kept = λ n other. keeps.others_kept n (inr other);
-    others_computed = λ n other. keeps.others_computed n (inr other);
   }
 
   module _ (level width count : ℕ) (low : 1 ≤ level) (high : level ≤ 4) (wide : 8 ^ level ≡ width) (fits : Fits width count) (mid new : Table S) (summaries : List S) (many : length copied.elements ≡ 4096) (folds : AreFolds o copied.elements width summaries)
@@ -133,20 +118,6 @@ module _ {B S : Type 0} (o : Operations S) (copied : Copied B) where
         subst (λ n. kept_in new n ≡ Some (touched_in mid n, fold_of o (copied_under copied n))) (sym (in_place n at from)) (
         run.kept k s (folds.folds k (omega (arith, from, to, all_there))) ∙ ap (λ part. Some (touched_in mid node, fold_of o part)) (elements_there k))
 
-    -- the versions of what was computed stay
-    versions_stay : (n : Node) → version_in (computed_in new n) ≡ version_in (computed_in mid n)
-    versions_stay n =
-        elim (cases_Bool (is_in_run level first (length summaries) n)) [
-          | inl is ↦
-              let where_is = of_run n is in
-              let k = n.number - first in
-              let node = node_at level (first + k) in
-              let s = fold_of o (slice_range copied.elements (width * k) (width * k + width)) in
-              subst (λ n. version_in (computed_in new n) ≡ version_in (computed_in mid n)) (sym (in_place n where_is.0 where_is.1)) (
-              ap version_in (run.computed k s (folds.folds k (omega (arith, where_is.1, where_is.2, all_there)))) ∙ version_beside s (computed_in mid node))
-          | inr other ↦ ap version_in (run.others_computed n other)
-        ]
-
     -- so the levels up to this one are kept
     pub keeps_level : (old : Table S) (below : ℕ) → level ≡ below + 1 → KeepsUpTo o old mid copied below → KeepsUpTo o old new copied level
     keeps_level old below next keeps =
@@ -158,14 +129,9 @@ module _ {B S : Type 0} (o : Operations S) (copied : Copied B) where
             | inl at ↦ kept_there n at inside ∙ ap (λ edit. Some (edit, fold_of o (copied_under copied n))) (keeps.touched n)
             | inr other ↦ run.others_kept n (not_of_run n (inl other)) ∙ keeps.kept n (omega arith) inside
           ];
-          versions = λ n. versions_stay n ∙ keeps.versions n;
           others_kept = λ n other. elim other [
             | inl above ↦ run.others_kept n (not_of_run n (inl (omega arith))) ∙ keeps.others_kept n (inl (omega arith))
             | inr outside ↦ run.others_kept n (not_of_run n (inr outside)) ∙ keeps.others_kept n (inr outside)
-          ];
-          others_computed = λ n other. elim other [
-            | inl above ↦ run.others_computed n (not_of_run n (inl (omega arith))) ∙ keeps.others_computed n (inl (omega arith))
-            | inr outside ↦ run.others_computed n (not_of_run n (inr outside)) ∙ keeps.others_computed n (inr outside)
           ];
         }
 

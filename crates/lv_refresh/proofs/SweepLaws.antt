@@ -11,8 +11,8 @@ use Rattle.lv_edits.specs.declared.edit.Edit.{Edit}
 use Rattle.lv_edits.specs.History.{list_of}
 use Rattle.lv_edits.specs.Touch.{elements_under}
 use Rattle.lv_edits.proofs.Slices.{part_of_take}
-use Rattle.lv_known.specs.Agrees.{Agrees}
-use Rattle.lv_known.proofs.AgreesLaws.{agrees_installed, whole_agrees}
+use Rattle.lv_summary.specs.Agrees.{Agrees}
+use Rattle.lv_summary.proofs.AgreesLaws.{agrees_installed, whole_agrees}
 use Rattle.lv_summary.specs.Changes.{Keeps}
 use Rattle.lv_summary.specs.Table.{Table, touched_in, whole_in}
 use Rattle.lv_summary.proofs.TableLaws.{same_node-eq, version_kept}

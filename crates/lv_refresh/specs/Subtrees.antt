@@ -1,9 +1,9 @@
 -- Jobs of whole subtrees: the node of level 4 that has a number, and all nodes below it.
-use Rattle.std.specs.Prelude.{◌≡◌, ℕ, ℤ, ◌+◌, ◌-◌, ◌*◌, ◌/◌, ◌<◌, ◌≤◌, Bool, true, false, ◌&&◌, nat_eq, nat_le, Option, Some, None, option_map, List, length, slice_get, slice_range, if◌then◌else◌}
+use Rattle.std.specs.Prelude.{◌≡◌, ℕ, ℤ, ◌+◌, ◌-◌, ◌*◌, ◌/◌, ◌<◌, ◌≤◌, Bool, true, false, ◌&&◌, nat_eq, nat_le, Option, Some, None, List, length, slice_get, slice_range, if◌then◌else◌}
 use Rattle.lv_geometry.specs.declared.nodes.Node.{Node}
 use Rattle.lv_geometry.specs.Nodes.{covers, first_index, is_node, width}
 use Rattle.lv_bodies.specs.Body.{Operations, fold_of}
-use Rattle.lv_summary.specs.Table.{Table, blocks_in, computed_in, kept_in, touched_in}
+use Rattle.lv_summary.specs.Table.{Table, blocks_in, kept_in, touched_in}
 use Rattle.lv_refresh.specs.Inner.{node_at}
 
 -- a subtree's elements, copied, with its number and the body to fold them by
@@ -40,9 +40,7 @@ pub record KeepsSubtree {B S : Type 0} (o : Operations S) (old new : Table S) (c
   pub blocks : blocks_in new ≡ blocks_in old
   pub touched : (n : Node) → touched_in new n ≡ touched_in old n
   pub kept : (n : Node) → is_in_subtree copied.number n ≡ true → kept_in new n ≡ Some (touched_in old n, fold_of o (copied_under copied n))
-  pub computed : (n : Node) → option_map (λ computed. computed.0) (computed_in new n) ≡ option_map (λ computed. computed.0) (computed_in old n)
   pub others_kept : (n : Node) → is_in_subtree copied.number n ≡ false → kept_in new n ≡ kept_in old n
-  pub others_computed : (n : Node) → is_in_subtree copied.number n ≡ false → computed_in new n ≡ computed_in old n
 
 -- a subtree is inside so many elements
 abbrev pub IsInside : ℕ → ℕ → Type 0

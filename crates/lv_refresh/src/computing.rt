@@ -4,7 +4,7 @@ ghost use Rattle.lv_geometry.specs.Nodes.{child, is_below, parent};
 ghost use Rattle.lv_bodies.specs.Body.{fold_of};
 ghost use Rattle.lv_edits.specs.History.{list_of};
 ghost use Rattle.lv_edits.specs.Touch.{elements_under};
-ghost use Rattle.lv_known.specs.Agrees.{Agrees};
+ghost use Rattle.lv_summary.specs.Agrees.{Agrees};
 ghost use Rattle.lv_summary.specs.declared.accepted.Accepted.TheVariants.{Installed};
 ghost use Rattle.lv_summary.specs.Changes.{Keeps};
 ghost use Rattle.lv_summary.specs.Table.{delivery_in, entry_in, whole_in};

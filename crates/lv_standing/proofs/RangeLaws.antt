@@ -14,7 +14,7 @@ use Rattle.lv_edits.specs.Ranges.{range_refusal}
 use Rattle.lv_edits.specs.Verdict.{verdict_of}
 use Rattle.lv_edits.proofs.HistoryLaws.{accepted_is_possible, list_of-snoc, swapped}
 use Rattle.lv_edits.proofs.Slices.{part_of_push, part_of_set, part_of_take}
-use Rattle.lv_known.proofs.FoldableLaws.{can_fold, part_can_fold}
+use Rattle.lv_summary.proofs.FoldableLaws.{can_fold, part_can_fold}
 use Rattle.lv_live.specs.declared.following.Touched.{Touched}
 use Rattle.lv_live.specs.declared.following.Touched.TheVariants.{Nothing, One, Two}
 use Rattle.lv_live.specs.Follows.{indices_in}

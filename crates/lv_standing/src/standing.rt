@@ -5,10 +5,6 @@ ghost use Rattle.lv_bodies.specs.Six.{six_operations};
 ghost use Rattle.lv_edits.specs.Kept.{IsLegalInLimits};
 ghost use Rattle.lv_edits.specs.Verdict.{Accepts, IsRefusal, Refuses};
 ghost use Rattle.lv_edits.specs.Ranges.{range_refusal};
-ghost use Rattle.lv_summary.specs.Changes.{OnlyLearns};
-ghost use Rattle.lv_summary.specs.Table.{known_in};
-ghost use Rattle.lv_reduce.specs.Answer.{IsAnswer};
-ghost use Rattle.lv_reduce.specs.Asked.{AreTopsKnown, IsFewAsked};
 ghost use Rattle.lv_refresh.specs.Claim.{IsNextJob};
 ghost use Rattle.lv_refresh.specs.Delivery.{delivery_of};
 ghost use Rattle.lv_refresh.specs.Honesty.{IsHonest, Vouched};
@@ -29,11 +25,10 @@ use crate::notes::{Answered, Note};
 use crate::queries::Query;
 use crate::query_set::QuerySet;
 use crate::values::value_beside;
-use lv_bodies::{Automaton, Body, Kind, Name, Six, SixSummary};
+use lv_bodies::{Automaton, Body, Kind, Name, Six};
 use lv_edits::{Edit, Receipt};
 use lv_geometry::{Limits, Node, Refusal};
 use lv_live::{Issued, Live};
-use lv_reduce::Answer;
 use lv_refresh::{Job, Outcome};
 use lv_summary::Accepted;
 use lv_tree::{KindSummary, Kinds};
@@ -193,22 +188,6 @@ impl Standing {
         Ok(receipt)
     }
 
-    /// The fold of the elements from index `lo` up to `hi` by all six, keeping what is computed for it: so a range that was asked
-    /// for is cheap until an edit touches it. Refused with `BadRange`, then `OutOfRange`. Takes no memory.
-    pub fn ask(&mut self, lo: u32, hi: u32) -> Result<Answer<SixSummary>, Refusal>
-        ensures ok { IfOk result (λ answer. IsAnswer six_operations self.old.live.history.journal lo hi answer) }
-        ensures err { IfErr result (λ refusal. range_refusal self.old.live.history.journal lo hi ≡ Some refusal) }
-        ensures live { SameLive self.old.live self.new.live }
-        ensures learns { OnlyLearns self.old.live.table self.new.live.table }
-        ensures known { IfOk result (λ _. AreTopsKnown (known_in self.new.live.table) lo hi) }
-        ensures few { IfOk result (λ answer. IsFewAsked (known_in self.old.live.table) (known_in self.new.live.table) lo hi answer.cells_read answer.summaries_read) }
-        ensures queries { self.new.queries ≡ self.old.queries }
-        ensures kinds { self.new.kinds ≡ self.old.kinds }
-        ensures limits { IsLegalInLimits self.new.live.history }
-    {
-        self.live.ask(lo, hi)
-    }
-
     /// The value of a kind over the elements from index `lo` up to `hi`. A short range is folded by that kind alone, where its
     /// elements lie; for a longer one the kind follows all edits that it hasn't followed yet, and what it keeps is asked. Refused with
     /// `BadRange`, then `OutOfRange`. Takes no memory.
@@ -216,7 +195,6 @@ impl Standing {
         ensures ok { IfOk result (λ answered. IsValue self.old.live.history.journal kind lo hi answered) }
         ensures err { IfErr result (λ refusal. range_refusal self.old.live.history.journal lo hi ≡ Some refusal) }
         ensures live { SameLive self.old.live self.new.live }
-        ensures learns { OnlyLearns self.old.live.table self.new.live.table }
         ensures queries { self.new.queries ≡ self.old.queries }
         ensures limits { IsLegalInLimits self.new.live.history }
         ensures same { self.new.live ≡ self.old.live }

@@ -1,4 +1,4 @@
--- What an edit, or a summary that is kept or learnt, makes of a table.
+-- What an edit, or a summary that is kept, makes of a table.
 use Rattle.std.proofs.Common.{◌≡◌, ℕ, ◌*◌, ◌/◌, ◌^◌, ◌<◌, ◌≤◌, true, false, ◌&&◌, cond, if◌then◌else◌, Option, Some, length, get_or, nat_eq, nat_le, refl, sym, ap, ◌∙◌, inl, inr, arith}
 use Rattle.std.proofs.lemmas.Bool.{cases_Bool, cond_both, eqb-true, ne_eqb, true≢false}
 use Rattle.std.proofs.lemmas.List.{length-set}
@@ -7,12 +7,12 @@ use Rattle.lv_geometry.specs.declared.nodes.Node.{Node}
 use Rattle.lv_geometry.specs.Levels.{thing_at, with_thing}
 use Rattle.lv_geometry.specs.Nodes.{covers, is_node, same_node}
 use Rattle.lv_geometry.proofs.NodeLaws.{at_each_level, level_of_node}
-use Rattle.lv_summary.specs.Inner.{IsLevel, IsSound, LevelState, table_of, with_kept, with_learnt, with_touch}
-use Rattle.lv_summary.specs.Changes.{Keeps, Learns, Touches, beside}
-use Rattle.lv_summary.specs.Table.{Rows, Table, blocks_in, computed_in, kept_in, rows_for, touched_in, whole_in}
-use Rattle.lv_summary.proofs.LevelLaws.{IsLevel-with_kept, IsLevel-with_learnt, IsLevel-with_touch, computed_at, computed_at-with_kept, computed_at-with_learnt, kept_at, kept_at-with_kept, kept_at-with_learnt, touched_at, touched_at-with_touch}
+use Rattle.lv_summary.specs.Inner.{IsLevel, IsSound, LevelState, table_of, with_kept, with_touch}
+use Rattle.lv_summary.specs.Changes.{Keeps, Touches}
+use Rattle.lv_summary.specs.Table.{Rows, Table, blocks_in, kept_in, rows_for, touched_in, whole_in}
+use Rattle.lv_summary.proofs.LevelLaws.{IsLevel-with_kept, IsLevel-with_touch, kept_at, kept_at-with_kept, touched_at, touched_at-with_touch}
 use Rattle.lv_summary.proofs.TableLaws.{node_of_whole}
-use Rattle.lv_summary.proofs.NodeRows.{IsRowOf-whole, blocks_in-rows, computed_in-inside, computed_in-outside, cond-and_false, cond-and_true, kept_in-inside, kept_in-outside, row_of_index, rows_at, touched_in-inside, touched_in-outside}
+use Rattle.lv_summary.proofs.NodeRows.{IsRowOf-whole, blocks_in-rows, cond-and_false, cond-and_true, kept_in-inside, kept_in-outside, row_of_index, rows_at, touched_in-inside, touched_in-outside}
 
 -- a table is sound by its rows
 pub IsSound-by_rows : {S : Type 0} (t : Table S) (blocks : ℕ) → blocks_in t ≡ blocks → blocks ≤ 131071 → t.size ≤ 8 * blocks → ((level : ℕ) → 1 ≤ level → level ≤ 6 → IsLevel blocks level (rows_at t level)) → IsSound t
@@ -61,12 +61,6 @@ Touches-by_rows {S} {old} {new} sound size i edit inside rows =
             kept_in-inside new n member ∙ ap (λ r. kept_at r n.number) (rows n.level level.0 level.1) ∙ sym (kept_in-inside old n member)
         | inr stranger ↦ kept_in-outside new n stranger ∙ sym (kept_in-outside old n stranger)
       ];
-      computed = λ n. elim (cases_Bool (is_node n)) [
-        | inl member ↦
-            let level = level_of_node n member in
-            computed_in-inside new n member ∙ ap (λ r. computed_at r n.number) (rows n.level level.0 level.1) ∙ sym (computed_in-inside old n member)
-        | inr stranger ↦ computed_in-outside new n stranger ∙ sym (computed_in-outside old n stranger)
-      ];
     }
 
 -- nodes of one level are both of the table, or both not
@@ -81,10 +75,6 @@ HasRowsChanged old new k change =
 -- the rows of every level after a summary was put into the row of a node
 abbrev pub HasRowsKept : {S : Type 0} → Table S → Table S → Node → ℕ → ℕ → S → Type 0
 HasRowsKept old new n k version s = HasRowsChanged old new k (λ rows. with_kept rows n.number version s)
-
--- the rows of every level after a summary was learnt for a node
-abbrev pub HasRowsLearnt : {S : Type 0} → Table S → Table S → Node → ℕ → S → Type 0
-HasRowsLearnt old new n k s = HasRowsChanged old new k (λ rows. with_learnt rows n.number s)
 
 -- a table of six levels, of which one has other rows
 pub HasRowsChanged-one : {S : Type 0} (size : ℕ) (of : Levels (LevelState S)) (k : ℕ) (changed : LevelState S) (change : Rows S → Rows S) → 1 ≤ k → k ≤ 6 → changed.rows ≡ change (thing_at of k).rows → HasRowsChanged (table_of size of) (table_of size (with_thing of k changed)) k change
@@ -170,46 +160,10 @@ kept_in-changed old new n change other node rows is m =
           kept_in-outside new m stranger ∙ sym (kept_in-outside old m stranger) ∙ sym (cond-and_false (nat_eq m.level n.level) _ _ _ (stranger_is_other n m node stranger))
     ]
 
--- and what was computed, likewise
-computed_in-changed : {S : Type 0} (old new : Table S) (n : Node) (change : Rows S → Rows S) (other : Option (ℕ × S) → Option (ℕ × S)) → is_node n ≡ true → HasRowsChanged old new n.level change
-    → ((k : ℕ) → computed_at (change (rows_for old n)) k ≡ if nat_eq k n.number then other (computed_at (rows_for old n) k) else computed_at (rows_for old n) k)
-    → (m : Node) → computed_in new m ≡ if same_node m n then other (computed_in old m) else computed_in old m
-computed_in-changed old new n change other node rows is m =
-    elim (cases_Bool (is_node m)) [
-      | inl member ↦
-          let level = level_of_node m member in
-          computed_in-inside new m member
-          ∙ ap (λ r. computed_at r m.number) (rows m.level level.0 level.1)
-          ∙ read-changed computed_at change other old n m is
-          ∙ ap (λ kept. cond (same_node m n) (other kept) kept) (sym (computed_in-inside old m member))
-      | inr stranger ↦
-          computed_in-outside new m stranger ∙ sym (computed_in-outside old m stranger) ∙ sym (cond-and_false (nat_eq m.level n.level) _ _ _ (stranger_is_other n m node stranger))
-    ]
-
 -- a sound table stays so when a summary is kept
 pub IsSound-kept : {S : Type 0} {old new : Table S} → IsSound old → new.size ≡ old.size → (n : Node) (k version : ℕ) (s : S) → HasRowsKept old new n k version s → IsSound new
 IsSound-kept {S} {old} {new} sound size n k version s rows =
     IsSound-changed (λ rows. with_kept rows n.number version s) (λ rows. refl) (λ blocks level rows is. IsLevel-with_kept blocks level rows n.number version s is) old new sound size k rows
-
--- and when one is learnt
-pub IsSound-learnt : {S : Type 0} {old new : Table S} → IsSound old → new.size ≡ old.size → (n : Node) (k : ℕ) (s : S) → HasRowsLearnt old new n k s → IsSound new
-IsSound-learnt {S} {old} {new} sound size n k s rows =
-    IsSound-changed (λ rows. with_learnt rows n.number s) (λ rows. refl) (λ blocks level rows is. IsLevel-with_learnt blocks level rows n.number s is) old new sound size k rows
-
--- learning a summary of a whole node, on the level that its number says, learns it for that node alone
-pub Learns-at : {S : Type 0} {old new : Table S} → IsSound old → new.size ≡ old.size → (n : Node) (k : ℕ) (s : S) → whole_in old n ≡ true → n.level ≡ k → HasRowsLearnt old new n k s → Learns old new n s
-Learns-at {S} {old} {new} sound size n k s whole at changed =
-    let row = IsRowOf-whole old n sound whole in
-    let node = node_of_whole old n whole in
-    let rows : HasRowsLearnt old new n n.level s = λ level low high. rw (← at) at (changed level low high) in
-    record {
-      size = size;
-      blocks = blocks_in-changed (λ rows. with_learnt rows n.number s) (λ rows. refl) old new n.level rows;
-      touched = touched_in-changed (λ rows. with_learnt rows n.number s) (λ rows. refl) old new n rows;
-      kept = kept_in-changed old new n (λ rows. with_learnt rows n.number s) (beside s) node rows (λ k. kept_at-with_learnt (rows_for old n) n.number s k row.kept);
-      computed = computed_in-changed old new n (λ rows. with_learnt rows n.number s) (λ kept. Some (touched_in old n, s)) node rows
-          (λ k. computed_at-with_learnt (rows_for old n) n.number s k row.computed row.kept ∙ ap (λ edit. cond (nat_eq k n.number) (Some (edit, s)) (computed_at (rows_for old n) k)) (sym (touched_in-inside old n node)));
-    }
 
 -- and putting one into its row keeps it for that node alone
 pub Keeps-at : {S : Type 0} {old new : Table S} → IsSound old → new.size ≡ old.size → (n : Node) (k version : ℕ) (s : S) → whole_in old n ≡ true → n.level ≡ k → HasRowsKept old new n k version s → Keeps old new n version s
@@ -222,5 +176,4 @@ Keeps-at {S} {old} {new} sound size n k version s whole at changed =
       blocks = blocks_in-changed (λ rows. with_kept rows n.number version s) (λ rows. refl) old new n.level rows;
       touched = touched_in-changed (λ rows. with_kept rows n.number version s) (λ rows. refl) old new n rows;
       kept = kept_in-changed old new n (λ rows. with_kept rows n.number version s) (λ kept. Some (version, s)) node rows (λ k. kept_at-with_kept (rows_for old n) n.number version s k row.stamps row.kept);
-      computed = computed_in-changed old new n (λ rows. with_kept rows n.number version s) (beside s) node rows (λ k. computed_at-with_kept (rows_for old n) n.number version s k row.kept);
     }

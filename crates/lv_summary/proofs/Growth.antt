@@ -8,9 +8,9 @@ use Rattle.lv_geometry.specs.Nodes.{is_node}
 use Rattle.lv_geometry.proofs.NodeLaws.{at_each_level, level_of_node}
 use Rattle.lv_summary.specs.Inner.{AreFilled, HaveSameRows, IsSound, LevelState, filled, table_of}
 use Rattle.lv_summary.specs.Changes.{AnswersAlike, HasSize}
-use Rattle.lv_summary.specs.Table.{Table, blocks_in, computed_in, kept_in, no_rows, rows_for, touched_in}
-use Rattle.lv_summary.proofs.LevelLaws.{IsLevel-empty, IsLevel-filled, computed_at, computed_at-filled, kept_at, kept_at-filled, length-lengthened, touched_at, touched_at-filled}
-use Rattle.lv_summary.proofs.NodeRows.{blocks_in-rows, computed_in-inside, computed_in-outside, kept_in-inside, kept_in-outside, rows_at, touched_in-inside, touched_in-outside}
+use Rattle.lv_summary.specs.Table.{Table, blocks_in, kept_in, no_rows, rows_for, touched_in}
+use Rattle.lv_summary.proofs.LevelLaws.{IsLevel-empty, IsLevel-filled, kept_at, kept_at-filled, length-lengthened, touched_at, touched_at-filled}
+use Rattle.lv_summary.proofs.NodeRows.{blocks_in-rows, kept_in-inside, kept_in-outside, rows_at, touched_in-inside, touched_in-outside}
 use Rattle.lv_summary.proofs.Changes.{IsSound-by_rows}
 
 -- every level was filled up, so that there are rows for all indices of so many blocks
@@ -88,14 +88,6 @@ AnswersAlike-by_rows {S} {old} {new} sound size more rows =
             kept_in-inside new m member ∙ ap (λ r. kept_at r m.number) added.2 ∙ kept_at-filled (rows_for old m) added.0 added.1 m.number (even.kept ∙ sym even.stamps) ∙ sym (kept_in-inside old m member)
         | inr stranger ↦ kept_in-outside new m stranger ∙ sym (kept_in-outside old m stranger)
       ];
-      computed = λ m. elim (cases_Bool (is_node m)) [
-        | inl member ↦
-            let level = level_of_node m member in
-            let added = rows m.level level.0 level.1 in
-            let even = sound.levels m.level level.0 level.1 in
-            computed_in-inside new m member ∙ ap (λ r. computed_at r m.number) added.2 ∙ computed_at-filled (rows_for old m) added.0 added.1 m.number (even.kept ∙ sym even.computed) ∙ sym (computed_in-inside old m member)
-        | inr stranger ↦ computed_in-outside new m stranger ∙ sym (computed_in-outside old m stranger)
-      ];
     }
 
 -- a sound table stays so at another size that its rows have room for
@@ -117,10 +109,6 @@ HasSize-by_rows t size =
       kept = λ m. elim (cases_Bool (is_node m)) [
         | inl member ↦ kept_in-inside sized m member ∙ sym (kept_in-inside t m member)
         | inr stranger ↦ kept_in-outside sized m stranger ∙ sym (kept_in-outside t m stranger)
-      ];
-      computed = λ m. elim (cases_Bool (is_node m)) [
-        | inl member ↦ computed_in-inside sized m member ∙ sym (computed_in-inside t m member)
-        | inr stranger ↦ computed_in-outside sized m stranger ∙ sym (computed_in-outside t m stranger)
       ];
     }
 
@@ -147,12 +135,4 @@ kept_in-empty t rows n =
     elim (cases_Bool (is_node n)) [
       | inl member ↦ let level = level_of_node n member in kept_in-inside t n member ∙ ap (λ r. kept_at r n.number) (rows n.level level.0 level.1)
       | inr stranger ↦ kept_in-outside t n stranger
-    ]
-
--- and nothing was computed
-pub computed_in-empty : {S : Type 0} (t : Table S) → ((level : ℕ) → 1 ≤ level → level ≤ 6 → rows_at t level ≡ no_rows) → (n : Node) → computed_in t n ≡ None
-computed_in-empty t rows n =
-    elim (cases_Bool (is_node n)) [
-      | inl member ↦ let level = level_of_node n member in computed_in-inside t n member ∙ ap (λ r. computed_at r n.number) (rows n.level level.0 level.1)
-      | inr stranger ↦ computed_in-outside t n stranger
     ]

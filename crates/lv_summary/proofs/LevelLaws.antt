@@ -5,9 +5,7 @@ use Rattle.std.proofs.lemmas.List.{get_or-append_right, get_or-replicate, get_or
 use Rattle.std.proofs.lemmas.List.Elements.{All-append, All-nil, All-replicate, All-set}
 use Rattle.std.proofs.lemmas.Option.{slice_get-get_or, slice_get_past}
 use Rattle.lv_geometry.proofs.NodeLaws.{covers_more}
-use Rattle.lv_geometry.proofs.Ranges.{there_is}
-use Rattle.lv_summary.specs.Inner.{IsLevel, filled, lengthened, with_kept, with_learnt, with_touch}
-use Rattle.lv_summary.specs.Changes.{beside}
+use Rattle.lv_summary.specs.Inner.{IsLevel, filled, lengthened, with_kept, with_touch}
 use Rattle.lv_summary.specs.Table.{Rows, no_rows}
 
 -- the edit that the row of a number says, 0 where there is no such row
@@ -21,10 +19,6 @@ kept_by stamp s = if nat_lt 0 stamp then option_map (λ s. (stamp - 1, s)) s els
 -- the delivered version and the summary that the row of a number says
 abbrev pub kept_at : {S : Type 0} → Rows S → ℕ → Option (ℕ × S)
 kept_at rows k = kept_by (get_or rows.stamps k 0) (slice_get rows.kept k)
-
--- the computed version and the summary that the row of a number says
-abbrev pub computed_at : {S : Type 0} → Rows S → ℕ → Option (ℕ × S)
-computed_at rows k = kept_by (get_or rows.computed k 0) (slice_get rows.kept k)
 
 -- how long a list is that is made longer
 pub length-lengthened : {A : Type 0} (xs : List A) (n : ℕ) (x : A) → length (lengthened xs n x) ≡ length xs + (n - length xs)
@@ -92,10 +86,6 @@ kept_by-filled stamps summaries n blank k same =
 pub kept_at-filled : {S : Type 0} (rows : Rows S) (n : ℕ) (blank : S) (k : ℕ) → length rows.kept ≡ length rows.stamps → kept_at (filled rows n blank) k ≡ kept_at rows k
 kept_at-filled rows n blank k same = kept_by-filled rows.stamps rows.kept n blank k same
 
--- and nothing computed
-pub computed_at-filled : {S : Type 0} (rows : Rows S) (n : ℕ) (blank : S) (k : ℕ) → length rows.kept ≡ length rows.computed → computed_at (filled rows n blank) k ≡ computed_at rows k
-computed_at-filled rows n blank k same = kept_by-filled rows.computed rows.kept n blank k same
-
 -- a touch changes the row of its number
 pub touched_at-with_touch : {S : Type 0} (rows : Rows S) (number edit k : ℕ) → number < length rows.touched → touched_at (with_touch rows number edit) k ≡ if nat_eq number k then edit else touched_at rows k
 touched_at-with_touch rows number edit k inside =
@@ -122,49 +112,13 @@ kept_by-put stamps summaries number version s k inside there =
           ∙ sym (cond-false _ _ _ (ne_eqb k number other))
     ]
 
--- what a stamp says, beside another summary
-pub kept_by-beside : {S : Type 0} (stamp : ℕ) (s t : S) → kept_by stamp (Some s) ≡ beside s (kept_by stamp (Some t))
-kept_by-beside stamp s t =
-    elim (cases_lt 0 stamp) [
-      | inl some ↦ kept_by-some stamp s some ∙ ap (beside s) (sym (kept_by-some stamp t some))
-      | inr none ↦ kept_by-none stamp (Some s) (omega arith) ∙ ap (beside s) (sym (kept_by-none stamp (Some t) (omega arith)))
-    ]
-
--- a summary alone that is put into a row stands beside the version that its stamp says
-kept_by-put_beside : {S : Type 0} (stamps : List ℕ) (summaries : List S) (number : ℕ) (s : S) (k : ℕ) → number < length summaries → kept_by (get_or stamps k 0) (slice_get (set summaries number s) k) ≡ if nat_eq k number then beside s (kept_by (get_or stamps k 0) (slice_get summaries k)) else kept_by (get_or stamps k 0) (slice_get summaries k)
-kept_by-put_beside stamps summaries number s k there =
-    elim (cases_eq k number) [
-      | inl same ↦
-          let before = there_is summaries number there in
-          rw same (
-          ap (kept_by (get_or stamps number 0)) (slice_get-set_same summaries number s there)
-          ∙ kept_by-beside (get_or stamps number 0) s before.0
-          ∙ ap (λ t. beside s (kept_by (get_or stamps number 0) t)) (sym before.1)
-          ∙ sym (cond-true _ _ _ (eq-eqb number number refl)))
-      | inr other ↦
-          ap (kept_by (get_or stamps k 0)) (slice_get-set_other summaries number k s other)
-          ∙ sym (cond-false _ _ _ (ne_eqb k number other))
-    ]
-
 -- a summary that is kept changes the row of its number
 pub kept_at-with_kept : {S : Type 0} (rows : Rows S) (number version : ℕ) (s : S) (k : ℕ) → number < length rows.stamps → number < length rows.kept → kept_at (with_kept rows number version s) k ≡ if nat_eq k number then Some (version, s) else kept_at rows k
 kept_at-with_kept rows number version s k stamps kept = kept_by-put rows.stamps rows.kept number version s k stamps kept
 
--- and leaves the computed version there
-pub computed_at-with_kept : {S : Type 0} (rows : Rows S) (number version : ℕ) (s : S) (k : ℕ) → number < length rows.kept → computed_at (with_kept rows number version s) k ≡ if nat_eq k number then beside s (computed_at rows k) else computed_at rows k
-computed_at-with_kept rows number version s k kept = kept_by-put_beside rows.computed rows.kept number s k kept
-
--- a summary that is learnt changes the row of its number
-pub computed_at-with_learnt : {S : Type 0} (rows : Rows S) (number : ℕ) (s : S) (k : ℕ) → number < length rows.computed → number < length rows.kept → computed_at (with_learnt rows number s) k ≡ if nat_eq k number then Some (touched_at rows number, s) else computed_at rows k
-computed_at-with_learnt rows number s k computed kept = kept_by-put rows.computed rows.kept number (touched_at rows number) s k computed kept
-
--- and leaves the delivered version there
-pub kept_at-with_learnt : {S : Type 0} (rows : Rows S) (number : ℕ) (s : S) (k : ℕ) → number < length rows.kept → kept_at (with_learnt rows number s) k ≡ if nat_eq k number then beside s (kept_at rows k) else kept_at rows k
-kept_at-with_learnt rows number s k kept = kept_by-put_beside rows.stamps rows.kept number s k kept
-
 -- a level with no rows serves no block
 pub IsLevel-empty : {S : Type 0} (level : ℕ) → IsLevel 0 level (no_rows {S = S})
-IsLevel-empty level = record { stamps = refl; computed = refl; kept = refl; covers = omega arith; edits = All-nil (λ edit. edit ≤ 16777215) }
+IsLevel-empty level = record { stamps = refl; kept = refl; covers = omega arith; edits = All-nil (λ edit. edit ≤ 16777215) }
 
 -- a touch by an edit that is possible keeps a level as it must be
 pub IsLevel-with_touch : {S : Type 0} (blocks level : ℕ) (rows : Rows S) (number edit : ℕ) → edit ≤ 16777215 → IsLevel blocks level rows → IsLevel blocks level (with_touch rows number edit)
@@ -172,7 +126,6 @@ IsLevel-with_touch blocks level rows number edit possible h =
     let long = length-set rows.touched number edit in
     record {
       stamps = h.stamps ∙ sym long;
-      computed = h.computed ∙ sym long;
       kept = h.kept ∙ sym long;
       covers = rw long h.covers;
       edits = All-set (λ edit. edit ≤ 16777215) rows.touched number edit possible h.edits;
@@ -183,18 +136,6 @@ pub IsLevel-with_kept : {S : Type 0} (blocks level : ℕ) (rows : Rows S) (numbe
 IsLevel-with_kept blocks level rows number version s h =
     record {
       stamps = length-set rows.stamps number (version + 1) ∙ h.stamps;
-      computed = h.computed;
-      kept = length-set rows.kept number s ∙ h.kept;
-      covers = h.covers;
-      edits = h.edits;
-    }
-
--- a summary that is learnt keeps a level as it must be
-pub IsLevel-with_learnt : {S : Type 0} (blocks level : ℕ) (rows : Rows S) (number : ℕ) (s : S) → IsLevel blocks level rows → IsLevel blocks level (with_learnt rows number s)
-IsLevel-with_learnt blocks level rows number s h =
-    record {
-      stamps = h.stamps;
-      computed = length-set rows.computed number (touched_at rows number + 1) ∙ h.computed;
       kept = length-set rows.kept number s ∙ h.kept;
       covers = h.covers;
       edits = h.edits;
@@ -206,7 +147,6 @@ IsLevel-filled blocks more level rows n blank enough h =
     let long = length-lengthened rows.touched n 0 in
     record {
       stamps = length-lengthened rows.stamps n 0 ∙ ap (λ k. k + (n - k)) h.stamps ∙ sym long;
-      computed = length-lengthened rows.computed n 0 ∙ ap (λ k. k + (n - k)) h.computed ∙ sym long;
       kept = length-lengthened rows.kept n blank ∙ ap (λ k. k + (n - k)) h.kept ∙ sym long;
       covers = rw long (covers_more (length rows.touched) blocks more n (8 ^ level) enough h.covers);
       edits = All-append (λ edit. edit ≤ 16777215) rows.touched _ h.edits (All-replicate (λ edit. edit ≤ 16777215) _ 0 (omega arith));

@@ -1,7 +1,7 @@
 -- What a table says of a node, by the rows of its level.
-use Rattle.std.proofs.Common.{◌≡◌, ℕ, ◌+◌, ◌-◌, ◌*◌, ◌/◌, ◌^◌, ◌<◌, ◌≤◌, Bool, true, false, ◌&&◌, ◌||◌, cond, Some, None, length, get_or, nat_eq, slice_get, option_map, refl, sym, ap, ◌∙◌, inl, inr, arith}
+use Rattle.std.proofs.Common.{◌≡◌, ℕ, ◌+◌, ◌-◌, ◌*◌, ◌/◌, ◌^◌, ◌<◌, ◌≤◌, Bool, true, false, ◌&&◌, cond, Some, None, length, get_or, nat_eq, slice_get, option_map, refl, sym, ap, ◌∙◌, inl, inr, arith}
 use Rattle.std.specs.List.{slice_index_or}
-use Rattle.std.proofs.lemmas.Bool.{and_parts, cases_Bool, cases_eq, cases_lt, cond-false, cond-true, eq-eqb, eqb-true, leb-true, ne_eqb}
+use Rattle.std.proofs.lemmas.Bool.{and_parts, cases_eq, cases_lt, cond-false, cond-true, eq-eqb, eqb-true, leb-true, ne_eqb}
 use Rattle.std.proofs.lemmas.List.{get_or_past}
 use Rattle.std.proofs.lemmas.List.Elements.{All-get_or}
 use Rattle.std.proofs.lemmas.Nat.{div_below}
@@ -10,9 +10,9 @@ use Rattle.lv_geometry.specs.Nodes.{is_below, is_node}
 use Rattle.lv_geometry.proofs.NodeLaws.{level_of_node, number_below, some_width}
 use Rattle.lv_geometry.proofs.Ranges.{there_is}
 use Rattle.lv_summary.specs.Inner.{IsLevelOf, IsRowOf, IsSound}
-use Rattle.lv_summary.specs.Table.{Rows, Table, blocks_in, computed_in, entry_in, fresh_in, has_version, is_computed_in, kept_in, known_entry_in, known_in, no_rows, rows_for, touched_in, whole_in}
-use Rattle.lv_summary.proofs.TableLaws.{known_entry_in-computed, known_entry_in-fresh, node_of_whole}
-use Rattle.lv_summary.proofs.LevelLaws.{computed_at, kept_at, kept_by, kept_by-none, kept_by-some, touched_at}
+use Rattle.lv_summary.specs.Table.{Rows, Table, blocks_in, entry_in, fresh_in, has_version, kept_in, no_rows, rows_for, touched_in, whole_in}
+use Rattle.lv_summary.proofs.TableLaws.{node_of_whole}
+use Rattle.lv_summary.proofs.LevelLaws.{kept_at, kept_by, kept_by-none, kept_by-some, touched_at}
 
 -- the rows of a level
 abbrev pub rows_at : {S : Type 0} → Table S → ℕ → Rows S
@@ -46,16 +46,6 @@ pub kept_in-outside : {S : Type 0} (t : Table S) (n : Node) → is_node n ≡ fa
 unfolding kept_in
 kept_in-outside t n outside = cond-and_false (is_node n) _ _ _ outside
 
--- what was computed for a node of the table is what its row says
-pub computed_in-inside : {S : Type 0} (t : Table S) (n : Node) → is_node n ≡ true → computed_in t n ≡ computed_at (rows_for t n) n.number
-unfolding computed_in
-computed_in-inside t n inside = cond-and_true (is_node n) _ _ _ inside
-
--- nothing was computed for a node outside the table
-pub computed_in-outside : {S : Type 0} (t : Table S) (n : Node) → is_node n ≡ false → computed_in t n ≡ None
-unfolding computed_in
-computed_in-outside t n outside = cond-and_false (is_node n) _ _ _ outside
-
 -- there are as many blocks as rows of the first level
 pub blocks_in-rows : {S : Type 0} (t : Table S) → blocks_in t ≡ length (rows_at t 1).touched
 unfolding blocks_in
@@ -84,7 +74,6 @@ IsRowOf-whole t n sound whole =
       level = refl;
       touched = omega arith;
       stamps = omega (arith, even.stamps);
-      computed = omega (arith, even.computed);
       kept = omega (arith, even.kept);
       edit = All-get_or (λ edit. edit ≤ 16777215) (rows_for t n).touched n.number 0 (omega arith) even.edits;
     }
@@ -166,37 +155,3 @@ version-some t n rows of some =
     let kept = there_is (rows_for t n).kept n.number (inside_by_stamp (rows_for t n) n.number (omega arith) (even.kept ∙ sym even.stamps)) in
     ap (option_map (λ kept. kept.0)) (kept_in-inside t n of.member ∙ ap (kept_by (get_or (rows_for t n).stamps n.number 0)) kept.1 ∙ kept_by-some _ kept.0 (omega arith))
     ∙ ap (λ k. Some (k - 1)) (sym stamp)
-
--- a node that is whole was computed since its touch where its other stamp is one more than the edit that touched it
-is_computed_in-by_row : {S : Type 0} (t : Table S) (n : Node) → IsRowOf t n (rows_for t n) → is_computed_in t n ≡ nat_eq (get_or (rows_for t n).computed n.number 0) (get_or (rows_for t n).touched n.number 0 + 1)
-is_computed_in-by_row t n row =
-    let kept = there_is (rows_for t n).kept n.number row.kept in
-    let member = node_of_whole t n row.whole in
-    ap (λ whole. whole && has_version (touched_in t n) (computed_in t n)) row.whole
-    ∙ ap (has_version (touched_in t n)) (computed_in-inside t n member ∙ ap (kept_by (get_or (rows_for t n).computed n.number 0)) kept.1)
-    ∙ has_version-kept_by (touched_in t n) _ kept.0
-    ∙ ap (λ edit. nat_eq (get_or (rows_for t n).computed n.number 0) (edit + 1)) (touched_in-inside t n member)
-
--- a node that is whole is known by its two stamps
-pub known_in-rows : {S : Type 0} (t : Table S) (n : Node) (rows : Rows S) → IsRowOf t n rows → known_in t n ≡ (nat_eq (get_or rows.stamps n.number 0) (get_or rows.touched n.number 0 + 1) || nat_eq (get_or rows.computed n.number 0) (get_or rows.touched n.number 0 + 1))
-known_in-rows t n rows row =
-    ap (λ fresh. fresh || is_computed_in t n) (fresh_in-rows t n rows row)
-    ∙ ap (λ computed. nat_eq (get_or rows.stamps n.number 0) (get_or rows.touched n.number 0 + 1) || computed)
-    (is_computed_in-by_row t n (rw row.level at row) ∙ ap (λ r. nat_eq (get_or r.computed n.number 0) (get_or r.touched n.number 0 + 1)) (sym row.level))
-
--- the summary of a node that was computed since its touch is that in its row
-computed_entry_in-by_row : {S : Type 0} (t : Table S) (n : Node) → IsRowOf t n (rows_for t n) → is_computed_in t n ≡ true → (s : S) → slice_get (rows_for t n).kept n.number ≡ Some s → option_map (λ computed. computed.1) (computed_in t n) ≡ Some s
-computed_entry_in-by_row t n row computed s is =
-    let stamp = get_or (rows_for t n).computed n.number 0 in
-    let current : stamp ≡ get_or (rows_for t n).touched n.number 0 + 1 = eqb-true _ _ (sym (is_computed_in-by_row t n row) ∙ computed) in
-    ap (option_map (λ computed. computed.1)) (computed_in-inside t n (node_of_whole t n row.whole) ∙ ap (kept_by stamp) is ∙ kept_by-some stamp s (omega arith))
-
--- the summary of a known node is that in its row
-pub known_entry_in-rows : {S : Type 0} (t : Table S) (n : Node) (rows : Rows S) → IsRowOf t n rows → known_in t n ≡ true → (s : S) → slice_get rows.kept n.number ≡ Some s → known_entry_in t n ≡ Some s
-known_entry_in-rows t n rows row known s is =
-    elim (cases_Bool (fresh_in t n)) [
-      | inl fresh ↦ known_entry_in-fresh t n fresh ∙ entry_in-rows t n rows row fresh s is
-      | inr stale ↦
-          let computed : is_computed_in t n ≡ true = sym (ap (λ fresh. fresh || is_computed_in t n) stale) ∙ known in
-          known_entry_in-computed t n stale computed ∙ computed_entry_in-by_row t n (rw row.level at row) computed s (rw row.level at is)
-    ]

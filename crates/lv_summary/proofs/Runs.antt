@@ -8,13 +8,12 @@ use Rattle.lv_geometry.specs.declared.nodes.Node.{Node}
 use Rattle.lv_geometry.specs.Levels.{thing_at}
 use Rattle.lv_geometry.specs.Nodes.{is_node}
 use Rattle.lv_geometry.proofs.NodeLaws.{at_each_level, level_of_node, node_of_level}
-use Rattle.lv_geometry.proofs.Ranges.{there_is}
 use Rattle.lv_summary.specs.Inner.{IsLevel, IsSound, KeepsRows, LevelState, table_of}
-use Rattle.lv_summary.specs.Changes.{KeepsRun, beside, is_in_run}
-use Rattle.lv_summary.specs.Table.{Rows, Table, blocks_in, computed_in, kept_in, touched_in}
+use Rattle.lv_summary.specs.Changes.{KeepsRun, is_in_run}
+use Rattle.lv_summary.specs.Table.{Rows, Table, blocks_in, kept_in, touched_in}
 use Rattle.lv_summary.proofs.Changes.{HasRowsChanged, IsSound-by_rows}
-use Rattle.lv_summary.proofs.LevelLaws.{computed_at, kept_at, kept_by, kept_by-beside, kept_by-some, touched_at}
-use Rattle.lv_summary.proofs.NodeRows.{blocks_in-rows, computed_in-inside, computed_in-outside, kept_in-inside, kept_in-outside, rows_at, touched_in-inside, touched_in-outside}
+use Rattle.lv_summary.proofs.LevelLaws.{kept_at, kept_by, kept_by-some, touched_at}
+use Rattle.lv_summary.proofs.NodeRows.{blocks_in-rows, kept_in-inside, kept_in-outside, rows_at, touched_in-inside, touched_in-outside}
 
 -- the rows of a level of six, as a table and as a thing
 pub rows_at-thing : {S : Type 0} (size : ℕ) (of : Levels (LevelState S)) (level : ℕ) → 1 ≤ level → level ≤ 6 → rows_at (table_of size of) level ≡ (thing_at of level).rows
@@ -39,7 +38,6 @@ IsLevel-run blocks level old new first summaries keeps h =
     let long : length new.touched ≡ length old.touched = ap length keeps.touched in
     record {
       stamps = keeps.stamps.long ∙ h.stamps ∙ sym long;
-      computed = ap length keeps.computed ∙ h.computed ∙ sym long;
       kept = keeps.kept.long ∙ h.kept ∙ sym long;
       covers = rw long h.covers;
       edits = rw keeps.touched h.edits;
@@ -99,24 +97,6 @@ module _ {S : Type 0} (old new : Table S) (level first : ℕ) (rows : Rows S) (s
       ∙ ap (λ v. Some (v, s)) back
       ∙ ap (λ v. Some (v, s)) (sym (touched_in-inside old n member))
 
-  -- and stands beside the version that was computed there
-  run_computed : (k : ℕ) (s : S) → slice_get summaries k ≡ Some s → computed_in new (record { level = level; number = first + k }) ≡ beside s (computed_in old (record { level = level; number = first + k }))
-  run_computed k s is =
-      let n : Node = record { level = level; number = first + k } in
-      let member : is_node n ≡ true = node_of_level n low high in
-      let small : k < length summaries = slice_get_within summaries k s is in
-      let there : slice_get rows.kept (first + k) ≡ Some s = keeps.kept.item_is k small ∙ is in
-      let inside : first + k < length (rows_at old level).kept = omega (arith, slice_get_within rows.kept (first + k) s there, keeps.kept.long) in
-      let before = there_is (rows_at old level).kept (first + k) inside in
-      let stamp : ℕ = get_or (rows_at old level).computed (first + k) 0 in
-      computed_in-inside new n member
-      ∙ ap (λ r. computed_at r (first + k)) rows_there
-      ∙ ap (λ stamps. kept_by (get_or stamps (first + k) 0) (slice_get rows.kept (first + k))) keeps.computed
-      ∙ ap (kept_by stamp) there
-      ∙ kept_by-beside stamp s before.0
-      ∙ ap (λ t. beside s (kept_by stamp t)) (sym before.1)
-      ∙ ap (beside s) (sym (computed_in-inside old n member))
-
   -- another number of the level is none of those of the run
   none_of_run : (n : Node) → is_in_run level first (length summaries) n ≡ false → nat_eq n.level level ≡ true → (nat_le first n.number && nat_lt n.number (first + length summaries)) ≡ false
   none_of_run n outside same = sym (ap (λ b. b && nat_le first n.number && nat_lt n.number (first + length summaries)) same) ∙ outside
@@ -140,25 +120,6 @@ module _ {S : Type 0} (old new : Table S) (level first : ℕ) (rows : Rows S) (s
         | inr stranger ↦ kept_in-outside new n stranger ∙ sym (kept_in-outside old n stranger)
       ]
 
-  -- and what was computed for them
-  run_others_computed : (n : Node) → is_in_run level first (length summaries) n ≡ false → computed_in new n ≡ computed_in old n
-  run_others_computed n outside =
-      elim (cases_Bool (is_node n)) [
-        | inl member ↦
-            let is = level_of_node n member in
-            computed_in-inside new n member
-            ∙ ap (λ r. computed_at r n.number) (changed n.level is.0 is.1)
-            ∙ cond_both (nat_eq n.level level) _ _ (λ (r : Rows S). computed_at r n.number ≡ computed_at (rows_at old n.level) n.number)
-            (λ same.
-            let none = none_of_run n outside same in
-            ap (λ stamps. kept_by (get_or stamps n.number 0) (slice_get rows.kept n.number)) keeps.computed
-            ∙ ap (kept_by (get_or (rows_at old level).computed n.number 0)) (keeps.kept.others n.number none)
-            ∙ ap (λ level. computed_at (rows_at old level) n.number) (sym (eqb-true n.level level same)))
-            (λ other. refl)
-            ∙ sym (computed_in-inside old n member)
-        | inr stranger ↦ computed_in-outside new n stranger ∙ sym (computed_in-outside old n stranger)
-      ]
-
   -- so the summaries are kept for those nodes, and nothing else has changed
   pub KeepsRun-by_rows : new.size ≡ old.size → KeepsRun old new level first summaries
   KeepsRun-by_rows size =
@@ -167,7 +128,5 @@ module _ {S : Type 0} (old new : Table S) (level first : ℕ) (rows : Rows S) (s
         blocks = blocks_same;
         touched = run_touched;
         kept = run_kept;
-        computed = run_computed;
         others_kept = run_others_kept;
-        others_computed = run_others_computed;
       }

@@ -1,12 +1,12 @@
 -- What each change of a table makes of its answers, for the crates above.
-use Rattle.std.proofs.Common.{◌≡◌, ℕ, Bool, true, false, ◌&&◌, ◌||◌, ◌⊎◌, cond, Option, Some, None, option_map, nat_eq, refl, sym, ap, ◌∙◌, inl, inr}
-use Rattle.std.proofs.lemmas.Bool.{and_from, and_parts, and_right, cases_Bool, cond-false, cond-true, eq-eqb, eqb-true, false≢true, or_parts}
+use Rattle.std.proofs.Common.{◌≡◌, ℕ, Bool, true, false, ◌&&◌, cond, Option, Some, None, option_map, nat_eq, refl, sym, ap, ◌∙◌, inl, inr}
+use Rattle.std.proofs.lemmas.Bool.{and_from, and_parts, and_right, cases_Bool, cond-false, cond-true, eq-eqb, eqb-true, false≢true}
 use Rattle.std.proofs.lemmas.Option.{none-some, same_Some}
 use Rattle.lv_geometry.specs.declared.nodes.Node.{Node}
 use Rattle.lv_geometry.specs.Nodes.{covers, is_below, is_node, same_node}
 use Rattle.lv_summary.specs.declared.accepted.Accepted.TheVariants.{Held, Installed, Stale}
 use Rattle.lv_summary.specs.Changes.{AnswersAlike, HasSize, Keeps, Touches}
-use Rattle.lv_summary.specs.Table.{Table, computed_entry_in, computed_in, delivery_in, entry_in, fresh_in, has_version, is_computed_in, kept_in, known_entry_in, known_in, touched_in, whole_in}
+use Rattle.lv_summary.specs.Table.{Table, delivery_in, entry_in, fresh_in, has_version, kept_in, touched_in, whole_in}
 
 -- a node is itself
 pub same_node-self : (n : Node) → same_node n n ≡ true
@@ -40,39 +40,11 @@ module _ {S : Type 0} where
       ap (λ f. cond f (option_map (λ kept. kept.1) (kept_in new n)) None) fresh
       ∙ ap (λ k. cond (fresh_in old n) (option_map (λ kept. kept.1) k) None) kept
 
-  -- a node was computed in both of two tables, or in neither, where they say the same of it
-  is_computed_in-same : (old new : Table S) (n : Node) → whole_in new n ≡ whole_in old n → touched_in new n ≡ touched_in old n → computed_in new n ≡ computed_in old n → is_computed_in new n ≡ is_computed_in old n
-  is_computed_in-same old new n whole touched computed =
-      ap (λ w. w && has_version (touched_in new n) (computed_in new n)) whole
-      ∙ ap (λ edit. whole_in old n && has_version edit (computed_in new n)) touched
-      ∙ ap (λ k. whole_in old n && has_version (touched_in old n) k) computed
-
-  -- two tables know the same of a node of which they say the same
-  pub known_entry_in-same : (old new : Table S) (n : Node) → whole_in new n ≡ whole_in old n → touched_in new n ≡ touched_in old n → kept_in new n ≡ kept_in old n → computed_in new n ≡ computed_in old n → (known_in new n ≡ known_in old n) × (known_entry_in new n ≡ known_entry_in old n)
-  known_entry_in-same old new n whole touched kept computed =
+  -- a node of which two tables say the same is as fresh in both, and has the same summary
+  pub entry_stays : (old new : Table S) (n : Node) → whole_in new n ≡ whole_in old n → touched_in new n ≡ touched_in old n → kept_in new n ≡ kept_in old n → (fresh_in new n ≡ fresh_in old n) × (entry_in new n ≡ entry_in old n)
+  entry_stays old new n whole touched kept =
       let fresh = fresh_in-same old new n whole touched kept in
-      let entry = entry_in-same old new n fresh kept in
-      let is_computed = is_computed_in-same old new n whole touched computed in (
-        ap (λ f. f || is_computed_in new n) fresh ∙ ap (λ c. fresh_in old n || c) is_computed,
-        ap (λ f. cond f (entry_in new n) (computed_entry_in new n)) fresh
-            ∙ ap (λ e. cond (fresh_in old n) e (computed_entry_in new n)) entry
-            ∙ ap (λ c. cond (fresh_in old n) (entry_in old n) (cond c (option_map (λ computed. computed.1) (computed_in new n)) None)) is_computed
-            ∙ ap (λ k. cond (fresh_in old n) (entry_in old n) (cond (is_computed_in old n) (option_map (λ computed. computed.1) k) None)) computed,
-      )
-
-  -- a fresh node is known by its summary
-  pub known_entry_in-fresh : (t : Table S) (n : Node) → fresh_in t n ≡ true → known_entry_in t n ≡ entry_in t n
-  known_entry_in-fresh t n fresh = cond-true (fresh_in t n) _ _ fresh
-
-  -- a node that isn't is known by what was computed
-  pub known_entry_in-computed : (t : Table S) (n : Node) → fresh_in t n ≡ false → is_computed_in t n ≡ true → known_entry_in t n ≡ option_map (λ computed. computed.1) (computed_in t n)
-  known_entry_in-computed t n stale computed = cond-false (fresh_in t n) _ _ stale ∙ cond-true (is_computed_in t n) _ _ computed
-
-  -- an unknown node has no summary
-  pub known_entry_in-unknown : (t : Table S) (n : Node) → known_in t n ≡ false → known_entry_in t n ≡ None
-  known_entry_in-unknown t n unknown =
-      let parts = or_parts (fresh_in t n) (is_computed_in t n) unknown in
-      cond-false (fresh_in t n) _ _ parts.0 ∙ cond-false (is_computed_in t n) _ _ parts.1
+      (fresh, entry_in-same old new n fresh kept)
 
   -- a summary that is delivered for a whole node, of the version that it was touched by last, is held where the node is fresh, and else installed
   pub delivery_in-current : (t : Table S) (n : Node) (v : ℕ) → whole_in t n ≡ true → touched_in t n ≡ v → delivery_in t n v ≡ cond (fresh_in t n) Held Installed
@@ -83,7 +55,7 @@ module _ {S : Type 0} where
 
   -- a table answers like itself
   pub AnswersAlike-self : (t : Table S) → AnswersAlike t t
-  AnswersAlike-self t = record { size = refl; touched = λ n. refl; kept = λ n. refl; computed = λ n. refl }
+  AnswersAlike-self t = record { size = refl; touched = λ n. refl; kept = λ n. refl }
 
   -- a table that answers like one that answers like a third answers like the third
   pub AnswersAlike-along : (t u v : Table S) → AnswersAlike t u → AnswersAlike u v → AnswersAlike t v
@@ -92,7 +64,6 @@ module _ {S : Type 0} where
         size = then.size ∙ first.size;
         touched = λ n. then.touched n ∙ first.touched n;
         kept = λ n. then.kept n ∙ first.kept n;
-        computed = λ n. then.computed n ∙ first.computed n;
       }
 
   -- tables that answer alike have the same whole nodes
@@ -123,9 +94,7 @@ module _ {S : Type 0} where
 
   -- a node that is whole before and after keeps its answer
   pub entry_in-size : (old new : Table S) (size : ℕ) → HasSize old new size → (n : Node) → whole_in new n ≡ whole_in old n → (fresh_in new n ≡ fresh_in old n) × (entry_in new n ≡ entry_in old n)
-  entry_in-size old new size sized n whole =
-      let fresh = fresh_in-same old new n whole (sized.touched n) (sized.kept n) in
-      (fresh, entry_in-same old new n fresh (sized.kept n))
+  entry_in-size old new size sized n whole = entry_stays old new n whole (sized.touched n) (sized.kept n)
 
   -- an edit leaves the edit of a node that has not its index
   pub touched_in-untouched : (old new : Table S) (i edit : ℕ) → Touches old new i edit → (n : Node) → covers n i ≡ false → touched_in new n ≡ touched_in old n
@@ -206,6 +175,13 @@ module _ {S : Type 0} where
   pub whole_of_fresh : (t : Table S) (n : Node) → fresh_in t n ≡ true → whole_in t n ≡ true
   whole_of_fresh t n fresh = (and_parts (whole_in t n) (has_version (touched_in t n) (kept_in t n)) fresh).0
 
+  -- a node with a summary is whole, and the summary is kept at the edit that touched it last
+  pub entry_parts : (t : Table S) (n : Node) (s : S) → entry_in t n ≡ Some s → (whole_in t n ≡ true) × (kept_in t n ≡ Some (touched_in t n, s))
+  entry_parts t n s is =
+      let fresh = fresh_of_entry t n s is in
+      let kept = entry_of_fresh t n fresh in
+      (whole_of_fresh t n fresh, kept.2 ∙ ap (λ s. Some (touched_in t n, s)) (same_Some _ _ (sym kept.1 ∙ is)))
+
   -- a node that is whole is one of the table
   pub node_of_whole : (t : Table S) (n : Node) → whole_in t n ≡ true → is_node n ≡ true
   node_of_whole t n whole = (and_parts (is_node n) (is_below n t.size) whole).0
@@ -235,50 +211,4 @@ module _ {S : Type 0} where
               | inr lacks ↦ let installed : Installed ≡ Held = sym (cond-true _ _ _ test ∙ cond-false _ _ _ lacks) ∙ is in cc
             ]
         | inr fails ↦ let stale : Stale (touched_in t n) ≡ Held = sym (cond-false _ _ _ fails) ∙ is in cc
-      ]
-
-  -- what was computed has a summary
-  computed_parts : (t : Table S) (n : Node) → is_computed_in t n ≡ true → (s : S) × (computed_in t n ≡ Some (touched_in t n, s))
-  computed_parts t n computed = has_version_kept (touched_in t n) (computed_in t n) (and_parts (whole_in t n) _ computed).1
-
-  -- a known node has a summary
-  pub entry_of_known : (t : Table S) (n : Node) → known_in t n ≡ true → (s : S) × (known_entry_in t n ≡ Some s)
-  entry_of_known t n known =
-      elim (cases_Bool (fresh_in t n)) [
-        | inl fresh ↦ let entry = entry_of_fresh t n fresh in (entry.0, known_entry_in-fresh t n fresh ∙ entry.1)
-        | inr stale ↦
-            let computed : is_computed_in t n ≡ true = sym (ap (λ fresh. fresh || is_computed_in t n) stale) ∙ known in
-            let summary = computed_parts t n computed in
-            (summary.0, known_entry_in-computed t n stale computed ∙ ap (option_map (λ computed. computed.1)) summary.1)
-      ]
-
-  -- a node with a summary is known
-  pub known_of_entry : (t : Table S) (n : Node) (s : S) → known_entry_in t n ≡ Some s → known_in t n ≡ true
-  known_of_entry t n s is =
-      elim (cases_Bool (known_in t n)) [
-        | inl known ↦ known
-        | inr unknown ↦ absurd (none-some s (sym (known_entry_in-unknown t n unknown) ∙ is))
-      ]
-
-  -- a node without one is not
-  pub unknown_of_none : (t : Table S) (n : Node) → known_entry_in t n ≡ None → known_in t n ≡ false
-  unknown_of_none t n none =
-      elim (cases_Bool (known_in t n)) [
-        | inl known ↦ let found = entry_of_known t n known in absurd (none-some found.0 (sym none ∙ found.1))
-        | inr unknown ↦ unknown
-      ]
-
-  -- a known node is whole, and its summary was delivered or computed at the number of the edit that touched it last
-  pub known_parts : (t : Table S) (n : Node) (s : S) → known_entry_in t n ≡ Some s → (whole_in t n ≡ true) × ((kept_in t n ≡ Some (touched_in t n, s)) ⊎ (computed_in t n ≡ Some (touched_in t n, s)))
-  known_parts t n s is =
-      elim (cases_Bool (fresh_in t n)) [
-        | inl fresh ↦
-            let kept = entry_of_fresh t n fresh in
-            let same : kept.0 ≡ s = same_Some _ _ (sym kept.1 ∙ sym (known_entry_in-fresh t n fresh) ∙ is) in
-            (whole_of_fresh t n fresh, inl (kept.2 ∙ ap (λ s. Some (touched_in t n, s)) same))
-        | inr stale ↦
-            let computed : is_computed_in t n ≡ true = sym (ap (λ fresh. fresh || is_computed_in t n) stale) ∙ known_of_entry t n s is in
-            let summary = computed_parts t n computed in
-            let same : summary.0 ≡ s = same_Some _ _ (sym (known_entry_in-computed t n stale computed ∙ ap (option_map (λ computed. computed.1)) summary.1) ∙ is) in
-            ((and_parts (whole_in t n) _ computed).0, inr (summary.1 ∙ ap (λ s. Some (touched_in t n, s)) same))
       ]

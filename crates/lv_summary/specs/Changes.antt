@@ -1,18 +1,17 @@
 -- What the calls of a table of summaries change, node by node.
-use Rattle.std.specs.Prelude.{◌≡◌, ℕ, ◌+◌, Bool, true, false, ◌&&◌, Option, Some, option_map, List, length, slice_get, nat_eq, nat_le, nat_lt, if◌then◌else◌}
+use Rattle.std.specs.Prelude.{◌≡◌, ℕ, ◌+◌, Bool, false, ◌&&◌, Some, List, length, slice_get, nat_eq, nat_le, nat_lt, if◌then◌else◌}
 use Rattle.std.specs.List.{list_any}
 use Rattle.lv_geometry.specs.declared.nodes.Node.{Node}
 use Rattle.lv_geometry.specs.Nodes.{covers, is_node, same_node}
 use Rattle.lv_summary.specs.declared.accepted.Accepted.{Accepted}
 use Rattle.lv_summary.specs.declared.accepted.Accepted.TheVariants.{Installed, Held, Stale}
-use Rattle.lv_summary.specs.Table.{Table, blocks_in, computed_in, entry_in, fresh_in, kept_in, known_in, touched_in}
+use Rattle.lv_summary.specs.Table.{Table, blocks_in, kept_in, touched_in}
 
 -- whether two tables answer alike for every node, whatever rows they have room for
 pub record AnswersAlike {S : Type 0} (old new : Table S) : Type 0 where
   pub size : new.size ≡ old.size
   pub touched : (n : Node) → touched_in new n ≡ touched_in old n
   pub kept : (n : Node) → kept_in new n ≡ kept_in old n
-  pub computed : (n : Node) → computed_in new n ≡ computed_in old n
 
 -- the vector has another size, and nothing else has changed
 pub record HasSize {S : Type 0} (old new : Table S) (size : ℕ) : Type 0 where
@@ -20,7 +19,6 @@ pub record HasSize {S : Type 0} (old new : Table S) (size : ℕ) : Type 0 where
   pub blocks : blocks_in new ≡ blocks_in old
   pub touched : (n : Node) → touched_in new n ≡ touched_in old n
   pub kept : (n : Node) → kept_in new n ≡ kept_in old n
-  pub computed : (n : Node) → computed_in new n ≡ computed_in old n
 
 -- edit `edit` touched every node that has index i, and nothing else has changed
 pub record Touches {S : Type 0} (old new : Table S) (i edit : ℕ) : Type 0 where
@@ -28,7 +26,6 @@ pub record Touches {S : Type 0} (old new : Table S) (i edit : ℕ) : Type 0 wher
   pub blocks : blocks_in new ≡ blocks_in old
   pub touched : (n : Node) → touched_in new n ≡ (if is_node n && covers n i then edit else touched_in old n)
   pub kept : (n : Node) → kept_in new n ≡ kept_in old n
-  pub computed : (n : Node) → computed_in new n ≡ computed_in old n
 
 -- edit `edit` touched every node that has one of some indices, and nothing else has changed
 pub record TouchesEach {S : Type 0} (old new : Table S) (indices : List ℕ) (edit : ℕ) : Type 0 where
@@ -36,11 +33,6 @@ pub record TouchesEach {S : Type 0} (old new : Table S) (indices : List ℕ) (ed
   pub blocks : blocks_in new ≡ blocks_in old
   pub touched : (n : Node) → touched_in new n ≡ (if is_node n && list_any (covers n) indices then edit else touched_in old n)
   pub kept : (n : Node) → kept_in new n ≡ kept_in old n
-  pub computed : (n : Node) → computed_in new n ≡ computed_in old n
-
--- a version, if there is one, beside another summary
-abbrev pub beside : {S : Type 0} → S → Option (ℕ × S) → Option (ℕ × S)
-beside s kept = option_map (λ kept. (kept.0, s)) kept
 
 -- a summary of this version was put in place of what was kept for a node, and nothing else has changed
 pub record Keeps {S : Type 0} (old new : Table S) (node : Node) (version : ℕ) (s : S) : Type 0 where
@@ -48,16 +40,6 @@ pub record Keeps {S : Type 0} (old new : Table S) (node : Node) (version : ℕ) 
   pub blocks : blocks_in new ≡ blocks_in old
   pub touched : (n : Node) → touched_in new n ≡ touched_in old n
   pub kept : (n : Node) → kept_in new n ≡ (if same_node n node then Some (version, s) else kept_in old n)
-  pub computed : (n : Node) → computed_in new n ≡ (if same_node n node then beside s (computed_in old n) else computed_in old n)
-
--- a summary that who asks computed at a node's touched number was put in place of what lay there; what was delivered keeps its
--- version, and nothing else has changed
-pub record Learns {S : Type 0} (old new : Table S) (node : Node) (s : S) : Type 0 where
-  pub size : new.size ≡ old.size
-  pub blocks : blocks_in new ≡ blocks_in old
-  pub touched : (n : Node) → touched_in new n ≡ touched_in old n
-  pub computed : (n : Node) → computed_in new n ≡ (if same_node n node then Some (touched_in old node, s) else computed_in old n)
-  pub kept : (n : Node) → kept_in new n ≡ (if same_node n node then beside s (kept_in old n) else kept_in old n)
 
 -- whether a node is one of so many of a level side by side, from one on
 abbrev pub is_in_run : ℕ → ℕ → ℕ → Node → Bool
@@ -71,20 +53,7 @@ pub record KeepsRun {S : Type 0} (old new : Table S) (level first : ℕ) (summar
   pub touched : (n : Node) → touched_in new n ≡ touched_in old n
   pub kept : (k : ℕ) (s : S) → slice_get summaries k ≡ Some s →
       kept_in new (record { level = level; number = first + k }) ≡ Some (touched_in old (record { level = level; number = first + k }), s)
-  pub computed : (k : ℕ) (s : S) → slice_get summaries k ≡ Some s →
-      computed_in new (record { level = level; number = first + k }) ≡ beside s (computed_in old (record { level = level; number = first + k }))
   pub others_kept : (n : Node) → is_in_run level first (length summaries) n ≡ false → kept_in new n ≡ kept_in old n
-  pub others_computed : (n : Node) → is_in_run level first (length summaries) n ≡ false → computed_in new n ≡ computed_in old n
-
--- a table learnt some summaries, if any: all that was delivered is as before, and what was known still is
-pub record OnlyLearns {S : Type 0} (old new : Table S) : Type 0 where
-  pub size : new.size ≡ old.size
-  pub blocks : blocks_in new ≡ blocks_in old
-  pub touched : (n : Node) → touched_in new n ≡ touched_in old n
-  pub versions : (n : Node) → option_map (λ kept. kept.0) (kept_in new n) ≡ option_map (λ kept. kept.0) (kept_in old n)
-  pub fresh : (n : Node) → fresh_in new n ≡ fresh_in old n
-  pub entries : (n : Node) → entry_in new n ≡ entry_in old n
-  pub known : (n : Node) → known_in old n ≡ true → known_in new n ≡ true
 
 -- an outcome changes the table only where it is installed
 abbrev pub AfterDelivery : {S : Type 0} → Table S → Table S → Node → ℕ → S → Accepted → Type 0

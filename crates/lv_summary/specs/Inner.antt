@@ -83,7 +83,6 @@ filled rows n blank =
     record {
       touched = lengthened rows.touched n 0;
       stamps = lengthened rows.stamps n 0;
-      computed = lengthened rows.computed n 0;
       kept = lengthened rows.kept n blank;
     }
 
@@ -109,15 +108,9 @@ abbrev pub with_kept : {S : Type 0} → Rows S → ℕ → ℕ → S → Rows S
 with_kept rows number version s =
     record rows { stamps = slice_set rows.stamps number (version + 1); kept = slice_set rows.kept number s }
 
--- rows with a summary for the node of a number that was computed at its touched number
-abbrev pub with_learnt : {S : Type 0} → Rows S → ℕ → S → Rows S
-with_learnt rows number s =
-    record rows { computed = slice_set rows.computed number (slice_index rows.touched number + 1); kept = slice_set rows.kept number s }
-
 -- rows with summaries of their nodes' touched numbers for nodes side by side, from one on; all else is as before
 pub record KeepsRows {S : Type 0} (old new : Rows S) (first : ℕ) (summaries : List S) : Type 0 where
   pub touched : new.touched ≡ old.touched
-  pub computed : new.computed ≡ old.computed
   pub kept : HasPart old.kept new.kept first summaries
   pub stamps : HasItems old.stamps new.stamps first (length summaries) (λ k. Some (slice_index old.touched (first + k) + 1))
 
@@ -129,10 +122,9 @@ table_of size of =
       levels = of.level_1.rows ∷ of.level_2.rows ∷ of.level_3.rows ∷ of.level_4.rows ∷ of.level_5.rows ∷ of.level_6.rows ∷ [];
     }
 
--- a row of a level has its four parts, every index of the blocks has its row, and no edit is past the last that is possible
+-- a row of a level has its three parts, every index of the blocks has its row, and no edit is past the last that is possible
 pub record IsLevel {S : Type 0} (blocks level : ℕ) (rows : Rows S) : Type 0 where
   pub stamps : length rows.stamps ≡ length rows.touched
-  pub computed : length rows.computed ≡ length rows.touched
   pub kept : length rows.kept ≡ length rows.touched
   pub covers : 8 * blocks ≤ length rows.touched * 8 ^ level
   pub edits : All (λ edit. edit ≤ 16777215) rows.touched
@@ -155,6 +147,5 @@ pub record IsRowOf {S : Type 0} (t : Table S) (n : Node) (rows : Rows S) : Type 
   pub level : rows ≡ rows_for t n
   pub touched : n.number < length rows.touched
   pub stamps : n.number < length rows.stamps
-  pub computed : n.number < length rows.computed
   pub kept : n.number < length rows.kept
   pub edit : slice_index rows.touched n.number ≤ 16777215

@@ -1,6 +1,5 @@
--- A table of summaries, node by node: by which edit each was touched last, and which summary is kept for it, delivered or
--- computed by who asked.
-use Rattle.std.specs.Prelude.{ℕ, ◌-◌, Bool, false, ◌&&◌, ◌||◌, Option, Some, None, option_map, List, [], slice_get, slice_index, nat_eq, nat_lt, length, if◌then◌else◌}
+-- A table of summaries, node by node: by which edit each was touched last, and which summary is kept for it.
+use Rattle.std.specs.Prelude.{ℕ, ◌-◌, Bool, false, ◌&&◌, Option, Some, None, option_map, List, [], slice_get, slice_index, nat_eq, nat_lt, length, if◌then◌else◌}
 use Rattle.std.specs.List.{slice_index_or}
 use Rattle.lv_geometry.specs.declared.nodes.Node.{Node}
 use Rattle.lv_geometry.specs.Nodes.{is_below, is_node}
@@ -8,12 +7,10 @@ use Rattle.lv_summary.specs.declared.accepted.Accepted.{Accepted}
 use Rattle.lv_summary.specs.declared.accepted.Accepted.TheVariants.{Installed, Held, Stale}
 
 -- the rows of one level, by the node's number: the edit that touched it last, one more than the version of the
--- summary that was delivered for it (0 where none was), one more than the version at which who asks computed it, and the
--- summary that lies there
+-- summary that was delivered for it (0 where none was), and the summary that lies there
 pub record Rows (S : Type 0) : Type 0 where
   pub touched : List ℕ
   pub stamps : List ℕ
-  pub computed : List ℕ
   pub kept : List S
 
 -- the rows of the six levels, from the lowest, and the size of the vector
@@ -23,7 +20,7 @@ pub record Table (S : Type 0) : Type 0 where
 
 -- a level that has no rows
 abbrev pub no_rows : {S : Type 0} → Rows S
-no_rows = record { touched = []; stamps = []; computed = []; kept = [] }
+no_rows = record { touched = []; stamps = []; kept = [] }
 
 -- the rows of a node's level
 abbrev pub rows_for : {S : Type 0} → Table S → Node → Rows S
@@ -37,12 +34,6 @@ touched_in t n = if is_node n then slice_index (rows_for t n).touched n.number e
 unfoldable pub kept_in : {S : Type 0} → Table S → Node → Option (ℕ × S)
 kept_in t n =
     let stamp = slice_index (rows_for t n).stamps n.number in
-    if is_node n && nat_lt 0 stamp then option_map (λ s. (stamp - 1, s)) (slice_get (rows_for t n).kept n.number) else None
-
--- the version at which who asks computed a node's summary, if any, with the summary that lies in its row
-unfoldable pub computed_in : {S : Type 0} → Table S → Node → Option (ℕ × S)
-computed_in t n =
-    let stamp = slice_index (rows_for t n).computed n.number in
     if is_node n && nat_lt 0 stamp then option_map (λ s. (stamp - 1, s)) (slice_get (rows_for t n).kept n.number) else None
 
 -- whether a node is whole: of a level that is kept, with every index below the size
@@ -61,22 +52,6 @@ fresh_in t n = whole_in t n && has_version (touched_in t n) (kept_in t n)
 -- the summary of a fresh node
 abbrev pub entry_in : {S : Type 0} → Table S → Node → Option S
 entry_in t n = if fresh_in t n then option_map (λ kept. kept.1) (kept_in t n) else None
-
--- whether a node is whole, and its summary was computed at the number of the last edit that touched it
-abbrev pub is_computed_in : {S : Type 0} → Table S → Node → Bool
-is_computed_in t n = whole_in t n && has_version (touched_in t n) (computed_in t n)
-
--- whether a node is known: it is fresh, or computed
-abbrev pub known_in : {S : Type 0} → Table S → Node → Bool
-known_in t n = fresh_in t n || is_computed_in t n
-
--- the summary of a node that was computed
-abbrev pub computed_entry_in : {S : Type 0} → Table S → Node → Option S
-computed_entry_in t n = if is_computed_in t n then option_map (λ computed. computed.1) (computed_in t n) else None
-
--- the summary of a known node
-abbrev pub known_entry_in : {S : Type 0} → Table S → Node → Option S
-known_entry_in t n = if fresh_in t n then entry_in t n else computed_entry_in t n
 
 -- how many blocks the table has rows for
 unfoldable pub blocks_in : {S : Type 0} → Table S → ℕ

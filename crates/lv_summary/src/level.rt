@@ -1,10 +1,9 @@
 //! The rows of one level: which edit touched a node, and what is kept for it.
-ghost use Rattle.std.specs.Prelude.{◌≡◌, ℕ, ◌+◌, ◌-◌, ◌%◌, ◌<◌, ◌≤◌, ◌++◌, ◌==◌, ◌||◌, length, replicate, true, false, slice_index, slice_get, Some, OnOk, IfErr, IfSome, IfNone, vec_len, vec_capacity};
+ghost use Rattle.std.specs.Prelude.{◌≡◌, ℕ, ◌+◌, ◌-◌, ◌%◌, ◌<◌, ◌≤◌, ◌++◌, ◌==◌, length, replicate, true, false, slice_index, slice_get, Some, OnOk, IfErr, IfSome, IfNone, vec_len, vec_capacity};
 ghost use Rattle.std.specs.List.{list_all, range_with_len};
-ghost use Rattle.lv_summary.specs.Inner.{AreEight, HasItems, HasPart, KeepsRows, filled, with_kept, with_learnt, with_touch};
+ghost use Rattle.lv_summary.specs.Inner.{AreEight, HasItems, HasPart, KeepsRows, filled, with_kept, with_touch};
 ghost use Rattle.lv_summary.specs.Table.{no_rows};
 
-use crate::late_numbers::LateNumbers;
 use crate::late_rows::LateRows;
 use lv_geometry::Refusal;
 use std::alloc::Global;
@@ -15,7 +14,6 @@ use std::marker::Model;
 pub struct Level<S> {
     touched: Vec<u32>,
     stamps: Vec<u32>,
-    computed: LateNumbers,
     kept: LateRows<S>,
 }
 
@@ -25,7 +23,7 @@ impl<S> Model for Level<S> {
 
     ghost Value = { LevelState S };
 
-    ghost view = { λ a. record { rows = record { touched = a.touched.items; stamps = a.stamps.items; computed = a.computed.items; kept = a.kept.items }; capacity = min (min (vec_capacity a.touched) (vec_capacity a.stamps)) (min a.computed.capacity a.kept.capacity); blank = a.kept.blank } };
+    ghost view = { λ a. record { rows = record { touched = a.touched.items; stamps = a.stamps.items; kept = a.kept.items }; capacity = min (min (vec_capacity a.touched) (vec_capacity a.stamps)) a.kept.capacity; blank = a.kept.blank } };
 }
 
 impl<S: Copy> Level<S> {
@@ -37,7 +35,6 @@ impl<S: Copy> Level<S> {
         Level {
             touched: Vec::new(alloc),
             stamps: Vec::new(alloc),
-            computed: LateNumbers::new(alloc),
             kept: LateRows::new(alloc, blank),
         }
     }
@@ -59,7 +56,6 @@ impl<S: Copy> Level<S> {
         let rows = rows as usize;
         if make_room(&mut self.touched, rows)
             && make_room(&mut self.stamps, rows)
-            && self.computed.reserve(rows)
             && self.kept.reserve(rows)
         {
             Ok(())
@@ -75,7 +71,6 @@ impl<S: Copy> Level<S> {
     {
         lengthen(&mut self.touched, rows as usize, 0);
         lengthen(&mut self.stamps, rows as usize, 0);
-        self.computed.fill(rows as usize);
         self.kept.fill(rows as usize);
     }
 
@@ -114,21 +109,6 @@ impl<S: Copy> Level<S> {
     {
         let number = number as usize;
         self.stamps[number] == self.touched[number] + 1
-    }
-
-    /// Whether what was delivered for a node, or computed by who asks, has the number of the edit that touched it last.
-    #[inline(always)]
-    pub fn is_known(&self, number: u32) -> bool
-        requires touched { number < length self.now.rows.touched }
-        requires stamps { number < length self.now.rows.stamps }
-        requires computed { number < length self.now.rows.computed }
-        requires edit { slice_index self.now.rows.touched number ≤ 16777215 }
-        ensures { result ≡ ((slice_index self.now.rows.stamps number == slice_index self.now.rows.touched number + 1)
-            || (slice_index self.now.rows.computed number == slice_index self.now.rows.touched number + 1)) }
-    {
-        let number = number as usize;
-        let stamp = self.touched[number] + 1;
-        self.stamps[number] == stamp || self.computed.at(number) == stamp
     }
 
     /// The summary in the row of a node.
@@ -187,19 +167,6 @@ impl<S: Copy> Level<S> {
         let first = first as usize;
         stamp_run(&mut self.stamps, &self.touched, first, summaries.len());
         self.kept.adopt(first, summaries);
-    }
-
-    /// Puts a summary that was computed at its touched number in the row of a node.
-    pub fn learn(&mut self, number: u32, s: S)
-        requires touched { number < length self.old.rows.touched }
-        requires computed { number < length self.old.rows.computed }
-        requires kept { number < length self.old.rows.kept }
-        requires edit { slice_index self.old.rows.touched number ≤ 16777215 }
-        ensures { self.new.rows ≡ with_learnt self.old.rows number s }
-    {
-        let number = number as usize;
-        self.computed.set(number, self.touched[number] + 1);
-        self.kept.set(number, s);
     }
 
     /// The number of the last edit that touched a node; none where what was delivered for the node has it.

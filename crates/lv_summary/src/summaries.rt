@@ -4,8 +4,8 @@ ghost use Rattle.std.specs.List.{list_all, range_with_len};
 ghost use Rattle.lv_geometry.specs.Nodes.{child};
 ghost use Rattle.lv_summary.specs.declared.accepted.Accepted.TheVariants.{Installed};
 ghost use Rattle.lv_summary.specs.Inner.{AreFilled, HaveRoom, HaveSameRows};
-ghost use Rattle.lv_summary.specs.Changes.{AfterDelivery, AnswersAlike, HasSize, Keeps, KeepsRun, Learns, Touches};
-ghost use Rattle.lv_summary.specs.Table.{blocks_in, computed_in, delivery_in, entry_in, fresh_in, kept_in, known_entry_in, touched_in, whole_in};
+ghost use Rattle.lv_summary.specs.Changes.{AfterDelivery, AnswersAlike, HasSize, Keeps, KeepsRun, Touches};
+ghost use Rattle.lv_summary.specs.Table.{blocks_in, delivery_in, entry_in, fresh_in, kept_in, touched_in, whole_in};
 
 use crate::accepted::Accepted;
 use crate::delivery::{deliver, delivery, is_fresh, last_touch, level_of, whole_level};
@@ -40,7 +40,6 @@ impl<S: Copy> Summaries<S> {
         ensures blocks { blocks_in result ≡ 0 }
         ensures untouched { (n : Node) → touched_in result n ≡ 0 }
         ensures nothing_kept { (n : Node) → kept_in result n ≡ None }
-        ensures nothing_computed { (n : Node) → computed_in result n ≡ None }
     {
         Summaries {
             levels: Levels {
@@ -195,19 +194,6 @@ impl<S: Copy> Summaries<S> {
         }
     }
 
-    /// The summary of a node, where it is known: it is fresh, or was computed since it was touched last.
-    #[inline(always)]
-    pub fn known(&self, node: Node) -> Option<S>
-        ensures { result ≡ known_entry_in self.now node }
-    {
-        let level = whole_level(&self.levels, self.size, node)?;
-        if level.is_known(node.number) {
-            Some(level.kept(node.number))
-        } else {
-            None
-        }
-    }
-
     /// The version of the summary that was delivered for a node, fresh or not; none where none was.
     pub fn kept_version(&self, node: Node) -> Option<u32>
         ensures { result ≡ option_map (λ kept. kept.0) (kept_in self.now node) }
@@ -260,15 +246,6 @@ impl<S: Copy> Summaries<S> {
         ensures { KeepsRun self.old self.new 1 first summaries.old.items }
     {
         self.levels.level_1.adopt(first, summaries);
-    }
-
-    /// Keeps a summary that who asks computed for a whole node, so that the node is known until it is touched again. What was
-    /// delivered keeps its version, and no node gets fresh or stale by it.
-    pub fn learn(&mut self, node: Node, s: S)
-        requires whole { whole_in self.old node ≡ true }
-        ensures { Learns self.old self.new node s }
-    {
-        self.levels.at_mut(node.level).learn(node.number, s);
     }
 }
 

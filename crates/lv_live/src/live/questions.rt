@@ -1,15 +1,11 @@
 //! Questions to a live vector: folds and running folds of a range, and what they cost.
-ghost use Rattle.std.specs.Prelude.{◌≡◌, Some, IfOk, OnErr, IfErr, true, false};
+ghost use Rattle.std.specs.Prelude.{◌≡◌, Some, IfOk, IfErr, true, false};
 ghost use Rattle.lv_edits.specs.Ranges.{range_refusal};
 ghost use Rattle.lv_refresh.specs.Record.{is_fresh};
-ghost use Rattle.lv_known.specs.Agrees.{Agrees};
-ghost use Rattle.lv_summary.specs.Changes.{OnlyLearns};
-ghost use Rattle.lv_summary.specs.Table.{known_in};
-ghost use Rattle.lv_reduce.specs.Answer.{IsAnswer, IsScanRefusal, IsAnswerPair};
-ghost use Rattle.lv_reduce.specs.Asked.{AreTopsKnown, IsFewAsked};
+ghost use Rattle.lv_reduce.specs.Answer.{IsScanRefusal, IsAnswerPair};
 ghost use Rattle.lv_reduce.specs.Cost.{IsFew};
 ghost use Rattle.lv_reduce.specs.Stretch.{IsStretch};
-ghost use Rattle.lv_live.specs.State.{Remembers, SameLive, recorded};
+ghost use Rattle.lv_live.specs.State.{recorded};
 ghost use Rattle.lv_live.specs.Step.{Costs, Reduces, Scans};
 
 use crate::live::Live;
@@ -72,24 +68,6 @@ impl<B: Body> Live<B> {
         ensures few { IfOk result (λ answer. IsFew (is_fresh (recorded self.now)) lo hi answer.cells_read answer.summaries_read) }
     {
         lv_reduce::reduce(self.view(), &self.body, lo, hi)
-    }
-
-    /// What `reduce` answers, keeping what is computed for it: so a range that was asked for costs at most 14 cells and 84 summaries
-    /// until an edit touches it. Edits, claims and delivered versions stay as they are, and so does what `reduce` counts. Refused
-    /// with `BadRange`, then `OutOfRange`. Takes no memory.
-    pub fn ask(&mut self, lo: u32, hi: u32) -> Result<Answer<B::S>, Refusal>
-        ensures ok { IfOk result (λ answer. IsAnswer (B.operations self.old.body) self.old.history.journal lo hi answer) }
-        ensures err { IfErr result (λ refusal. range_refusal self.old.history.journal lo hi ≡ Some refusal) }
-        ensures same { SameLive self.old self.new }
-        ensures unchanged { OnErr result (self.new.table ≡ self.old.table) }
-        ensures agrees { Agrees (B.operations self.new.body) self.new.history.journal self.new.table }
-        ensures learns { OnlyLearns self.old.table self.new.table }
-        ensures remembers { Remembers self.old self.new }
-        ensures known { IfOk result (λ _. AreTopsKnown (known_in self.new.table) lo hi) }
-        ensures quiet { AreTopsKnown (known_in self.old.table) lo hi → self.new.table ≡ self.old.table }
-        ensures few { IfOk result (λ answer. IsFewAsked (known_in self.old.table) (known_in self.new.table) lo hi answer.cells_read answer.summaries_read) }
-    {
-        lv_reduce::ask(&self.history, &mut self.table, &self.body, lo, hi)
     }
 
     /// What a query reads: the elements, and the summaries that are kept for them.

@@ -1,6 +1,6 @@
 //! The job that is handed out for a node.
 ghost use Rattle.std.specs.Prelude.{◌≡◌, ◌<◌, true, false, IfSome, IfNone};
-ghost use Rattle.lv_known.specs.Agrees.{Agrees};
+ghost use Rattle.lv_summary.specs.Agrees.{Agrees};
 ghost use Rattle.lv_summary.specs.Table.{whole_in};
 ghost use Rattle.lv_refresh.specs.Inner.{IsJobOf, children_fresh_in};
 

@@ -1,7 +1,7 @@
 //! Refreshing whole runs of blocks: 64 at a time, without a search for each.
 ghost use Rattle.std.specs.Prelude.{◌≡◌, ℕ, ◌+◌, ◌*◌, ◌/◌, ◌<◌, ◌≤◌, length, false, slice_range, IfSome, IfNone};
 ghost use Rattle.lv_edits.specs.History.{list_of};
-ghost use Rattle.lv_known.specs.Agrees.{Agrees};
+ghost use Rattle.lv_summary.specs.Agrees.{Agrees};
 ghost use Rattle.lv_refresh.specs.ClaimTable.{AreHints, claim_blocks, claimed_in, record_of};
 ghost use Rattle.lv_refresh.specs.Inner.{HintsWants, ServesNode, node_at, wants_in};
 ghost use Rattle.lv_refresh.specs.Refreshed.{RefreshesEach};

@@ -7,7 +7,7 @@ use Rattle.lv_edits.specs.History.{list_of}
 use Rattle.lv_summary.specs.Table.{fresh_in}
 use Rattle.lv_reduce.proofs.Bounds.{few_reads}
 use Rattle.lv_reduce.proofs.NodeLaws.{cell_fits}
-use Rattle.lv_known.proofs.FoldableLaws.{can_fold}
+use Rattle.lv_summary.proofs.FoldableLaws.{can_fold}
 use Rattle.lv_reduce.proofs.PieceLaws.{piece_folds, slice-joined, slice-nothing, slice-within, slices_can_join}
 use Rattle.lv_reduce.proofs.ScanLaws.{fold_of-slice-more}
 use Rattle.lv_reduce.proofs.GreatestLaws.{fresh_of_piece}

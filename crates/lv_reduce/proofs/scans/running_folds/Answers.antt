@@ -1,7 +1,7 @@
 -- Proof of `running_folds`: the folds of the beginnings of a range: each with the element at its end, or each without it.
 use Rattle.std.proofs.Common.{◌+◌, length, arith}
 use Rattle.lv_edits.specs.History.{list_of}
-use Rattle.lv_known.proofs.FoldableLaws.{can_fold}
+use Rattle.lv_summary.proofs.FoldableLaws.{can_fold}
 use Rattle.lv_reduce.proofs.PieceLaws.{slice_can_go_on, slice_range-run, slice_scanned}
 use Rattle.lv_reduce.proofs.scans.running_folds.Goals as goal
 

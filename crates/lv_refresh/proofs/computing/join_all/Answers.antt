@@ -1,7 +1,7 @@
 -- Proof of `join_all`: the join of eight summaries, which are those of a node's children.
 use Rattle.std.proofs.Common.{◌≡◌, sym, ◌∙◌, arith}
 use Rattle.std.proofs.lemmas.Option.{slice_get_read}
-use Rattle.lv_known.proofs.FoldableLaws.{can_fold}
+use Rattle.lv_summary.proofs.FoldableLaws.{can_fold}
 use Rattle.lv_refresh.proofs.ComputeLaws.{joins_all, joins_can, joins_more, joins_none}
 use Rattle.lv_refresh.proofs.computing.join_all.Goals as goal
 

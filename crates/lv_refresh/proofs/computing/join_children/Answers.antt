@@ -2,7 +2,7 @@
 use Rattle.std.proofs.Common.{◌≡◌, sym, ap, ◌∙◌, arith}
 use Rattle.std.proofs.lemmas.Bool.{and_parts}
 use Rattle.lv_summary.specs.Table.{entry_in, fresh_in}
-use Rattle.lv_known.proofs.FoldableLaws.{can_fold}
+use Rattle.lv_summary.proofs.FoldableLaws.{can_fold}
 use Rattle.lv_refresh.proofs.ComputeLaws.{child_is_fresh, joins_all, joins_can, joins_more, joins_none}
 use Rattle.lv_refresh.proofs.GatherLaws.{children_fit}
 use Rattle.lv_refresh.proofs.computing.join_children.Goals as goal

@@ -1,7 +1,7 @@
 -- Proof of `answer_beside`: what a query answers at the last edit.
 use Rattle.std.proofs.Common.{ap, ◌∙◌}
 use Rattle.lv_edits.specs.History.{list_of}
-use Rattle.lv_known.proofs.FoldableLaws.{can_fold}
+use Rattle.lv_summary.proofs.FoldableLaws.{can_fold}
 use Rattle.lv_tree.specs.KindSummaries.{shown_of}
 use Rattle.lv_tree.proofs.KindLaws.{shown_is_plain}
 use Rattle.lv_standing.specs.Queries.{span_of}

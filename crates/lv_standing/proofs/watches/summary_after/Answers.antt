@@ -3,7 +3,7 @@ use Rattle.std.proofs.Common.{◌∙◌, ◌++◌, ◌∷◌, [], ap, subst, sym
 use Rattle.std.proofs.lemmas.Int.{to_z-of_z}
 use Rattle.lv_bodies.specs.Body.{CanFold}
 use Rattle.lv_edits.specs.History.{list_of}
-use Rattle.lv_known.proofs.FoldableLaws.{can_fold}
+use Rattle.lv_summary.proofs.FoldableLaws.{can_fold}
 use Rattle.lv_tree.specs.KindSummaries.{summary_of}
 use Rattle.lv_tree.proofs.KindLaws.{last_is_element}
 use Rattle.lv_standing.specs.Queries.{span_of}

@@ -1,7 +1,7 @@
 -- Proof of `tell_one`: brings the query at a place up to the edit, if an element of it changed.
 use Rattle.std.proofs.Common.{◌≡◌, ◌∙◌, ◌<◌, ◌+◌, ◌∷◌, [], ap, ap₂, false, arith, get_or, length, map, rules, set, subst, sym, take}
 use Rattle.lv_edits.specs.History.{list_of}
-use Rattle.lv_known.proofs.FoldableLaws.{can_fold}
+use Rattle.lv_summary.proofs.FoldableLaws.{can_fold}
 use Rattle.lv_tree.specs.KindSummaries.{shown_of}
 use Rattle.lv_tree.proofs.KindLaws.{shown_is_plain}
 use Rattle.lv_standing.specs.declared.queries.Query.{Query}

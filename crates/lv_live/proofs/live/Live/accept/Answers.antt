@@ -2,7 +2,7 @@
 use Rattle.std.proofs.Common.{◌∙◌, sym, ap}
 use Rattle.lv_refresh.specs.Contents.{fold_of_contents}
 use Rattle.lv_live.proofs.DeliverLaws.{delivered, live_after_accept}
-use Rattle.lv_live.proofs.RememberLaws.{known_after_delivery}
+use Rattle.lv_live.proofs.RememberLaws.{fresh_after_delivery}
 use Rattle.lv_live.proofs.live.Live.accept.Goals as goal
 
 pub invariant_of-self : goal.invariant_of-self
@@ -22,4 +22,4 @@ returns-in-Installed-clause-delivered g c =
 
 pub returns-in-Installed-clause-remembers : goal.returns-in-Installed-clause-remembers
 returns-in-Installed-clause-remembers g c =
-    rw (← c.self.view_is) (λ n known whole touched. known_after_delivery _ c.install-accepted.new.self _ _ _ _ c.in-Installed.ensures.answer c.in-Installed.ensures.after n known)
+    rw (← c.self.view_is) (λ n fresh whole touched. fresh_after_delivery _ c.install-accepted.new.self _ _ _ _ c.in-Installed.ensures.answer c.in-Installed.ensures.after n fresh)

@@ -2,7 +2,7 @@
 use Rattle.lv_bodies.specs.Body.{fold_of}
 use Rattle.lv_edits.specs.Touch.{elements_under}
 use Rattle.lv_live.proofs.DeliverLaws.{claimed_heard, delivered, live_after_anew, ready_to_remake}
-use Rattle.lv_live.proofs.RememberLaws.{known_after_delivery}
+use Rattle.lv_live.proofs.RememberLaws.{fresh_after_delivery}
 use Rattle.lv_live.proofs.live.Live.deliver.Goals as goal
 
 pub deliver_anew-requires-clause-ready : goal.deliver_anew-requires-clause-ready
@@ -29,4 +29,4 @@ pub returns-clause-remembers : goal.returns-clause-remembers
 returns-clause-remembers g c =
     let anew = c.deliver_anew in
     let fold = fold_of (g.B.Body.operations c.self.inside.body) (elements_under c.self.inside.history.journal c.args.node) in
-    rw (← c.self.view_is) (λ n known whole touched. known_after_delivery c.self.inside.table anew.new.table c.args.node c.args.version fold anew.result anew.ensures.accepted anew.ensures.after n known)
+    rw (← c.self.view_is) (λ n fresh whole touched. fresh_after_delivery c.self.inside.table anew.new.table c.args.node c.args.version fold anew.result anew.ensures.accepted anew.ensures.after n fresh)

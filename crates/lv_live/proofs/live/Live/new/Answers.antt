@@ -5,4 +5,4 @@ use Rattle.lv_live.proofs.live.Live.new.Goals as goal
 
 pub invariant_of-result : goal.invariant_of-result
 invariant_of-result g c =
-    live_empty (g.B.Body.operations c.args.body) _ (ap (λ h. h.journal) c.new.ensures.history) c.new.ensures.limits c.new-2.ensures.size c.new-2.ensures.untouched c.new-2.ensures.nothing_kept c.new-2.ensures.nothing_computed
+    live_empty (g.B.Body.operations c.args.body) _ (ap (λ h. h.journal) c.new.ensures.history) c.new.ensures.limits c.new-2.ensures.size c.new-2.ensures.untouched c.new-2.ensures.nothing_kept

@@ -32,4 +32,4 @@ pub returns-in-Ok-clause-remembers : goal.returns-in-Ok-clause-remembers
 returns-in-Ok-clause-remembers g c =
     let (mid, touch, sized) = c.follow.ensures.table in
     rw (← c.self.view_is)
-    (remembers_same (g.B.Body.operations c.self.inside.body) _ _ c.self.invariant (invariant_of-self-in-Ok g c) (λ n. sized.kept n ∙ touch.kept n) (λ n. sized.computed n ∙ touch.computed n))
+    (remembers_same (g.B.Body.operations c.self.inside.body) _ _ c.self.invariant (invariant_of-self-in-Ok g c) (λ n. sized.kept n ∙ touch.kept n))

@@ -3,7 +3,7 @@ use Rattle.std.proofs.Common.{◌≡◌, ◌*◌, ◌-◌, ◌<◌, ◌++◌, �
 use Rattle.std.specs.List.{range_with_len}
 use Rattle.std.proofs.lemmas.List.FromFn.{map-range_with_len_more}
 use Rattle.lv_bodies.specs.Body.{CanFold, fold_of}
-use Rattle.lv_known.proofs.FoldableLaws.{part_can_fold}
+use Rattle.lv_summary.proofs.FoldableLaws.{part_can_fold}
 use Rattle.lv_reduce.specs.declared.rows.Part.{Part}
 use Rattle.lv_reduce.specs.Rows.{IsPart, elements_in, elements_of}
 use Rattle.lv_reduce.proofs.PieceSums.{before_all, before_next, can_join_piece}

@@ -2,7 +2,7 @@
 use Rattle.std.proofs.Common.{◌≡◌, ◌∙◌, [], ◌∷◌, ◌++◌, ap, ap₂, sym, subst, arith, length, length-append, map}
 use Rattle.std.proofs.lemmas.List.{map-append}
 use Rattle.lv_edits.specs.History.{list_of}
-use Rattle.lv_known.proofs.FoldableLaws.{can_fold}
+use Rattle.lv_summary.proofs.FoldableLaws.{can_fold}
 use Rattle.lv_tree.proofs.KindLaws.{shown_is_plain}
 use Rattle.lv_tree.specs.KindSummaries.{shown_of}
 use Rattle.lv_standing.specs.declared.queries.Query.{Query}

@@ -27,7 +27,7 @@ pub returns-in_err-reserve_levels : goal.returns-in_err-reserve_levels
 returns-in_err-reserve_levels g c =
     let same = table_of-same c.self.inside.size c.self.inside.levels c.reserve_levels.new.levels c.in_err-reserve_levels.ensures.rows in
     let told = err_from_is_err_and c.from_residual.result c.from_residual.ensures.1 in
-    rw (← c.self.view_is, same, told.1, told.2) record { alike = record { size = refl; touched = λ n. refl; kept = λ n. refl; computed = λ n. refl }; more = omega arith; ok = tt; err = c.in_err-reserve_levels.ensures.err; unchanged = refl }
+    rw (← c.self.view_is, same, told.1, told.2) record { alike = record { size = refl; touched = λ n. refl; kept = λ n. refl }; more = omega arith; ok = tt; err = c.in_err-reserve_levels.ensures.err; unchanged = refl }
 
 pub invariant_of-self-2 : goal.invariant_of-self-2
 invariant_of-self-2 g c =

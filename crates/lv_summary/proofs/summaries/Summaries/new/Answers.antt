@@ -1,7 +1,7 @@
 -- Proof of `Summaries::new`: a table with no rows, for a vector with no element.
 use Rattle.std.proofs.Common.{refl}
 use Rattle.lv_geometry.proofs.NodeLaws.{at_each_level}
-use Rattle.lv_summary.proofs.Growth.{IsSound-empty, blocks_in-empty, computed_in-empty, kept_in-empty, touched_in-empty}
+use Rattle.lv_summary.proofs.Growth.{IsSound-empty, blocks_in-empty, kept_in-empty, touched_in-empty}
 use Rattle.lv_summary.proofs.summaries.Summaries.new.Goals as goal
 
 pub invariant_of-result : goal.invariant_of-result
@@ -19,7 +19,3 @@ returns-clause-untouched g c =
 pub returns-clause-nothing_kept : goal.returns-clause-nothing_kept
 returns-clause-nothing_kept g c =
     kept_in-empty _ (at_each_level _ c.new.ensures.rows c.new-2.ensures.rows c.new-3.ensures.rows c.new-4.ensures.rows c.new-5.ensures.rows c.new-6.ensures.rows)
-
-pub returns-clause-nothing_computed : goal.returns-clause-nothing_computed
-returns-clause-nothing_computed g c =
-    computed_in-empty _ (at_each_level _ c.new.ensures.rows c.new-2.ensures.rows c.new-3.ensures.rows c.new-4.ensures.rows c.new-5.ensures.rows c.new-6.ensures.rows)

@@ -7,12 +7,12 @@ use Rattle.lv_geometry.specs.Nodes.{covers, is_below, is_node}
 use Rattle.lv_bodies.specs.Body.{Operations, fold_of}
 use Rattle.lv_edits.specs.History.{History, list_of, replayed}
 use Rattle.lv_edits.specs.Pushes.{with_pushes}
-use Rattle.lv_edits.specs.Touch.{elements_under, is_whole, touched_by}
+use Rattle.lv_edits.specs.Touch.{elements_under, is_whole}
 use Rattle.lv_edits.proofs.RunLaws.{AreOfBlock, grown, kept_run, touched_run}
-use Rattle.lv_known.specs.Agrees.{Agrees}
+use Rattle.lv_summary.specs.Agrees.{Agrees}
 use Rattle.lv_summary.specs.Changes.{HasSize, TouchesEach}
-use Rattle.lv_summary.specs.Table.{Table, computed_in, kept_in, known_entry_in, touched_in, whole_in}
-use Rattle.lv_summary.proofs.TableLaws.{known_entry_in-same, known_parts, node_of_whole}
+use Rattle.lv_summary.specs.Table.{Table, entry_in, kept_in, touched_in, whole_in}
+use Rattle.lv_summary.proofs.TableLaws.{entry_parts, entry_stays, node_of_whole}
 
 -- a node has a level
 pub level_from_one : (n : Node) → is_node n ≡ true → 1 ≤ n.level
@@ -37,21 +37,15 @@ module _ {S : Type 0} (o : Operations S) where
     kept_then : (n : Node) → kept_in new n ≡ kept_in old n
     kept_then n = sized.kept n ∙ touch.kept n
 
-    computed_then : (n : Node) → computed_in new n ≡ computed_in old n
-    computed_then n = sized.computed n ∙ touch.computed n
-
-    -- a summary that the table knows then it knew before, and it is still the fold of its node's elements
-    fold_then : (n : Node) (s : S) → known_entry_in new n ≡ Some s → s ≡ fold_of o (elements_under (with_pushes h xs).journal n)
+    -- a summary of a node that is fresh then was its summary before, and it is still the fold of its node's elements
+    fold_then : (n : Node) (s : S) → entry_in new n ≡ Some s → s ≡ fold_of o (elements_under (with_pushes h xs).journal n)
     fold_then n s is =
-        let parts = known_parts new n s is in
+        let parts = entry_parts new n s is in
         let node = node_of_whole new n parts.0 in
         let level = level_from_one n node in
         let size : new.size ≡ length (list_of (with_pushes h xs).journal) = sized.size_is ∙ sym (grown h xs legal).size in
         let whole : is_whole (with_pushes h xs).journal n ≡ true = ap (λ size. is_node n && is_below n size) (sym size) ∙ parts.0 in
-        let early : touched_in new n ≤ length h.journal = elim parts.1 [
-          | inl kept ↦ agrees.versions n (touched_in new n) s (sym (kept_then n) ∙ kept)
-          | inr computed ↦ agrees.computed n (touched_in new n) s (sym (computed_then n) ∙ computed)
-        ] in
+        let early : touched_in new n ≤ length h.journal = agrees.versions n (touched_in new n) s (sym (kept_then n) ∙ parts.1) in
         elim (cases_Bool (covers n i)) [
           | inl covered ↦
               let at : touched_in new n ≡ length h.journal + length xs = touched_then n node ∙ cond-true _ _ _ covered in
@@ -60,7 +54,7 @@ module _ {S : Type 0} (o : Operations S) where
               let before = kept_run h xs n i level legal of apart whole in
               let touched : touched_in new n ≡ touched_in old n = touched_then n node ∙ cond-false _ _ _ apart in
               let whole_before : whole_in old n ≡ true = ap (λ size. is_node n && is_below n size) agrees.size ∙ before.0 in
-              let same = known_entry_in-same old new n (parts.0 ∙ sym whole_before) touched (kept_then n) (computed_then n) in
+              let same = entry_stays old new n (parts.0 ∙ sym whole_before) touched (kept_then n) in
               agrees.folds n s (sym same.1 ∙ is) ∙ ap (fold_of o) (sym before.1)
         ]
 
@@ -75,6 +69,5 @@ module _ {S : Type 0} (o : Operations S) where
               ∙ ap (cond (covers n i) (length h.journal + length xs)) (agrees.touched n node)
               ∙ sym (touched_run h xs n i some (level_from_one n node) legal of);
           versions = λ n version s is. omega (arith, agrees.versions n version s (sym (kept_then n) ∙ is), grows.edits);
-          computed = λ n version s is. omega (arith, agrees.computed n version s (sym (computed_then n) ∙ is), grows.edits);
           folds = fold_then;
         }

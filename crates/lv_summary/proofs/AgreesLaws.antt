@@ -13,11 +13,10 @@ use Rattle.lv_edits.specs.History.{applied, list_of, replayed}
 use Rattle.lv_edits.specs.Touch.{elements_under, indices_written, is_whole, touches}
 use Rattle.lv_edits.proofs.HistoryLaws.{list_of_replayed, list_of-snoc, replayed-nil}
 use Rattle.lv_edits.proofs.TouchLaws.{touched_by-le, touched_by-none, touched_by-snoc, untouched_keeps}
-use Rattle.lv_known.specs.Agrees.{Agrees}
-use Rattle.lv_summary.specs.Changes.{AnswersAlike, HasSize, Keeps, Learns, OnlyLearns, Touches, TouchesEach}
-use Rattle.lv_summary.specs.Table.{Table, computed_in, entry_in, kept_in, known_entry_in, touched_in, whole_in}
-use Rattle.lv_summary.proofs.LearntLaws.{known_entry_in-learnt, known_entry_in-learnt_other, learns_only, version_before}
-use Rattle.lv_summary.proofs.TableLaws.{entry_in-kept, entry_of_fresh, fresh_of_entry, known_entry_in-fresh, known_entry_in-same, known_parts, node_of_whole, same_node-eq, whole_in-size}
+use Rattle.lv_summary.specs.Agrees.{Agrees}
+use Rattle.lv_summary.specs.Changes.{AnswersAlike, HasSize, Keeps, Touches, TouchesEach}
+use Rattle.lv_summary.specs.Table.{Table, entry_in, kept_in, touched_in, whole_in}
+use Rattle.lv_summary.proofs.TableLaws.{entry_in-kept, entry_parts, entry_stays, node_of_whole, same_node-eq, whole_in-size}
 
 -- what an edit makes of a table: it has the size of the list, and the nodes that the edit touches have its number; what is
 -- kept stays
@@ -25,7 +24,6 @@ record IsStep {S : Type 0} (es : List Edit) (e : Edit) (ys : List ℤ) (old new 
   size : new.size ≡ length ys
   touched : (n : Node) → is_node n ≡ true → touched_in new n ≡ (if touches (list_of es) e n then length es + 1 else touched_in old n)
   kept : (n : Node) → kept_in new n ≡ kept_in old n
-  computed : (n : Node) → computed_in new n ≡ computed_in old n
 
 -- where no index was touched nothing has changed
 pub TouchesEach-none : {S : Type 0} (t : Table S) (edit : ℕ) → TouchesEach t t [] edit
@@ -34,7 +32,6 @@ TouchesEach-none t edit = record {
   blocks = refl;
   touched = λ n. no_one (is_node n) edit (touched_in t n);
   kept = λ n. refl;
-  computed = λ n. refl;
 }
   where
     no_one : (node : Bool) (edit before : ℕ) → before ≡ cond (node && false) edit before
@@ -58,22 +55,17 @@ TouchesEach-next old mid new i rest edit first others = record {
       ∙ ap (cond (is_node n && list_any (covers n) rest) edit) (first.touched n)
       ∙ touched_next (is_node n) (covers n i) (list_any (covers n) rest) edit (touched_in old n);
   kept = λ n. others.kept n ∙ first.kept n;
-  computed = λ n. others.computed n ∙ first.computed n;
 }
 
 module _ {S : Type 0} (o : Operations S) where
   -- the empty table agrees with no edits
-  pub agrees_empty : (t : Table S) → t.size ≡ 0 → ((n : Node) → touched_in t n ≡ 0) → ((n : Node) → kept_in t n ≡ None) → ((n : Node) → computed_in t n ≡ None) → Agrees o [] t
-  agrees_empty t size touched kept computed =
+  pub agrees_empty : (t : Table S) → t.size ≡ 0 → ((n : Node) → touched_in t n ≡ 0) → ((n : Node) → kept_in t n ≡ None) → Agrees o [] t
+  agrees_empty t size touched kept =
       record {
         size = size ∙ ap length (sym (list_of_replayed [] [] replayed-nil));
         touched = λ n node. touched n ∙ sym (touched_by-none n);
         versions = λ n version s is. absurd (none-some (version, s) (sym (kept n) ∙ is));
-        computed = λ n version s is. absurd (none-some (version, s) (sym (computed n) ∙ is));
-        folds = λ n s is. elim ((known_parts t n s is).1) [
-          | inl delivered ↦ absurd (none-some (touched_in t n, s) (sym (kept n) ∙ delivered))
-          | inr asked ↦ absurd (none-some (touched_in t n, s) (sym (computed n) ∙ asked))
-        ];
+        folds = λ n s is. absurd (none-some (touched_in t n, s) (sym (kept n) ∙ (entry_parts t n s is).1));
       }
 
   -- whole nodes are the same by the edits and by a table that agrees
@@ -87,8 +79,7 @@ module _ {S : Type 0} (o : Operations S) where
         size = alike.size ∙ agrees.size;
         touched = λ n node. alike.touched n ∙ agrees.touched n node;
         versions = λ n version s is. agrees.versions n version s (sym (alike.kept n) ∙ is);
-        computed = λ n version s is. agrees.computed n version s (sym (alike.computed n) ∙ is);
-        folds = λ n s is. agrees.folds n s (sym (known_entry_in-same old new n (whole_in-size old new alike.size n) (alike.touched n) (alike.kept n) (alike.computed n)).1 ∙ is);
+        folds = λ n s is. agrees.folds n s (sym (entry_stays old new n (whole_in-size old new alike.size n) (alike.touched n) (alike.kept n)).1 ∙ is);
       }
 
   -- a table agrees after the fold of a whole node's elements was put in place, at the number of the edit that touched it last
@@ -103,61 +94,16 @@ module _ {S : Type 0} (o : Operations S) where
               omega (arith, ap (λ (kept : ℕ × S). kept.0) now, touched, agrees.touched n (node_of_whole old n whole), touched_by-le es n)
           | inr other ↦ agrees.versions m version s' (sym (keeps.kept m ∙ cond-false _ _ _ other) ∙ is)
         ];
-        computed = λ m version s' is. elim (cases_Bool (same_node m n)) [
-          | inl same ↦
-              let before = version_before version s s' (computed_in old m) (sym (keeps.computed m ∙ cond-true _ _ _ same) ∙ is) in
-              agrees.computed m version before.0 before.1
-          | inr other ↦ agrees.computed m version s' (sym (keeps.computed m ∙ cond-false _ _ _ other) ∙ is)
-        ];
         folds = λ m s' is. elim (cases_Bool (same_node m n)) [
           | inl same ↦
               let one = same_node-eq m n same in
-              let entry = entry_in-kept old new n v s keeps whole touched in
-              let here : known_entry_in new n ≡ Some s' = ap (known_entry_in new) (sym one) ∙ is in
-              same_Some _ _ (sym here ∙ known_entry_in-fresh new n (fresh_of_entry new n s entry) ∙ entry) ∙ folded ∙ ap (λ m. fold_of o (elements_under es m)) (sym one)
+              let here : entry_in new n ≡ Some s' = ap (entry_in new) (sym one) ∙ is in
+              same_Some _ _ (sym here ∙ entry_in-kept old new n v s keeps whole touched) ∙ folded ∙ ap (λ m. fold_of o (elements_under es m)) (sym one)
           | inr other ↦
               agrees.folds m s'
-              (sym (known_entry_in-same old new m (whole_in-size old new keeps.size m) (keeps.touched m) (keeps.kept m ∙ cond-false _ _ _ other) (keeps.computed m ∙ cond-false _ _ _ other)).1 ∙ is)
+              (sym (entry_stays old new m (whole_in-size old new keeps.size m) (keeps.touched m) (keeps.kept m ∙ cond-false _ _ _ other)).1 ∙ is)
         ];
       }
-
-  -- the summary of a fresh node is the fold of its elements
-  pub entry_folds : (es : List Edit) (t : Table S) → Agrees o es t → (n : Node) (s : S) → entry_in t n ≡ Some s → s ≡ fold_of o (elements_under es n)
-  entry_folds es t agrees n s is = agrees.folds n s (known_entry_in-fresh t n (fresh_of_entry t n s is) ∙ is)
-
-  -- a table agrees after it learnt the fold of a whole node's elements
-  pub agrees_learnt : (es : List Edit) (old new : Table S) (n : Node) (s : S) → Agrees o es old → Learns old new n s → whole_in old n ≡ true → s ≡ fold_of o (elements_under es n) → Agrees o es new
-  agrees_learnt es old new n s agrees learns whole folded =
-      record {
-        size = learns.size ∙ agrees.size;
-        touched = λ m node. learns.touched m ∙ agrees.touched m node;
-        versions = λ m version s' is. elim (cases_Bool (same_node m n)) [
-          | inl same ↦
-              let before = version_before version s s' (kept_in old m) (sym (learns.kept m ∙ cond-true _ _ _ same) ∙ is) in
-              agrees.versions m version before.0 before.1
-          | inr other ↦ agrees.versions m version s' (sym (learns.kept m ∙ cond-false _ _ _ other) ∙ is)
-        ];
-        computed = λ m version s' is. elim (cases_Bool (same_node m n)) [
-          | inl same ↦
-              let now : (touched_in old n, s) ≡ (version, s') = same_Some _ _ (sym (learns.computed m ∙ cond-true _ _ _ same) ∙ is) in
-              omega (arith, ap (λ (kept : ℕ × S). kept.0) now, agrees.touched n (node_of_whole old n whole), touched_by-le es n)
-          | inr other ↦ agrees.computed m version s' (sym (learns.computed m ∙ cond-false _ _ _ other) ∙ is)
-        ];
-        folds = λ m s' is. elim (cases_Bool (same_node m n)) [
-          | inl same ↦
-              let one = same_node-eq m n same in
-              let here : known_entry_in new n ≡ Some s' = ap (known_entry_in new) (sym one) ∙ is in
-              same_Some _ _ (sym here ∙ known_entry_in-learnt old new n s learns whole) ∙ folded ∙ ap (λ m. fold_of o (elements_under es m)) (sym one)
-          | inr other ↦ agrees.folds m s' (sym (known_entry_in-learnt_other old new n s learns m other).1 ∙ is)
-        ];
-      }
-
-  -- and all that was delivered is as before
-  pub agreeing_learns_only : (es : List Edit) (old new : Table S) (n : Node) (s : S) → Agrees o es old → Learns old new n s → whole_in old n ≡ true → s ≡ fold_of o (elements_under es n) → OnlyLearns old new
-  agreeing_learns_only es old new n s agrees learns whole folded =
-      learns_only old new n s learns whole (λ fresh.
-      let entry = entry_of_fresh old n fresh in
-      entry.1 ∙ ap Some (entry_folds es old agrees n entry.0 entry.1 ∙ sym folded))
 
   -- an edit did not touch a node that has a version of its touched number after it: no version was that of an edit to come
   untouched_of_version : (es : List Edit) (e : Edit) (ys : List ℤ) (old new : Table S) → IsStep es e ys old new → (n : Node) → is_node n ≡ true → touched_in new n ≤ length es → touches (list_of es) e n ≡ false
@@ -167,22 +113,19 @@ module _ {S : Type 0} (o : Operations S) where
         | inl touched ↦ let at : touched_in new n ≡ length es + 1 = step.touched n node ∙ cond-true _ _ _ touched in absurd (omega arith)
       ]
 
-  -- a summary that a table knows after an edit it knew before, and it is still the fold of its node's elements
-  fold_after : (es : List Edit) (e : Edit) (ys : List ℤ) (old new : Table S) → replayed es ≡ Some (list_of es) → applied (list_of es) e ≡ Some ys → Agrees o es old → IsStep es e ys old new → (n : Node) (s : S) → known_entry_in new n ≡ Some s → s ≡ fold_of o (elements_under (es ++ e ∷ []) n)
+  -- a summary of a node that is fresh after an edit was its summary before, and it is still the fold of its node's elements
+  fold_after : (es : List Edit) (e : Edit) (ys : List ℤ) (old new : Table S) → replayed es ≡ Some (list_of es) → applied (list_of es) e ≡ Some ys → Agrees o es old → IsStep es e ys old new → (n : Node) (s : S) → entry_in new n ≡ Some s → s ≡ fold_of o (elements_under (es ++ e ∷ []) n)
   fold_after es e ys old new legal possible agrees step n s is =
-      let parts = known_parts new n s is in
+      let parts = entry_parts new n s is in
       let node = node_of_whole new n parts.0 in
       let size : new.size ≡ length (list_of (es ++ e ∷ [])) = step.size ∙ ap length (sym (list_of-snoc es e ys legal possible).1) in
       let whole : is_whole (es ++ e ∷ []) n ≡ true = ap (λ size. is_node n && is_below n size) (sym size) ∙ parts.0 in
-      let early : touched_in new n ≤ length es = elim parts.1 [
-        | inl kept ↦ agrees.versions n (touched_in new n) s (sym (step.kept n) ∙ kept)
-        | inr computed ↦ agrees.computed n (touched_in new n) s (sym (step.computed n) ∙ computed)
-      ] in
+      let early : touched_in new n ≤ length es = agrees.versions n (touched_in new n) s (sym (step.kept n) ∙ parts.1) in
       let untouched = untouched_of_version es e ys old new step n node early in
       let before = untouched_keeps es e ys n legal possible untouched whole in
       let touched : touched_in new n ≡ touched_in old n = step.touched n node ∙ cond-false _ _ _ untouched in
       let whole_before : whole_in old n ≡ true = ap (λ size. is_node n && is_below n size) agrees.size ∙ before.0 in
-      let same = known_entry_in-same old new n (parts.0 ∙ sym whole_before) touched (step.kept n) (step.computed n) in
+      let same = entry_stays old new n (parts.0 ∙ sym whole_before) touched (step.kept n) in
       agrees.folds n s (sym same.1 ∙ is) ∙ ap (fold_of o) (sym before.1)
 
   -- a table goes on agreeing with the edits after one more
@@ -192,7 +135,6 @@ module _ {S : Type 0} (o : Operations S) where
         size = step.size ∙ ap length (sym (list_of-snoc es e ys legal possible).1);
         touched = λ n node. step.touched n node ∙ ap (λ edit. cond (touches (list_of es) e n) (length es + 1) edit) (agrees.touched n node) ∙ sym (touched_by-snoc es e n);
         versions = λ n version s is. omega (arith, agrees.versions n version s (sym (step.kept n) ∙ is), length_push es e);
-        computed = λ n version s is. omega (arith, agrees.computed n version s (sym (step.computed n) ∙ is), length_push es e);
         folds = fold_after es e ys old new legal possible agrees step;
       }
 
@@ -206,5 +148,4 @@ module _ {S : Type 0} (o : Operations S) where
             ∙ touch.touched n
             ∙ ap (λ b. cond (b && touches (list_of es) e n) (length es + 1) (touched_in old n)) node;
         kept = λ n. sized.kept n ∙ touch.kept n;
-        computed = λ n. sized.computed n ∙ touch.computed n;
       }

@@ -1,2 +1,0 @@
--- Names the files of definitions of `lv_known`.
-pub mod Agrees
