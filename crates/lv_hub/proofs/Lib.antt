@@ -1,7 +1,7 @@
 -- Names the files of lemmas of `lv_hub`.
 mod AcceptedLaws
 mod AsScriptsLaws
-mod MinuteLaws
+mod LogLaws
 mod OrderLaws
 mod PermitLaws
 pub mod PlainSessionLaws

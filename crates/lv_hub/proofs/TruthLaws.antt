@@ -87,20 +87,19 @@ pub edit_lists_nothing : (s : SessionState) (result : Result Receipt Refusal) �
 edit_lists_nothing s (Ok receipt) = refl
 edit_lists_nothing s (Err refusal) = refl
 
-module _ (limits : Bounds) where
-  -- an answer that was told is true, by its edits
-  told_true : (old new : List Edit) (kind : Kind) (lo hi : ℕ) (answered : Valued) → ValueTold limits old new kind lo hi (Ok answered) → IsTrueAnswer new (listed_of kind lo hi answered)
-  told_true old new kind lo hi answered told =
-      let is : IsValue new kind lo hi answered = told.answered in
-      let all : take answered.edit new ≡ new = take_all answered.edit new (omega (arith, is.edit)) in
-      let range = in_range new lo hi is.granted in
-      record {
-        edit = omega (arith, is.edit);
-        range = range.range;
-        end = subst (λ es. hi ≤ length (list_of es)) (sym all) range.end;
-        value = subst (λ es. answered.value ≡ plain_value kind (slice_range (list_of es) lo hi)) (sym all) is.value;
-      }
+-- the value of a range is a true answer at its edit
+pub value_true : (edits : List Edit) (kind : Kind) (lo hi : ℕ) (answered : Valued) → IsValue edits kind lo hi answered → IsTrueAnswer edits (listed_of kind lo hi answered)
+value_true edits kind lo hi answered is =
+    let all : take answered.edit edits ≡ edits = take_all answered.edit edits (omega (arith, is.edit)) in
+    let range = in_range edits lo hi is.granted in
+    record {
+      edit = omega (arith, is.edit);
+      range = range.range;
+      end = subst (λ es. hi ≤ length (list_of es)) (sym all) range.end;
+      value = subst (λ es. answered.value ≡ plain_value kind (slice_range (list_of es) lo hi)) (sym all) is.value;
+    }
 
+module _ (limits : Bounds) where
   -- who has seen more, and lists nothing more, keeps
   keeps_by_more : (old new : SessionState) → IsPrefix old.seen new.seen → new.answers ≡ old.answers → Keeps old new
   keeps_by_more old new more same =
@@ -122,7 +121,7 @@ module _ (limits : Bounds) where
           seen = told.seen;
           all_true = λ holds.
               subst (All (IsTrueAnswer new.seen)) (sym (ap (λ s. s.answers) listed.1))
-              (All-push (IsTrueAnswer new.seen) old.answers (listed_of kind lo hi answered) (all_true_of_more old.seen new.seen old.answers told.seen holds) (told_true old.seen new.seen kind lo hi answered told));
+              (All-push (IsTrueAnswer new.seen) old.answers (listed_of kind lo hi answered) (all_true_of_more old.seen new.seen old.answers told.seen holds) (value_true new.seen kind lo hi answered told.answered));
           order = λ holds rises.
               subst AreInOrder (sym (ap (λ s. s.answers) listed.1))
               (order_push old.seen new.seen old.answers (listed_of kind lo hi answered) told.seen told.answered.edit holds rises);

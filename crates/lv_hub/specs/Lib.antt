@@ -2,7 +2,7 @@
 pub mod AsScripts
 pub mod Counting
 pub mod Growing
-pub mod Minuting
+pub mod Logging
 pub mod Notes
 pub mod PlainSession
 pub mod Replying

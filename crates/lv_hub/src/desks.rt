@@ -1,28 +1,34 @@
 //! What lies under a hub's lock.
-ghost use Rattle.std.specs.Prelude.{◌≡◌, ◌<◌, ◌≤◌, ◌&&◌, Some, None, [], drop, if◌then◌else◌, false, true, is_ok, length, nat_eq, nat_lt, not, option_map, take, IfOk, IfErr, IfSome, OnErr, vec_capacity};
+ghost use Rattle.std.specs.Prelude.{◌≡◌, ◌<◌, ◌≤◌, ◌&&◌, Some, None, [], IsTrue, if◌then◌else◌, false, true, is_ok, length, map, nat_eq, nat_lt, not, option_map, IfOk, IfErr, IfSome, OnErr};
 ghost use mathlib.Core.List.{IsPrefix};
 ghost use Rattle.lv_geometry.specs.declared.nodes.Node.{Node};
 ghost use Rattle.lv_edits.specs.History.{list_of};
-ghost use Rattle.lv_edits.specs.Verdict.{Answers};
+ghost use Rattle.lv_edits.specs.Kept.{CarriesElement};
+ghost use Rattle.lv_edits.specs.Verdict.{Answers, IsRefusal, verdict_of};
 ghost use Rattle.lv_edits.specs.Ranges.{range_refusal};
 ghost use Rattle.lv_refresh.specs.Claim.{IsNextJob, wants_job};
 ghost use Rattle.lv_refresh.specs.Honesty.{IsHonest};
 ghost use Rattle.lv_live.specs.Kept.{IsLive};
 ghost use Rattle.lv_live.specs.State.{HasClaim, HasDelivery, SameRefresh, node_and_version, recorded};
 ghost use Rattle.lv_standing.specs.Queries.{IsValue};
-ghost use Rattle.lv_transcript.specs.Transcript.{AreAccepted, greatest};
+ghost use Rattle.lv_transcript.specs.Transcript.{AreAccepted, IsTrueAnswer, greatest};
 ghost use Rattle.lv_hub.specs.Counting.{Counts, having_seen};
+ghost use Rattle.lv_hub.specs.declared.log_entry.LogEntry.TheVariants as logged;
+ghost use Rattle.lv_hub.specs.Logging.{CameSince, HasPlace, entry_of, with_entry};
 ghost use Rattle.lv_hub.specs.Told.{Delivers, IsVector, VouchedBy};
 ghost use Rattle.lv_hub.specs.Work.{left_asleep, makes_work};
 
 use crate::histories::{Head, HistoryPrefix, Opened};
+use crate::log_entry::LogEntry;
 use crate::naming::WithBody;
 use crate::shares::Share;
+use crate::tap::Tap;
 use lv_bodies::{Automaton, Body, Kind};
 use lv_edits::{Edit, Receipt};
 use lv_geometry::{Limits, Refusal};
 use lv_live::Live;
 use lv_refresh::{Job, Outcome};
+use lv_script::Claimed;
 use lv_standing::{Answered, apply_beside, value_beside};
 use lv_summary::Accepted;
 use lv_tree::Kinds;
@@ -31,14 +37,16 @@ use std::marker::Model;
 use std::sync::ledger::{Blank, Book};
 
 /// What lies under a hub's lock: a live vector by the body of the hub's name, a tree for each kind that it was asked by, the book that
-/// counts its edits, their history with the one permit to add to it, and who sleeps beside the lock. Contracts don't see the trees, which
-/// change no answer.
+/// counts its edits, their history with the one permit to add to it, what a log hasn't got yet, and who sleeps beside the lock. Contracts
+/// don't see the trees, which change no answer, nor what a log hasn't got.
 #[derive(Drop)]
 pub struct Desk<B: Body, N: WithBody<B>> {
     pub(crate) live: Live<B>,
     pub(crate) kinds: Kinds,
     pub(crate) head: Head<N>,
     book: Book<N>,
+    // What came since its log was written last, where it has one.
+    tap: Option<Tap>,
     // At least how many workers sleep that were not woken.
     asleep: u64,
     // Whether the workers that attend are to end, and subscribers too.
@@ -48,10 +56,11 @@ pub struct Desk<B: Body, N: WithBody<B>> {
 }
 
 impl<B: Body, N: WithBody<B>> Model for Desk<B, N> {
-    ghost use Rattle.std.specs.Prelude.{◌≡◌, Some, length};
+    ghost use Rattle.std.specs.Prelude.{◌≡◌, IfSome, Some, length};
     ghost use Rattle.lv_bodies.specs.Plain.{program_table};
     ghost use Rattle.lv_tree.specs.Kinds.{AreReady};
     ghost use Rattle.lv_transcript.specs.Transcript.{AreAccepted, greatest};
+    ghost use Rattle.lv_hub.specs.Logging.{Taps};
     ghost use Rattle.lv_hub.specs.Told.{IsVector};
     ghost use Rattle.lv_hub.specs.Work.{DeskState};
 
@@ -59,7 +68,7 @@ impl<B: Body, N: WithBody<B>> Model for Desk<B, N> {
 
     ghost view = { λ d. record { live = d.live; asleep = d.asleep; dismissed = d.dismissed; listened = d.listened } };
 
-    ghost invariant = { λ d. (length d.live.history.journal ≡ d.book.total) × IsVector N.limits d.live.history × (d.head ≡ d.live.history.journal) × (N.body ≡ Some d.live.body) × AreAccepted greatest d.live.history.journal × AreReady program_table d.live.history.journal d.kinds };
+    ghost invariant = { λ d. (length d.live.history.journal ≡ d.book.total) × IsVector N.limits d.live.history × (d.head ≡ d.live.history.journal) × (N.body ≡ Some d.live.body) × AreAccepted greatest d.live.history.journal × AreReady program_table d.live.history.journal d.kinds × IfSome d.tap (Taps d.live.history.journal) };
 }
 
 impl<B: Body, N: WithBody<B>> Desk<B, N> {
@@ -96,6 +105,7 @@ impl<B: Body, N: WithBody<B>> Desk<B, N> {
             kinds,
             head,
             book,
+            tap: None,
             asleep: 0,
             dismissed: false,
             listened: false,
@@ -104,7 +114,7 @@ impl<B: Body, N: WithBody<B>> Desk<B, N> {
     }
 
     /// Makes an edit, counts it on the share where it is accepted, and adds it to the history then. The share sees all edits, and its
-    /// own last. Refused as `Live::apply` is.
+    /// own last. Refused as `Live::apply` is, and with `NoMemory` where a log has no room for it.
     pub fn edit(&mut self, share: &mut Share<N>, edit: Edit) -> Result<Receipt, Refusal>
         ensures begins { IsPrefix share.old.seen self.old.live.history.journal }
         ensures seen { share.new.seen ≡ self.new.live.history.journal }
@@ -117,11 +127,58 @@ impl<B: Body, N: WithBody<B>> Desk<B, N> {
         ensures rest { self.new ≡ record self.old { live = self.new.live } }
     {
         share.see(&mut self.head);
+        if !has_place(&self.tap) {
+            return Err(self.refusal_without_place(&edit));
+        }
         let receipt = apply_beside(&mut self.live, &mut self.kinds, edit)?;
         share.enter(&mut self.book);
         self.head.append(edit);
         share.see(&mut self.head);
+        take_edit(&mut self.tap, edit);
         Ok(receipt)
+    }
+
+    // Why an edit is refused that a log has no room for.
+    fn refusal_without_place(&self, edit: &Edit) -> Refusal
+        ensures { IsRefusal (verdict_of self.now.live.history.limits self.now.live.history.journal edit.now) result }
+    {
+        match self.live.verdict(edit) {
+            Some(refusal) => refusal,
+            None => Refusal::NoMemory,
+        }
+    }
+
+    /// Whether an edit or an answer finds room until its log is written: so it is where there is no log.
+    pub fn has_place(&self) -> bool {
+        has_place(&self.tap)
+    }
+
+    /// From now on keeps what comes for a log, in a list that has nothing yet and is never made longer.
+    pub fn tap(&mut self, entries: Vec<LogEntry>)
+        requires { entries.items ≡ [] }
+        ensures { self.new ≡ self.old }
+    {
+        let edits = u64::from(self.live.edit());
+        self.tap = Some(Tap::new(edits, entries));
+    }
+
+    /// Lets a prefix see all edits, and hands over what came since an edit, whose number is given, by a list without entries that takes
+    /// its place. None where there is no log.
+    pub fn hand_over(
+        &mut self,
+        prefix: &mut HistoryPrefix<N>,
+        entries: &mut Vec<LogEntry>,
+    ) -> Option<u64>
+        requires { entries.old.items ≡ [] }
+        ensures begins { IsPrefix prefix.old prefix.new }
+        ensures seen { prefix.new ≡ self.old.live.history.journal }
+        ensures came { IfSome result (λ from. CameSince prefix.new from (map entry_of entries.new.items)) }
+        ensures same { self.new ≡ self.old }
+    {
+        let grown = self.head.grown(prefix);
+        *prefix = grown;
+        let edits = u64::from(self.live.edit());
+        hand_over(&mut self.tap, edits, entries)
     }
 
     /// Whom an edit that was answered so wakes: a worker, which then counts as awake, where one sleeps, and the edit may have made a
@@ -148,21 +205,6 @@ impl<B: Body, N: WithBody<B>> Desk<B, N> {
         share.see(&mut self.head);
     }
 
-    /// Lets a prefix see all edits, and puts those from index `from` on into a buffer, in place of what it has, as many as there is
-    /// room for.
-    pub fn copy_edits(&mut self, prefix: &mut HistoryPrefix<N>, from: usize, buffer: &mut Vec<Edit>)
-        ensures begins { IsPrefix prefix.old prefix.new }
-        ensures seen { prefix.new ≡ self.old.live.history.journal }
-        ensures copied { buffer.new.items ≡ take (vec_capacity buffer.old) (drop from prefix.new) }
-        ensures few { length prefix.new ≤ 16777215 }
-        ensures accepted { AreAccepted greatest prefix.new }
-        ensures same { self.new ≡ self.old }
-    {
-        let grown = self.head.grown(prefix);
-        *prefix = grown;
-        copy_from(self.live().journal(), from, buffer);
-    }
-
     /// The value of a kind over the elements from index `lo` up to `hi`. A short range is folded by that kind, where its elements lie; for a
     /// longer one the kind's tree follows all edits that it hasn't followed yet. Refused with `BadRange`, then `OutOfRange`. Takes no
     /// memory.
@@ -173,6 +215,36 @@ impl<B: Body, N: WithBody<B>> Desk<B, N> {
         ensures vector { IsVector N.limits self.old.live.history }
     {
         value_beside(&self.live, &mut self.kinds, kind, lo, hi)
+    }
+
+    /// The same; where there is a log, the answer is kept for it, if it has room.
+    pub fn value_logged(&mut self, kind: Kind, lo: u32, hi: u32) -> Result<Answered, Refusal>
+        ensures ok { IfOk result (λ answered. IsValue self.old.live.history.journal kind lo hi answered) }
+        ensures err { IfErr result (λ refusal. range_refusal self.old.live.history.journal lo hi ≡ Some refusal) }
+        ensures same { self.new ≡ self.old }
+        ensures vector { IsVector N.limits self.old.live.history }
+    {
+        let Answered { edit, value } = self.value(kind, lo, hi)?;
+        let answer = Claimed {
+            edit,
+            kind,
+            lo,
+            hi,
+            value,
+        };
+        self.take_answer(answer);
+        Ok(Answered { edit, value })
+    }
+
+    // Keeps an answer for a log, if there is one that has room.
+    fn take_answer(&mut self, answer: Claimed)
+        requires holds { IsTrueAnswer self.old.live.history.journal answer }
+        requires now { answer.edit ≡ length self.old.live.history.journal }
+        ensures { self.new ≡ self.old }
+    {
+        if has_place(&self.tap) {
+            take_answer(&mut self.tap, answer);
+        }
     }
 
     /// A job for the least node that wants one, or none. Takes no memory.
@@ -321,14 +393,46 @@ fn makes_work(answer: Result<Receipt, Refusal>) -> bool
     }
 }
 
-// Puts edits from index `from` on into a buffer, in place of what it has, as many as there is room for.
-fn copy_from(edits: &[Edit], from: usize, buffer: &mut Vec<Edit>)
-    ensures { buffer.new.items ≡ take (vec_capacity buffer.old) (drop from edits.now) }
+// Whether there is room for one entry more, or no log.
+fn has_place(tap: &Option<Tap>) -> bool
+    ensures { IsTrue result → IfSome tap.now HasPlace }
 {
-    buffer.clear();
-    let (_, rest) = edits.split_at(from.min(edits.len()));
-    let (batch, _) = rest.split_at(buffer.capacity().min(rest.len()));
-    let Ok(()) = buffer.extend_from_slice(batch) else {
-        unreachable!();
-    };
+    match tap {
+        Some(tap) => tap.has_place(),
+        None => true,
+    }
+}
+
+// Keeps an edit for a log, if there is one.
+fn take_edit(tap: &mut Option<Tap>, edit: Edit)
+    requires { IfSome tap.old HasPlace }
+    ensures taken { tap.new ≡ option_map (with_entry (logged.Edit edit)) tap.old }
+    ensures element { IfSome tap.old (λ _. CarriesElement edit) }
+{
+    if let Some(tap) = tap {
+        tap.take_edit(edit);
+    }
+}
+
+// Keeps an answer for a log, if there is one.
+fn take_answer(tap: &mut Option<Tap>, answer: Claimed)
+    requires { IfSome tap.old HasPlace }
+    ensures { tap.new ≡ option_map (with_entry (logged.Answer answer)) tap.old }
+{
+    if let Some(tap) = tap {
+        tap.take(LogEntry::Answer(answer));
+    }
+}
+
+// Hands over what came since an edit, whose number is given, if there is a log. What comes next comes from so many edits on.
+fn hand_over(tap: &mut Option<Tap>, edits: u64, entries: &mut Vec<LogEntry>) -> Option<u64>
+    requires { entries.old.items ≡ [] }
+    ensures from { result ≡ option_map (λ t. t.from) tap.old }
+    ensures entries { IfSome tap.old (λ t. entries.new.items ≡ t.entries) }
+    ensures left { IfSome tap.new (λ t. t ≡ record { from = edits; entries = []; room = t.room }) }
+{
+    match tap {
+        Some(tap) => Some(tap.hand_over(edits, entries)),
+        None => None,
+    }
 }

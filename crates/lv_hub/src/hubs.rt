@@ -1,12 +1,14 @@
 //! The hub: a lock round a desk, and one call of the desk for each of the hub's.
-ghost use Rattle.std.specs.Prelude.{◌≡◌, ◌↔◌, ◌<◌, ◌≤◌, true, false, [], drop, length, take, Err, Some, vec_capacity};
+ghost use Rattle.std.specs.Prelude.{◌≡◌, ◌↔◌, ◌<◌, true, false, [], IfSome, length, map, Err, None, Some};
 ghost use mathlib.Core.List.{IsPrefix};
 ghost use Rattle.lv_transcript.specs.Transcript.{AreAccepted, greatest};
 ghost use Rattle.lv_hub.specs.Counting.{Counts, having_seen};
+ghost use Rattle.lv_hub.specs.Logging.{CameSince, entry_of};
 ghost use Rattle.lv_hub.specs.Told.{ClaimTold, EditTold, DeliveryTold, IsVector, ReadsTold, ReductionTold, ScanTold, StretchTold, ValueTold};
 
 use crate::desks::Desk;
 use crate::histories::{HistoryPrefix, Opened};
+use crate::log_entry::LogEntry;
 use crate::naming::WithBody;
 use crate::shares::Share;
 use lv_bodies::{Body, Kind};
@@ -204,21 +206,70 @@ impl<B: Body, N: WithBody<B>> Hub<B, N> {
         desk.live().copy_range(alloc, lo, hi)
     }
 
-    /// Lets a prefix of this hub see all edits, and puts those from index `from` on into a buffer, in place of what it has, as many as
-    /// there is room for. Takes no memory.
-    pub fn copy_edits<R: Wait>(
+    /// The same as `edit`, but where a log has no room for it: none then, and nothing has changed.
+    pub fn try_edit<R: Wait>(
+        &self,
+        rt: &R,
+        share: &mut Share<N>,
+        edit: Edit,
+    ) -> Option<Result<Receipt, Refusal>>
+        ensures told { IfSome result (λ answer. EditTold N.limits share.old.seen share.new.seen edit answer) }
+        ensures counts { IfSome result (λ answer. Counts (having_seen share.old share.new.seen) answer share.new) }
+        ensures unchanged { result ≡ None → share.new ≡ share.old }
+    {
+        let mut desk = self.desk.lock(rt);
+        if !desk.has_place() {
+            return None;
+        }
+        let answer = desk.edit(share, edit);
+        let (wakes, calls) = desk.wakes_after(answer);
+        drop(desk);
+        self.wake(wakes, calls);
+        Some(answer)
+    }
+
+    /// The same as `value`, and the answer is kept for the log, where there is one. None where that has no room for it; nothing has changed
+    /// then.
+    pub fn try_value<R: Wait>(
+        &self,
+        rt: &R,
+        share: &mut Share<N>,
+        kind: Kind,
+        lo: u32,
+        hi: u32,
+    ) -> Option<Result<Answered, Refusal>>
+        ensures told { IfSome result (λ answer. ValueTold N.limits share.old.seen share.new.seen kind lo hi answer) }
+        ensures share { share.new ≡ having_seen share.old share.new.seen }
+        ensures unchanged { result ≡ None → share.new ≡ share.old }
+    {
+        let mut desk = self.desk.lock(rt);
+        if !desk.has_place() {
+            return None;
+        }
+        desk.show(share);
+        Some(desk.value_logged(kind, lo, hi))
+    }
+
+    // Has the hub keep what comes for a log.
+    pub(crate) fn tap<R: Wait>(&self, rt: &R, entries: Vec<LogEntry>)
+        requires { entries.items ≡ [] }
+    {
+        self.desk.lock(rt).tap(entries);
+    }
+
+    // Lets a prefix of this hub see all edits, and hands over what came for a log since an edit, whose number is given, by a list without
+    // entries that takes its place.
+    pub(crate) fn hand_over<R: Wait>(
         &self,
         rt: &R,
         prefix: &mut HistoryPrefix<N>,
-        from: usize,
-        buffer: &mut Vec<Edit>,
-    )
+        entries: &mut Vec<LogEntry>,
+    ) -> Option<u64>
+        requires { entries.old.items ≡ [] }
         ensures begins { IsPrefix prefix.old prefix.new }
-        ensures copied { buffer.new.items ≡ take (vec_capacity buffer.old) (drop from prefix.new) }
-        ensures few { length prefix.new ≤ 16777215 }
-        ensures accepted { AreAccepted greatest prefix.new }
+        ensures came { IfSome result (λ from. CameSince prefix.new from (map entry_of entries.new.items)) }
     {
-        self.desk.lock(rt).copy_edits(prefix, from, buffer);
+        self.desk.lock(rt).hand_over(prefix, entries)
     }
 
     /// A job for the least node that wants one, or none. Takes no memory.

@@ -1,17 +1,20 @@
 //! How a line of a session is answered.
-ghost use Rattle.std.specs.Prelude.{◌≡◌, ◌≤◌, ◌++◌, ◌∷◌, [], ℕ, List, OnOk, IfErr, vec_len};
+ghost use Rattle.std.specs.Prelude.{◌≡◌, ◌≤◌, ◌++◌, ◌∷◌, [], ℕ, All, List, OnOk, IfErr, vec_len};
 ghost use Rattle.lv_geometry.specs.declared.refusals.Refusal.{Refusal};
 ghost use Rattle.lv_lines.specs.Output.{HasRoom, KeepsRoom, Puts, PutsFront, SamePlaces};
 ghost use Rattle.lv_transcript.specs.declared.claimed.Claimed.{Claimed};
-ghost use Rattle.lv_hub.specs.Counting.{having_seen};
+ghost use Rattle.lv_transcript.specs.Transcript.{IsTrueAnswer};
+ghost use Rattle.lv_hub.specs.Counting.{Counts, having_seen};
 ghost use Rattle.lv_hub.specs.Replying.{SessionCommandAnswer, SessionLineAnswer, TellsEdit, TellsReduction, TellsScan};
 ghost use Rattle.lv_hub.specs.Session.{session_at};
+ghost use Rattle.lv_hub.specs.Told.{EditTold, ValueTold};
 
 use crate::hubs::Hub;
 use crate::naming::WithBody;
+use crate::session_logs::SessionLog;
 use crate::shares::Share;
 use lv_bodies::{Kind, Six};
-use lv_edits::Edit;
+use lv_edits::{Edit, Receipt};
 use lv_geometry::Refusal;
 use lv_script::{
     Asked, Claimed, Command, Fault, LINE, Line, ReplyBuffer, Slice, put_answer, put_bad,
@@ -32,16 +35,18 @@ pub struct SessionPlace<'a, N: WithBody<Six>, T> {
     pub most: usize,
 }
 
-/// Answers a line of a session, on a hub: its share counts what is accepted, and `answers` lists the reductions.
-pub fn answer_line<N: WithBody<Six>, T: Wait, W: Write>(
+/// Answers a line of a session, on a hub: its share counts what is accepted, and `answers` lists the reductions, which stay true.
+pub fn answer_line<N: WithBody<Six>, T: Wait, L: SessionLog<N>, W: Write>(
     place: &SessionPlace<'_, N, T>,
+    log: &L,
     share: &mut Share<N>,
     answers: &mut Vec<Claimed>,
     number: u32,
     line: Line<Command>,
     buffer: &mut ReplyBuffer<'_, W>,
 ) -> Result<(), Fault>
-    requires { HasRoom buffer.old.held.now LINE }
+    requires room { HasRoom buffer.old.held.now LINE }
+    requires all_true { All (IsTrueAnswer share.old.seen) answers.old.items }
     ensures places { SamePlaces buffer.old buffer.new }
     ensures ok { OnOk result ((reply : List ℕ)
         × SessionLineAnswer N.limits (session_at share.old answers.old.items) number line reply (session_at share.new answers.new.items)
@@ -51,22 +56,24 @@ pub fn answer_line<N: WithBody<Six>, T: Wait, W: Write>(
         × PutsFront W.contents buffer.old buffer.new reply) }
     ensures parts { share.new.parts ≡ share.old.parts }
     ensures more { share.old.count ≤ share.new.count }
+    ensures all_true { All (IsTrueAnswer share.new.seen) answers.new.items }
     ensures few { vec_len answers.old ≤ place.now.most → vec_len answers.new ≤ place.now.most }
 {
     match line {
         Line::Nothing => {}
         Line::Bad => put_bad(buffer.held, number),
         Line::Do(command) => {
-            return answer(place, share, answers, number, command, buffer);
+            return answer(place, log, share, answers, number, command, buffer);
         }
     }
     Ok(())
 }
 
 // Answers a command, which is bad unless it is an edit, a reduction or a scan. Only the reply to a scan may be longer than
-// what is held.
-fn answer<N: WithBody<Six>, T: Wait, W: Write>(
+// what is held. What an edit or a reduction comes to is recorded before its reply can go out.
+fn answer<N: WithBody<Six>, T: Wait, L: SessionLog<N>, W: Write>(
     place: &SessionPlace<'_, N, T>,
+    log: &L,
     share: &mut Share<N>,
     answers: &mut Vec<Claimed>,
     number: u32,
@@ -86,42 +93,41 @@ fn answer<N: WithBody<Six>, T: Wait, W: Write>(
     ensures few { vec_len answers.old ≤ place.now.most → vec_len answers.new ≤ place.now.most }
 {
     match command {
-        Command::Edit(edit) => put_edit(place, share, edit, buffer.held),
-        Command::Reduce { kind, lo, hi } => put_reduction(
-            place,
-            share,
-            answers,
-            kind,
-            lo,
-            hi,
-            buffer.held,
-        ),
+        Command::Edit(edit) => {
+            put_edit(place, log, share, edit, buffer.held);
+            log.record(place.rt, place.hub)
+        }
+        Command::Reduce { kind, lo, hi } => {
+            put_reduction(place, log, share, answers, kind, lo, hi, buffer.held);
+            log.record(place.rt, place.hub)
+        }
         Command::Scan {
             inclusive,
             kind,
             lo,
             hi,
-        } => {
-            return put_scanned(
-                place,
-                share,
-                &Asked {
-                    inclusive,
-                    kind,
-                    lo,
-                    hi,
-                },
-                buffer,
-            );
+        } => put_scanned(
+            place,
+            share,
+            &Asked {
+                inclusive,
+                kind,
+                lo,
+                hi,
+            },
+            buffer,
+        ),
+        _ => {
+            put_bad(buffer.held, number);
+            Ok(())
         }
-        _ => put_bad(buffer.held, number),
     }
-    Ok(())
 }
 
 // Makes an edit, and tells its receipt or its refusal.
-fn put_edit<N: WithBody<Six>, T: Wait>(
+fn put_edit<N: WithBody<Six>, T: Wait, L: SessionLog<N>>(
     place: &SessionPlace<'_, N, T>,
+    log: &L,
     share: &mut Share<N>,
     edit: Edit,
     held: &mut Vec<u8>,
@@ -134,15 +140,37 @@ fn put_edit<N: WithBody<Six>, T: Wait>(
     ensures more { share.old.count ≤ share.new.count }
     ensures room { KeepsRoom held.old held.new }
 {
-    match place.hub.edit(place.rt, share, edit) {
+    match edit_with_place(place, log, share, edit) {
         Ok(receipt) => put_receipt(held, receipt),
         Err(refusal) => put_refusal(held, refusal),
     }
 }
 
-// Reduces a range, and lists the answer.
-fn put_reduction<N: WithBody<Six>, T: Wait>(
+// Makes an edit once the log has room for it: until then it is recorded. If that fails, no reply goes out any more.
+fn edit_with_place<N: WithBody<Six>, T: Wait, L: SessionLog<N>>(
     place: &SessionPlace<'_, N, T>,
+    log: &L,
+    share: &mut Share<N>,
+    edit: Edit,
+) -> Result<Receipt, Refusal>
+    ensures told { EditTold N.limits share.old.seen share.new.seen edit result }
+    ensures counts { Counts (having_seen share.old share.new.seen) result share.new }
+{
+    for _ in 0..u64::MAX {
+        if let Some(answer) = place.hub.try_edit(place.rt, share, edit) {
+            return answer;
+        }
+        if log.record(place.rt, place.hub).is_err() {
+            break;
+        }
+    }
+    place.hub.edit(place.rt, share, edit)
+}
+
+// Reduces a range, and lists the answer.
+fn put_reduction<N: WithBody<Six>, T: Wait, L: SessionLog<N>>(
+    place: &SessionPlace<'_, N, T>,
+    log: &L,
     share: &mut Share<N>,
     answers: &mut Vec<Claimed>,
     kind: Kind,
@@ -158,7 +186,8 @@ fn put_reduction<N: WithBody<Six>, T: Wait>(
     ensures room { KeepsRoom held.old held.new }
     ensures few { vec_len answers.old ≤ place.now.most → vec_len answers.new ≤ place.now.most }
 {
-    match place.hub.value(place.rt, share, kind, lo, hi) {
+    let is_listed = make_place(answers, place.most);
+    match value_with_place(place, log, share, is_listed, kind, lo, hi) {
         Ok(Answered { edit, value }) => {
             let reduction = Claimed {
                 edit,
@@ -174,6 +203,42 @@ fn put_reduction<N: WithBody<Six>, T: Wait>(
         }
         Err(refusal) => put_refusal(held, refusal),
     }
+}
+
+// Makes room for one reduction more, if fewer than so many are listed, and says whether there is.
+fn make_place(answers: &mut Vec<Claimed>, most: usize) -> bool
+    ensures items { answers.new.items ≡ answers.old.items }
+    ensures len { vec_len answers.new ≡ vec_len answers.old }
+{
+    answers.len() < most && answers.reserve(1).is_ok()
+}
+
+// The value of a kind over a range. If it is to be listed, it is asked once the log has room for the answer: until then that is recorded. If
+// that fails, no reply goes out any more.
+fn value_with_place<N: WithBody<Six>, T: Wait, L: SessionLog<N>>(
+    place: &SessionPlace<'_, N, T>,
+    log: &L,
+    share: &mut Share<N>,
+    is_listed: bool,
+    kind: Kind,
+    lo: u32,
+    hi: u32,
+) -> Result<Answered, Refusal>
+    ensures told { ValueTold N.limits share.old.seen share.new.seen kind lo hi result }
+    ensures share { share.new ≡ having_seen share.old share.new.seen }
+{
+    if !is_listed {
+        return place.hub.value(place.rt, share, kind, lo, hi);
+    }
+    for _ in 0..u64::MAX {
+        if let Some(answer) = place.hub.try_value(place.rt, share, kind, lo, hi) {
+            return answer;
+        }
+        if log.record(place.rt, place.hub).is_err() {
+            break;
+        }
+    }
+    place.hub.value(place.rt, share, kind, lo, hi)
 }
 
 // Lists a reduction behind others, where it finds room and fewer than so many are listed.

@@ -11,7 +11,7 @@ ghost use Rattle.lv_hub.specs.Replying.{TellsLine};
 ghost use Rattle.lv_hub.specs.Session.{KeepTies, SessionState, SessionStep, session_at};
 
 use crate::naming::WithBody;
-use crate::replying::SessionPlace;
+use crate::replying::{SessionPlace, answer_line};
 use crate::session_logs::SessionLog;
 use crate::shares::Share;
 use lv_bodies::Six;
@@ -24,7 +24,8 @@ use std::sync::Wait;
 
 /// Answers the lines of a session on a hub: pushes, pops, writes, reserves, swaps, truncates, reductions and scans, as a script's; every
 /// other line that says something is bad. Lists each reduction that was answered, in order, at most as many as the place says; one whose
-/// entry finds no room is refused with `NoMemory`. The log takes up what comes of each line.
+/// entry finds no room is refused with `NoMemory`. What the session does is recorded by the log before a reply to it goes out; where that
+/// fails, the fault is `WriteFault`, and nothing more goes out.
 ///
 /// The share counts the edits that were accepted, and sees the hub's edits up to each answer. Ends with the faults of a script; edits
 /// accepted before a fault stay, and stay counted.
@@ -160,8 +161,9 @@ impl<'a, N: WithBody<Six>, T: Wait, L: SessionLog<N>, K: SessionStart, W: Write>
         buffer: &mut ReplyBuffer<'_, W>,
     ) -> Result<(), Fault> {
         buffer.make_room(LINE)?;
-        self.log.answer(
+        answer_line(
             &self.place,
+            self.log,
             &mut self.share,
             &mut self.answers,
             number,

@@ -99,14 +99,6 @@ impl<N: Naming> Share<N> {
         self.prefix = longer;
     }
 
-    // The longer of a prefix and of what it has seen, which both begin.
-    pub(crate) fn longer(&self, prefix: &HistoryPrefix<N>) -> HistoryPrefix<N>
-        ensures this { IsPrefix self.now.seen result }
-        ensures that { IsPrefix prefix.now result }
-    {
-        self.prefix.longer(prefix)
-    }
-
     // What it has seen, as a prefix.
     pub(crate) fn prefix(&self) -> HistoryPrefix<N>
         ensures { result ≡ self.now.seen }

@@ -5,13 +5,13 @@ use Rattle.std.specs.Io.KnownBytes.{Appends}
 use Rattle.lv_edits.specs.declared.edit.Edit.{Edit}
 use Rattle.lv_lines.specs.declared.fault.Fault.{Fault}
 use Rattle.lv_transcript.specs.declared.claimed.Claimed.{Claimed}
-use Rattle.lv_hub.specs.Minuting.{MinutesEnd, WroteWhole}
+use Rattle.lv_hub.specs.Logging.{LogEnds, WroteWhole}
 use Rattle.lv_server.specs.Starting.{Records}
 use Rattle.lv_server.specs.Writing.{Writes}
 use Rattle.lv_server.proofs.ServedLaws.{if_some}
 
--- minutes that ended well were written whole
-pub whole_so : (start contents : Option (List ℕ)) (journal : List Edit) (ended : Result Unit Fault) → MinutesEnd start contents journal ended → IfOk ended (λ done. WroteWhole start contents journal)
+-- a log that ended well was written whole
+pub whole_so : (start contents : Option (List ℕ)) (journal : List Edit) (ended : Result Unit Fault) → LogEnds start contents journal ended → IfOk ended (λ done. WroteWhole start contents journal)
 whole_so start contents journal (Ok done) ends = ends
 whole_so start contents journal (Err fault) ends = tt
 

@@ -4,7 +4,7 @@ use Rattle.std.specs.Io.KnownBytes.{Appends}
 use Rattle.lv_edits.specs.declared.edit.Edit.{Edit}
 use Rattle.lv_transcript.specs.declared.claimed.Claimed.{Claimed}
 use Rattle.lv_transcript.specs.Transcript.{transcript_text}
-use Rattle.lv_hub.specs.Minuting.{WroteWhole}
+use Rattle.lv_hub.specs.Logging.{WroteWhole}
 
 -- what it had, where there is such a file
 abbrev pub start_of : {V : Type 0} → (V → Option (List ℕ)) → Option V → Option (List ℕ)

@@ -13,10 +13,10 @@ ghost use Rattle.lv_watchers.specs.Watchers.{AreLeft};
 use crate::clients::{Client, Clients, Gathered, Present, begin_all, take_back};
 use crate::failure::Failure;
 use crate::threads::hold_all;
-use crate::transcript::{all_or_failure, begin_minutes, unlocked, write_closed};
+use crate::transcript::{all_or_failure, begin_log, unlocked, write_closed};
 use lv_bodies::Six;
 use lv_geometry::Limits;
-use lv_hub::{Begun, Hub, Minutes, Opened, Share, WithBody};
+use lv_hub::{Begun, Hub, Opened, OperationLog, Share, WithBody};
 use lv_watchers::{Leaving, Watch, Watched, leave_all};
 use std::alloc::Global;
 use std::io::{Read, Write};
@@ -125,7 +125,7 @@ fn serve_as<
 {
     let (hub, mut share) = Hub::<Six, N>::new(alloc, plan.limits, body, blank, parts, opened);
     match serve_all::<N, K, F, V, R>(rt, alloc, plan, &hub, &mut share, clients, file) {
-        Ok((all, minutes, leaving)) => {
+        Ok((all, log, leaving)) => {
             let Gathered {
                 mut answers,
                 streams,
@@ -135,7 +135,7 @@ fn serve_as<
                 hub,
                 share,
                 &mut answers,
-                minutes,
+                log,
                 leaving,
                 transcript,
                 writer,
@@ -165,20 +165,20 @@ fn serve_all<
     share: &mut Share<N>,
     clients: Clients<F>,
     file: Option<V>,
-) -> Result<(Gathered<F>, Option<Minutes<N, V, K>>, Leaving<F>), Failure>
+) -> Result<(Gathered<F>, Option<OperationLog<N, V, K>>, Leaving<F>), Failure>
     requires start { IfSome file (λ file. K.start ≡ V.contents file) }
     requires parts { share.old.parts ≡ vec_len clients.streams + vec_len clients.watches + 1 }
     requires count { share.old.count ≡ 0 }
     requires unseen { share.old.seen ≡ [] }
     ensures parts { IfOk result (λ all. share.new.parts ≡ share.old.parts) }
     ensures unused { IfOk result (λ all. IsUnused all.0.transcript) }
-    ensures minuted { IfOk result (λ all. is_some all.1 ≡ is_some file) }
+    ensures logged { IfOk result (λ all. is_some all.1 ≡ is_some file) }
     ensures held { IfOk result (λ all. AreAllHeld N.limits share.new (map (λ s. record { lines = F.remaining s.lines; replies = F.contents s.replies }) clients.streams.items) (map (λ s. record { lines = F.remaining s.lines; replies = F.contents s.replies }) all.0.streams.items) (in_a_row all.0.answers.items)) }
     ensures left { IfOk result (λ all. AreLeft share.new.seen (map (λ w. record { questions = w.questions.items; contents = F.contents w.notes }) clients.watches.items) all.2.left.items) }
     ensures none { IfOk result (λ all. all.2.watched.items ≡ []) }
     ensures room { IfOk result (λ all. vec_len all.2.left ≤ vec_capacity all.2.watched) }
 {
-    let minutes = begin_minutes::<N, K, V>(alloc, file, share)?;
+    let log = begin_log::<N, K, V, R>(rt, alloc, file, hub, share)?;
     let room = Gathered::with_room(alloc, clients.streams.len())?;
     let present = begin_all(alloc, share, clients)?;
     let Present {
@@ -186,8 +186,8 @@ fn serve_all<
         watchers,
         leaving,
     } = present;
-    let (held, watchers) = hold_all(rt, alloc, plan, hub, minutes.as_ref(), tasks, watchers);
+    let (held, watchers) = hold_all(rt, alloc, plan, hub, log.as_ref(), tasks, watchers);
     let all = take_back(room, share, held)?;
     let left = leave_all(leaving, share, watchers);
-    Ok((all, unlocked(minutes), left))
+    Ok((all, unlocked(rt, hub, log), left))
 }

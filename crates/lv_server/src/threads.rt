@@ -6,9 +6,10 @@ ghost use Rattle.lv_watchers.specs.Watchers.{AreWatchedFrom};
 use crate::clients::Task;
 use crate::failure::{Failure, FaultPlace};
 use crate::server::Plan;
-use crate::transcript::run_minuted;
 use lv_bodies::Six;
-use lv_hub::{Begun, Hub, Minutes, OpenGate, SessionPlace, WithBody, attend};
+use lv_hub::{
+    Begun, Hub, OpenGate, OperationLog, SessionLog, SessionPlace, WithBody, attend, run_session,
+};
 use lv_script::Fault;
 use lv_transcript::Queue;
 use lv_watchers::Watcher;
@@ -31,7 +32,7 @@ pub fn hold_all<
     alloc: Global,
     plan: Plan,
     hub: &Hub<Six, N>,
-    minutes: Option<&Mutex<Minutes<N, V, K>>>,
+    log: Option<&Mutex<OperationLog<N, V, K>>>,
     tasks: Vec<Task<N, F>>,
     watchers: Vec<Watcher<N, F>>,
 ) -> (Vec<Task<N, F>>, Vec<Watcher<N, F>>)
@@ -50,7 +51,7 @@ pub fn hold_all<
         move || -> (Vec<Task<N, F>>, Vec<Watcher<N, F>>)
             ensures { AreHeldFrom N.limits tasks.items result.0.items
                 × AreWatchedFrom N.limits watchers.items result.1.items }
-        { hold_beside(rt, alloc, hub, minutes, most, tasks, watchers) },
+        { hold_beside(rt, alloc, hub, log, most, tasks, watchers) },
     );
     ended
 }
@@ -85,7 +86,7 @@ fn hold_beside<
     rt: &R,
     alloc: Global,
     hub: &Hub<Six, N>,
-    minutes: Option<&Mutex<Minutes<N, V, K>>>,
+    log: Option<&Mutex<OperationLog<N, V, K>>>,
     most: usize,
     tasks: Vec<Task<N, F>>,
     watchers: Vec<Watcher<N, F>>,
@@ -94,40 +95,54 @@ fn hold_beside<
     ensures watched { AreWatchedFrom N.limits watchers.items result.1.items }
 {
     if watchers.len() == 0 {
-        let held = hold_each(rt, alloc, hub, minutes, most, tasks);
+        let held = hold_each(rt, alloc, hub, log, most, tasks);
         return (held, watchers);
     }
     let (watchers, held) = thread::join(
         rt,
         move || -> Vec<Watcher<N, F>>
             ensures { AreWatchedFrom N.limits watchers.items result.items }
-        { watch_all(rt, alloc, hub, watchers) },
+        { watch_all(rt, alloc, hub, log, watchers) },
         move || -> Vec<Task<N, F>>
             ensures { AreHeldFrom N.limits tasks.items result.items }
-        { hold_each(rt, alloc, hub, minutes, most, tasks) },
+        { hold_each(rt, alloc, hub, log, most, tasks) },
     );
     (held, watchers)
 }
 
 // Has each subscriber told so, and gives them back. Takes no memory.
-fn watch_all<N: WithBody<Six> + Send + Sync, F: Write + Send + Drop, R: Threads + Wait + Sync>(
+fn watch_all<
+    N: WithBody<Six> + Send + Sync,
+    K: Begun + Send + Sync,
+    F: Write + Send + Drop,
+    V: Write + Send + Drop,
+    R: Threads + Wait + Sync,
+>(
     rt: &R,
     alloc: Global,
     hub: &Hub<Six, N>,
+    log: Option<&Mutex<OperationLog<N, V, K>>>,
     watchers: Vec<Watcher<N, F>>,
 ) -> Vec<Watcher<N, F>>
     ensures { AreWatchedFrom N.limits watchers.items result.items }
 {
     let mut watchers = watchers;
-    watch_each(rt, alloc, hub, watchers.as_mut_slice());
+    watch_each(rt, alloc, hub, log, watchers.as_mut_slice());
     watchers
 }
 
 // Has each subscriber told, in a thread of its own where one can be made, until the hub's workers are dismissed.
-fn watch_each<N: WithBody<Six> + Send + Sync, F: Write + Send + Drop, R: Threads + Wait + Sync>(
+fn watch_each<
+    N: WithBody<Six> + Send + Sync,
+    K: Begun + Send + Sync,
+    F: Write + Send + Drop,
+    V: Write + Send + Drop,
+    R: Threads + Wait + Sync,
+>(
     rt: &R,
     alloc: Global,
     hub: &Hub<Six, N>,
+    log: Option<&Mutex<OperationLog<N, V, K>>>,
     watchers: &mut [Watcher<N, F>],
 )
     ensures { AreWatchedFrom N.limits watchers.old watchers.new }
@@ -137,7 +152,7 @@ fn watch_each<N: WithBody<Six> + Send + Sync, F: Write + Send + Drop, R: Threads
         rt,
         watchers,
         threads,
-        &|_, watcher| watcher.run(rt, alloc, hub),
+        &|_, watcher| watcher.run(rt, alloc, hub, &log),
     );
 }
 
@@ -153,14 +168,14 @@ fn hold_each<
     rt: &R,
     alloc: Global,
     hub: &Hub<Six, N>,
-    minutes: Option<&Mutex<Minutes<N, V, K>>>,
+    log: Option<&Mutex<OperationLog<N, V, K>>>,
     most: usize,
     tasks: Vec<Task<N, F>>,
 ) -> Vec<Task<N, F>>
     ensures { AreHeldFrom N.limits tasks.items result.items }
 {
     let mut tasks = tasks;
-    hold_in_place(rt, alloc, hub, minutes, most, tasks.as_mut_slice());
+    hold_in_place(rt, alloc, hub, log, most, tasks.as_mut_slice());
     hub.dismiss(rt);
     tasks
 }
@@ -177,15 +192,15 @@ fn hold_in_place<
     rt: &R,
     alloc: Global,
     hub: &Hub<Six, N>,
-    minutes: Option<&Mutex<Minutes<N, V, K>>>,
+    log: Option<&Mutex<OperationLog<N, V, K>>>,
     most: usize,
     tasks: &mut [Task<N, F>],
 )
     ensures { AreHeldFrom N.limits tasks.old tasks.new }
 {
     let threads = tasks.len();
-    hold_waiting(rt, alloc, hub, minutes, most, tasks, threads, false);
-    hold_waiting(rt, alloc, hub, minutes, most, tasks, 1, true);
+    hold_waiting(rt, alloc, hub, log, most, tasks, threads, false);
+    hold_waiting(rt, alloc, hub, log, most, tasks, 1, true);
 }
 
 // Holds each that waits, in so many threads, where they can be made. Threads take memory before they begin, and so does each session that has
@@ -200,7 +215,7 @@ fn hold_waiting<
     rt: &R,
     alloc: Global,
     hub: &Hub<Six, N>,
-    minutes: Option<&Mutex<Minutes<N, V, K>>>,
+    log: Option<&Mutex<OperationLog<N, V, K>>>,
     most: usize,
     tasks: &mut [Task<N, F>],
     threads: usize,
@@ -220,7 +235,7 @@ fn hold_waiting<
         if frees {
             task.spare = None;
         }
-        hold(place, minutes, task)
+        hold(place, log, task)
     };
     thread::for_each_mut(rt, tasks, threads.max(1), &held);
 }
@@ -228,7 +243,7 @@ fn hold_waiting<
 // Holds a session that waits. Where it finds no memory to begin with it waits still, and nothing is changed.
 fn hold<N: WithBody<Six>, K: Begun, F: Read + Write + Drop, V: Write + Drop, R: Wait>(
     place: SessionPlace<'_, N, R>,
-    minutes: Option<&Mutex<Minutes<N, V, K>>>,
+    log: Option<&Mutex<OperationLog<N, V, K>>>,
     task: &mut Task<N, F>,
 )
     ensures { IsHeldOnce N.limits task.old task.new }
@@ -236,17 +251,24 @@ fn hold<N: WithBody<Six>, K: Begun, F: Read + Write + Drop, V: Write + Drop, R: 
     if task.ended.is_some() {
         return;
     }
-    let answers = run_minuted(
+    let (rt, hub) = (place.rt, place.hub);
+    let answers = run_session(
         place,
-        minutes,
+        &log,
         &mut task.share,
         &mut task.streams.lines,
         &mut task.streams.replies,
     );
-    let at = FaultPlace::Session(task.streams.number);
     match answers {
         Ok(answers) => task.ended = Some(Ok(Queue::new(answers))),
         Err(Fault::NoMemory) => {}
-        Err(fault) => task.ended = Some(Err(Failure { fault, place: at })),
+        Err(fault) => {
+            let place = if log.record(rt, hub).is_ok() {
+                FaultPlace::Session(task.streams.number)
+            } else {
+                FaultPlace::Transcript
+            };
+            task.ended = Some(Err(Failure { fault, place }));
+        }
     }
 }

@@ -1,14 +1,12 @@
-//! The transcript of a server: its file, which is written as edits come (the minutes), and what is written at the close.
+//! The transcript of a server: its file, which is written as edits come, and what is written at the close.
 
 ghost use Rattle.std.specs.Prelude.{◌≡◌, ◌⊎◌, ◌<◌, ◌≤◌, ℕ, All, Err, HoldsAt, IfErr, IfOk, IfSome, List, MatchResult, Ok, OnOk, [], false, is_some, length, map, true, vec_capacity, vec_len};
 ghost use mathlib.Core.List.{IsPrefix};
-ghost use Rattle.lv_lines.specs.Replies.{LinesServed};
 ghost use Rattle.lv_transcript.specs.Joined.{in_a_row};
 ghost use Rattle.lv_transcript.specs.Transcribing.{IsUnused};
 ghost use Rattle.lv_transcript.specs.Transcript.{AreAccepted, AreInOrder, IsTrueAnswer, greatest};
 ghost use Rattle.lv_hub.specs.Counting.{having_seen};
-ghost use Rattle.lv_hub.specs.Minuting.{WroteWhole};
-ghost use Rattle.lv_hub.specs.Session.{SessionState, SessionStep, session_at};
+ghost use Rattle.lv_hub.specs.Logging.{WroteWhole};
 ghost use Rattle.lv_watchers.specs.Watchers.{ClosesTelling};
 ghost use Rattle.lv_server.specs.Starting.{Records};
 ghost use Rattle.lv_server.specs.Writing.{FailsToClose, Writes, WritesClosed};
@@ -17,77 +15,58 @@ use crate::clients::Client;
 use crate::failure::{Failure, FaultPlace};
 use lv_bodies::Six;
 use lv_edits::Edit;
-use lv_hub::{Begun, Hub, Minutes, NoLog, SessionPlace, Share, WithBody, run_session};
-use lv_script::{Claimed, Fault};
+use lv_hub::{Begun, Hub, OperationLog, SessionLog, Share, WithBody};
+use lv_script::Fault;
 use lv_transcript::{Queue, TranscriptWriter, write_joined_transcript};
 use lv_watchers::{Leaving, Watched};
 use std::alloc::Global;
-use std::io::{Read, Write};
+use std::io::Write;
 use std::sync::{Mutex, Wait};
 
-/// Minutes of a hub whose edits nobody has seen, where there is a file for them.
-pub fn begin_minutes<N: WithBody<Six>, K: Begun, V: Write + Drop>(
+/// The log of a hub whose edits nobody has seen, where there is a file for it.
+pub fn begin_log<N: WithBody<Six>, K: Begun, V: Write + Drop, R: Wait>(
+    rt: &R,
     alloc: Global,
     file: Option<V>,
+    hub: &Hub<Six, N>,
     share: &Share<N>,
-) -> Result<Option<Mutex<Minutes<N, V, K>>>, Failure>
+) -> Result<Option<Mutex<OperationLog<N, V, K>>>, Failure>
     requires start { IfSome file (λ file. K.start ≡ V.contents file) }
     requires unseen { share.now.seen ≡ [] }
-    ensures { IfOk result (λ minutes. is_some minutes ≡ is_some file) }
+    ensures { IfOk result (λ log. is_some log ≡ is_some file) }
 {
     let Some(file) = file else {
         return Ok(None);
     };
-    match Minutes::new(alloc, file, share) {
-        Ok(minutes) => Ok(Some(Mutex::new(minutes))),
+    match OperationLog::begin(rt, alloc, file, hub, share) {
+        Ok(log) => Ok(Some(Mutex::new(log))),
         Err(_) => Err(Failure::memory()),
     }
 }
 
-/// The minutes, once no session is held any more.
-pub fn unlocked<N: WithBody<Six>, K: Begun, V: Write + Drop>(
-    minutes: Option<Mutex<Minutes<N, V, K>>>,
-) -> Option<Minutes<N, V, K>>
-    ensures { is_some result ≡ is_some minutes }
+/// The log, once no session is held any more: what came last is recorded. Where that fails, the log's end tells it.
+pub fn unlocked<N: WithBody<Six>, K: Begun, V: Write + Drop, R: Wait>(
+    rt: &R,
+    hub: &Hub<Six, N>,
+    log: Option<Mutex<OperationLog<N, V, K>>>,
+) -> Option<OperationLog<N, V, K>>
+    ensures { is_some result ≡ is_some log }
 {
-    match minutes {
-        Some(minutes) => Some(minutes.into_inner()),
+    let _ = log.as_ref().record(rt, hub);
+    match log {
+        Some(log) => Some(log.into_inner()),
         None => None,
     }
 }
 
-/// Answers the lines of a session, and has them taken up where minutes are kept.
-pub fn run_minuted<N: WithBody<Six>, K: Begun, V: Write + Drop, T: Wait, R: Read, W: Write>(
-    place: SessionPlace<'_, N, T>,
-    minutes: Option<&Mutex<Minutes<N, V, K>>>,
-    share: &mut Share<N>,
-    reader: &mut R,
-    writer: &mut W,
-) -> Result<Vec<Claimed>, Fault>
-    ensures lines_served { (last : SessionState)
-        × LinesServed (SessionStep N.limits) (session_at share.old []) last
-        (R.remaining reader.old) (R.remaining reader.new) (W.contents writer.old) (W.contents writer.new) result
-        × (share.new.count ≡ last.count)
-        × (share.new.seen ≡ last.seen)
-        × IfOk result (λ answers. answers.items ≡ last.answers) }
-    ensures parts { share.new.parts ≡ share.old.parts }
-    ensures all_true { IfOk result (λ answers. All (IsTrueAnswer share.new.seen) answers.items) }
-    ensures order { IfOk result (λ answers. AreInOrder answers.items) }
-{
-    match minutes {
-        Some(minutes) => run_session(place, minutes, share, reader, writer),
-        None => run_session(place, &NoLog, share, reader, writer),
-    }
-}
-
-/// Closes a hub and writes its transcript by what was made for it, ends its minutes, and gives their file back. Then subscribers that
-/// have ended tell the last. Takes no memory. The transcript's fault comes before that of the minutes. A call drops the vector, as one above drops the hub: the proof of a body
+/// Closes a hub and writes its transcript by what was made for it, ends its log, and gives its file back. Then subscribers that
+/// have ended tell the last. Takes no memory. The transcript's fault comes before that of the log. A call drops the vector, as one above drops the hub: the proof of a body
 /// that does so by itself is long.
 pub fn write_closed<N: WithBody<Six>, K: Begun, F: Write + Drop, V: Write + Drop, W: Write>(
     hub: Hub<Six, N>,
     share: Share<N>,
     queues: &mut Vec<Queue>,
-    minutes: Option<Minutes<N, V, K>>,
+    log: Option<OperationLog<N, V, K>>,
     leaving: Leaving<F>,
     transcript: TranscriptWriter,
     writer: &mut W,
@@ -99,53 +78,52 @@ pub fn write_closed<N: WithBody<Six>, K: Begun, F: Write + Drop, V: Write + Drop
     requires room { vec_len leaving.left ≤ vec_capacity leaving.watched }
     ensures written { IfOk result.1 (λ done. WritesClosed N.limits share (in_a_row queues.old.items) (W.contents writer.old) (W.contents writer.new) (Ok done)) }
     ensures failed { IfErr result.1 (λ failure. FailsToClose N.limits share (in_a_row queues.old.items) (W.contents writer.old) (W.contents writer.new) failure.fault) }
-    ensures back { is_some result.0 ≡ is_some minutes }
+    ensures back { is_some result.0 ≡ is_some log }
     // The file has the edits of the transcript that was written.
     ensures recorded { IfOk result.1 (λ done. IfSome result.0 (λ file. Records K.start (V.contents file) (W.contents writer.old) (W.contents writer.new))) }
     // What subscribers tell last is of those edits too.
     ensures told { IfOk result.1 (λ done. ClosesTelling share leaving.left.items (map (λ w. w.notices) result.2.items) (W.contents writer.old) (W.contents writer.new)) }
 {
-    let share = shown(&minutes, share);
+    let share = shown(&log, share);
     let mut live = hub.close(share);
     let written = write_in_order(live.journal(), queues, transcript, writer);
-    let (file, ended) = end_minutes(minutes, live.journal());
-    let watched = leaving.tell(&mut live);
+    let (file, ended) = end_log(log, live.journal());
+    let watched = leaving.tell(&mut live, ended.is_ok());
     drop(live);
     (file, first_failure(written, ended), watched)
 }
 
-// A share that has seen what minutes took up too.
+// A share that has seen what was recorded too.
 fn shown<N: WithBody<Six>, K: Begun, V: Write + Drop>(
-    minutes: &Option<Minutes<N, V, K>>,
+    log: &Option<OperationLog<N, V, K>>,
     share: Share<N>,
 ) -> Share<N>
     ensures same { result ≡ having_seen share result.seen }
     ensures more { IsPrefix share.seen result.seen }
-    ensures minutes { IfSome minutes.now (λ minutes. IsPrefix minutes.seen result.seen) }
+    ensures recorded { IfSome log.now (λ log. IsPrefix log.seen result.seen) }
 {
     let mut share = share;
-    if let Some(minutes) = minutes {
-        minutes.show(&mut share);
+    if let Some(log) = log {
+        log.show(&mut share);
     }
     share
 }
 
-// Ends minutes, if there are any, by the journal of the hub, and gives their file back.
-fn end_minutes<N: WithBody<Six>, K: Begun, V: Write + Drop>(
-    minutes: Option<Minutes<N, V, K>>,
+// Ends a log, if there is one, by the journal of the hub, and gives its file back.
+fn end_log<N: WithBody<Six>, K: Begun, V: Write + Drop>(
+    log: Option<OperationLog<N, V, K>>,
     journal: &[Edit],
 ) -> (Option<V>, Result<(), Fault>)
-    requires begins { IfSome minutes (λ minutes. IsPrefix minutes.seen journal.now) }
-    requires accepted { AreAccepted greatest journal.now }
+    requires { IfSome log (λ log. IsPrefix log.seen journal.now) }
     ensures late { IfErr result.1 (λ fault. fault ≡ Fault.WriteFault) }
-    ensures back { is_some result.0 ≡ is_some minutes }
+    ensures back { is_some result.0 ≡ is_some log }
     // The file has all edits of the journal, each answer true of those before it, and the last line.
     ensures whole { IfOk result.1 (λ done. IfSome result.0 (λ file. WroteWhole K.start (V.contents file) journal.now)) }
 {
-    let Some(minutes) = minutes else {
+    let Some(log) = log else {
         return (None, Ok(()));
     };
-    let (file, ended) = minutes.end(journal);
+    let (file, ended) = log.end(journal);
     (Some(file), ended)
 }
 

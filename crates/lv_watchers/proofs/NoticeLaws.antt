@@ -1,6 +1,6 @@
 -- The lines of what a subscriber is told, one behind the other.
-use Rattle.std.proofs.Common.{◌≡◌, ℕ, true, false, ◌+◌, ◌<◌, Option, List, [], ◌∷◌, ◌++◌, length, get_or, take, drop, sym, ap, ◌∙◌, subst, append-nil}
-use Rattle.std.proofs.KnownBytes.{Appends-trans}
+use Rattle.std.proofs.Common.{◌≡◌, ℕ, true, false, ◌+◌, ◌<◌, Option, List, [], ◌∷◌, ◌++◌, length, get_or, take, drop, sym, ap, ◌∙◌, refl, subst, append-nil}
+use Rattle.std.proofs.KnownBytes.{Appends-nil, Appends-trans}
 use Rattle.std.specs.Io.KnownBytes.{Appends}
 use Rattle.std.proofs.lemmas.List.{take_more, take-append-drop}
 use Rattle.std.proofs.lemmas.List.Concat.{flat_map-append}
@@ -58,3 +58,7 @@ module _ (text : List ℕ) (old : NoticesState) where
   wrote_part contents well front = λ start before was.
       let first : Writes start [] old.contents [] before = record { sent = before; appended = subst (λ f. WroteOrPart f start old.contents before) well was; all = sym (append-nil before) } in
       WritesFront-after first front
+
+  -- nothing was, and that counts as a write that failed
+  pub gave_up : old.failed ≡ false → WritesMore text old (record old { failed = true })
+  gave_up well = wrote_part old.contents well record { unsent = text; written = record { sent = []; appended = Appends-nil old.contents; all = refl } }

@@ -51,8 +51,8 @@ impl<F: Write + Drop> Left<F> {
         }
     }
 
-    /// Tells the last, by the vector of the hub that was closed. Takes no memory.
-    pub fn tell(self, live: &mut Live<Six>) -> Watched<F>
+    /// Tells the last, by the vector of the hub that was closed, unless that isn't recorded. Takes no memory.
+    pub fn tell(self, live: &mut Live<Six>, is_recorded: bool) -> Watched<F>
         requires { IsLegalInLimits live.old.history }
         ensures last { TellsLast live.old.history.journal self result.notices }
         ensures same { SameLive live.old live.new }
@@ -62,7 +62,7 @@ impl<F: Write + Drop> Left<F> {
             ended,
             mut notices,
         } = self;
-        notices.tell(&ended.tell(live));
+        notices.tell(&ended.tell(live), is_recorded);
         Watched { number, notices }
     }
 }
@@ -87,8 +87,8 @@ impl<F: Write + Drop> Leaving<F> {
         })
     }
 
-    /// Has each tell the last, in order, by the vector of the hub that was closed. Takes no memory.
-    pub fn tell(self, live: &mut Live<Six>) -> Vec<Watched<F>>
+    /// Has each tell the last, in order, by the vector of the hub that was closed, unless that isn't recorded. Takes no memory.
+    pub fn tell(self, live: &mut Live<Six>, is_recorded: bool) -> Vec<Watched<F>>
         requires legal { IsLegalInLimits live.old.history }
         requires none { self.watched.items ≡ [] }
         requires room { vec_len self.left ≤ vec_capacity self.watched }
@@ -97,7 +97,7 @@ impl<F: Write + Drop> Leaving<F> {
     {
         let Leaving { left, mut watched } = self;
         for one in left {
-            watched.push_reserved(one.tell(live));
+            watched.push_reserved(one.tell(live, is_recorded));
         }
         watched
     }

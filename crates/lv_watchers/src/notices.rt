@@ -45,11 +45,15 @@ impl<F: Write + Drop> Notices<F> {
         })
     }
 
-    /// Writes the lines of what was told, unless a write has failed.
-    pub fn tell(&mut self, told: &Told)
+    /// Writes the lines of what was told, unless a write has failed. Where it isn't recorded that it is so, it counts as such.
+    pub fn tell(&mut self, told: &Told, is_recorded: bool)
         ensures { WritesMore (told_text told.now) self.old self.new }
     {
         if self.failed {
+            return;
+        }
+        if !is_recorded {
+            fail(&mut self.held, &mut self.failed);
             return;
         }
         let mut buffer = ReplyBuffer {

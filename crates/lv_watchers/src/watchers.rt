@@ -10,7 +10,7 @@ use crate::leaving::Left;
 use crate::notices::Notices;
 use lv_bodies::Six;
 use lv_geometry::Refusal;
-use lv_hub::{Hub, Query, Share, Subscriber, WithBody};
+use lv_hub::{Hub, Query, SessionLog, Share, Subscriber, WithBody};
 use std::alloc::Global;
 use std::io::Write;
 use std::marker::Model;
@@ -47,34 +47,52 @@ impl<N: WithBody<Six>, F: Write + Drop> Model for Watcher<N, F> {
 }
 
 impl<N: WithBody<Six>, F: Write + Drop> Watcher<N, F> {
-    /// Has its subscriber told of edits, until the hub's workers are dismissed or a write fails. Where memory is wanting it looks
-    /// again after a pause. At the end it looks once more, without sleep.
-    pub fn run<R: Wait>(&mut self, rt: &R, alloc: Global, hub: &Hub<Six, N>)
+    /// Has its subscriber told of edits, until the hub's workers are dismissed or a write fails. Each is recorded before it is told. Where
+    /// memory is wanting it looks again after a pause. At the end it looks once more, without sleep.
+    pub fn run<L: SessionLog<N>, R: Wait>(
+        &mut self,
+        rt: &R,
+        alloc: Global,
+        hub: &Hub<Six, N>,
+        log: &L,
+    )
         ensures { Watches N.limits self.old self.new }
     {
-        self.turns(rt, alloc, hub);
-        self.look(rt, alloc, hub);
+        self.turns(rt, alloc, hub, log);
+        self.look(rt, alloc, hub, log);
     }
 
     // Has its subscriber told so, turn by turn.
     #[tactic(auto, using(crate::proofs::Noticed::watches_both))]
-    fn turns<R: Wait>(&mut self, rt: &R, alloc: Global, hub: &Hub<Six, N>)
+    fn turns<L: SessionLog<N>, R: Wait>(
+        &mut self,
+        rt: &R,
+        alloc: Global,
+        hub: &Hub<Six, N>,
+        log: &L,
+    )
         ensures { Watches N.limits self.old self.new }
     {
         for _ in 0..u64::MAX {
-            if !self.turn(rt, alloc, hub) {
+            if !self.turn(rt, alloc, hub, log) {
                 return;
             }
         }
     }
 
     // Sleeps until there is an edit to tell of, and tells. Says whether there is another turn.
-    fn turn<R: Wait>(&mut self, rt: &R, alloc: Global, hub: &Hub<Six, N>) -> bool
+    fn turn<L: SessionLog<N>, R: Wait>(
+        &mut self,
+        rt: &R,
+        alloc: Global,
+        hub: &Hub<Six, N>,
+        log: &L,
+    ) -> bool
         ensures { Watches N.limits self.old self.new }
     {
         match self.subscriber.next(rt, alloc, hub) {
             Ok(Some(told)) => {
-                self.notices.tell(&told);
+                self.notices.tell(&told, log.record(rt, hub).is_ok());
                 !self.notices.has_failed()
             }
             Ok(None) => false,
@@ -83,14 +101,14 @@ impl<N: WithBody<Six>, F: Write + Drop> Watcher<N, F> {
     }
 
     // Tells what there is to tell, unless a write has failed.
-    fn look<R: Wait>(&mut self, rt: &R, alloc: Global, hub: &Hub<Six, N>)
+    fn look<L: SessionLog<N>, R: Wait>(&mut self, rt: &R, alloc: Global, hub: &Hub<Six, N>, log: &L)
         ensures { Watches N.limits self.old self.new }
     {
         if self.notices.has_failed() {
             return;
         }
         match self.subscriber.look(rt, alloc, hub) {
-            Ok(Some(told)) => self.notices.tell(&told),
+            Ok(Some(told)) => self.notices.tell(&told, log.record(rt, hub).is_ok()),
             Ok(None) | Err(_) => {}
         }
     }

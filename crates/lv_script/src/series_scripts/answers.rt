@@ -22,8 +22,7 @@ use crate::watch_replies::{ROOM, put_notes};
 use lv_bodies::{Kind, Name};
 use lv_geometry::Refusal;
 use lv_lines::{
-    Fault, ReplyBuffer, put_answer, put_named, put_refused, put_size, put_unwatched,
-    put_watching,
+    Fault, ReplyBuffer, put_answer, put_named, put_refused, put_size, put_unwatched, put_watching,
 };
 use lv_series::{LongEdit, Series};
 use lv_standing::{Note, Query, QuerySet};

@@ -1,5 +1,6 @@
 -- Proof of `serve_all`: serves them on a hub, and gathers what they leave: the reductions in the order of the sessions, and what subscribers were told.
-use Rattle.std.proofs.Common.{◌∙◌, ap, arith, vec_capacity}
+use Rattle.std.proofs.Common.{◌∙◌, ap, arith, subst, sym, vec_capacity}
+use Rattle.lv_transcript.specs.Transcribing.{IsUnused}
 use Rattle.lv_watchers.proofs.WatchedLaws.{all_left, watched_as_many}
 use Rattle.lv_server.proofs.BesideLaws.{held_more, taken_as_many}
 use Rattle.lv_server.proofs.ServedLaws.{all_held_by, begun_as_many}
@@ -39,6 +40,10 @@ returns-clause-room g c =
     let left = taken_as_many g.N.Naming.limits _ _ _ _ _ c.hold_all-held.ensures.watched c.leave_all-left.ensures.left in
     omega (arith, many, left, c.in_ok-present.ensures.room, ap vec_capacity c.leave_all-left.ensures.room, c.args.clients.watches.ok.0, c.leave_all-left.result.left.ok.0)
 
--- minutes are kept where there is a file for them
-pub returns-clause-minuted : goal.returns-clause-minuted
-returns-clause-minuted g c = c.unlocked.ensures ∙ c.in_ok-minutes.ensures
+-- a log is kept where there is a file for it
+pub returns-clause-logged : goal.returns-clause-logged
+returns-clause-logged g c = c.unlocked.ensures ∙ c.in_ok-log.ensures
+
+-- what the transcript is written by was given nothing yet
+pub returns-clause-unused : goal.returns-clause-unused
+returns-clause-unused g c = subst IsUnused (sym c.in_ok-all.ensures.transcript) c.in_ok-room.ensures.unused

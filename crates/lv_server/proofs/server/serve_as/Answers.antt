@@ -16,7 +16,7 @@ returns-in-Ok-clause-failed g c =
 -- the file is given back with what was written to it
 pub returns-in-Ok-clause-back : goal.returns-in-Ok-clause-back
 returns-in-Ok-clause-back g c =
-    passes_all _ _ c.write_closed-file.result.1 c.all_or_failure.result c.all_or_failure.ensures (c.write_closed-file.ensures.back ∙ c.in-Ok.ensures.minuted)
+    passes_all _ _ c.write_closed-file.result.1 c.all_or_failure.result c.all_or_failure.ensures (c.write_closed-file.ensures.back ∙ c.in-Ok.ensures.logged)
 
 pub returns-in-Ok-clause-recorded : goal.returns-in-Ok-clause-recorded
 returns-in-Ok-clause-recorded g c =

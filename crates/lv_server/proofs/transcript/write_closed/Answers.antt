@@ -1,4 +1,4 @@
--- Proof of `write_closed`: closes a hub and writes its transcript by what was made for it, ends its minutes, and gives their file back.
+-- Proof of `write_closed`: closes a hub and writes its transcript by what was made for it, ends its log, and gives its file back.
 use Rattle.std.proofs.Common.{All, List, subst, sym, ap}
 use mathlib.Core.List.{IsPrefix}
 use Rattle.lv_edits.specs.declared.edit.Edit.{Edit}
@@ -36,18 +36,18 @@ returns-clause-failed g c =
     c.close-live.ensures.vector c.close-live.ensures.accepted c.close-live.ensures.seen c.close-live.ensures.counted c.write_in_order-written.ensures) in
     closes_ill (λ failure. failure.fault) g.N.Naming.limits c.args.share (in_a_row c.args.queues.now.items) _ _ c.write_in_order-written.result c.first_failure.result c.first_failure.ensures.failed closed
 
--- what minutes have seen begins the journal
-pub end_minutes-file-requires-clause-begins : goal.end_minutes-file-requires-clause-begins
-end_minutes-file-requires-clause-begins g c =
-    if_some c.args.minutes
+-- what was recorded begins the journal
+pub end_log-file-requires : goal.end_log-file-requires
+end_log-file-requires g c =
+    if_some c.args.log
     (λ m begun. subst (λ (es : List Edit). IsPrefix m.seen es) (sym c.journal-2.ensures) (begins m.seen c.shown-share.result.seen c.close-live.result.history.journal begun c.close-live.ensures.seen))
-    c.shown-share.ensures.minutes
+    c.shown-share.ensures.recorded
 
 -- the file has the journal of the transcript
 pub returns-clause-recorded : goal.returns-clause-recorded
 returns-clause-recorded g c =
-    records_so g.V.Write.contents g.K.Begun.start c.close-live.result.history.journal c.journal.result.now c.journal-2.result.now (in_a_row c.args.queues.now.items) _ _ c.write_in_order-written.result c.end_minutes-file.result.1 c.first_failure.result c.end_minutes-file.result.0
-    c.journal.ensures c.journal-2.ensures c.first_failure.ensures.well c.first_failure.ensures.both c.write_in_order-written.ensures c.end_minutes-file.ensures.whole
+    records_so g.V.Write.contents g.K.Begun.start c.close-live.result.history.journal c.journal.result.now c.journal-2.result.now (in_a_row c.args.queues.now.items) _ _ c.write_in_order-written.result c.end_log-file.result.1 c.first_failure.result c.end_log-file.result.0
+    c.journal.ensures c.journal-2.ensures c.first_failure.ensures.well c.first_failure.ensures.both c.write_in_order-written.ensures c.end_log-file.ensures.whole
 
 -- what is told last is of the journal too
 pub returns-clause-told : goal.returns-clause-told

@@ -16,4 +16,5 @@ invariant_of-desk g c =
       c.requires.body ∙ ap Some (sym c.new-live.ensures.body),
       subst (AreAccepted greatest) (sym empty) tt,
       subst (λ es. AreReady program_table es c.new-kinds.result) (sym empty) (AreReady-new program_table c.new-kinds.result kept),
+      tt,
     )

@@ -1,6 +1,6 @@
--- Proof of `end_minutes`: ends minutes, if there are any, by the journal of the hub, and gives their file back.
+-- Proof of `end_log`: ends a log, if there is one, by the journal of the hub, and gives its file back.
 use Rattle.lv_server.proofs.RecordingLaws.{whole_so}
-use Rattle.lv_server.proofs.transcript.end_minutes.Goals as goal
+use Rattle.lv_server.proofs.transcript.end_log.Goals as goal
 
 -- what ended well was written whole
 pub returns-clause-whole : goal.returns-clause-whole

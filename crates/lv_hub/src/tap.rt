@@ -1,0 +1,88 @@
+//! The tap of a desk: what has come since its log was written last.
+ghost use Rattle.std.specs.Prelude.{◌≡◌, ◌+◌, ◌<◌, ◌≤◌, ◌++◌, ◌∷◌, [], IfSome, Option, option_map, IsTrue, length, vec_capacity};
+ghost use Rattle.lv_edits.specs.Kept.{CarriesElement};
+ghost use Rattle.lv_hub.specs.declared.log_entry.LogEntry.TheVariants as logged;
+ghost use Rattle.lv_hub.specs.Logging.{HasPlace, TapState, with_entry};
+
+use crate::log_entry::LogEntry;
+use lv_edits::Edit;
+use std::marker::Model;
+use std::mem;
+
+/// Entries in the order of time, from an edit on, in a list whose room is fixed. Whoever writes the log takes them out, with no lock held
+/// while they are written.
+#[derive(Drop)]
+pub(crate) struct Tap {
+    from: u64,
+    entries: Vec<LogEntry>,
+}
+
+impl Model for Tap {
+    ghost use Rattle.std.specs.Prelude.{◌≡◌, vec_capacity};
+    ghost use Rattle.lv_hub.specs.Logging.{TapState};
+
+    ghost Value = { TapState };
+
+    ghost view = { λ t. record { from = t.from; entries = t.entries.items; room = vec_capacity t.entries } };
+}
+
+impl Tap {
+    // A tap from so many edits on, whose entries go into this list.
+    pub(crate) fn new(from: u64, entries: Vec<LogEntry>) -> Tap
+        requires { entries.items ≡ [] }
+        ensures { result ≡ record { from = from; entries = []; room = vec_capacity entries } }
+    {
+        Tap { from, entries }
+    }
+
+    // Whether there is room for one entry more.
+    pub(crate) fn has_place(&self) -> bool
+        ensures { IsTrue result → HasPlace self.now }
+    {
+        self.entries.len() < self.entries.capacity()
+    }
+
+    // Takes an edit up.
+    pub(crate) fn take_edit(&mut self, edit: Edit)
+        requires { HasPlace self.old }
+        ensures taken { self.new ≡ with_entry (logged.Edit edit) self.old }
+        ensures element { CarriesElement edit }
+    {
+        tell_element(edit);
+        self.entries.push_reserved(LogEntry::Edit(edit));
+    }
+
+    // Takes an entry up.
+    pub(crate) fn take(&mut self, entry: LogEntry)
+        requires { HasPlace self.old }
+        ensures { self.new ≡ with_entry entry self.old }
+    {
+        self.entries.push_reserved(entry);
+    }
+
+    // Hands its entries over for a list without any, which takes their place; what comes next comes from so many edits on. Says from which
+    // edit on the entries are.
+    pub(crate) fn hand_over(&mut self, edits: u64, entries: &mut Vec<LogEntry>) -> u64
+        requires { entries.old.items ≡ [] }
+        ensures from { result ≡ self.old.from }
+        ensures entries { entries.new.items ≡ self.old.entries }
+        ensures rest { self.new ≡ record { from = edits; entries = []; room = self.new.room } }
+    {
+        mem::swap(&mut self.entries, entries);
+        mem::replace(&mut self.from, edits)
+    }
+}
+
+// The element of an edit is a number of 64 bits.
+fn tell_element(edit: Edit)
+    ensures { CarriesElement edit }
+{
+    match edit {
+        Edit::Push(_) => {}
+        Edit::Pop => {}
+        Edit::Write { .. } => {}
+        Edit::Reserve(_) => {}
+        Edit::Swap { .. } => {}
+        Edit::Truncate(_) => {}
+    }
+}
