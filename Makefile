@@ -14,7 +14,7 @@ MALLOC =
 REALLOC =
 FREE =
 # what livevec.h includes
-C_PARTS = $(addprefix include/livevec_,refusals.h records.h vectors.h reductions.h queries.h summaries.h jobs.h boards.h series.h series_kinds.h samples.h transcripts.h)
+C_PARTS = $(addprefix include/livevec_,refusals.h records.h vectors.h reductions.h queries.h summaries.h jobs.h boards.h series.h series_kinds.h samples.h transcripts.h shared.h)
 # what livevec.hpp includes
 CPP_PARTS = $(addprefix include/livevec_,base.hpp blocks.hpp board.hpp by_index.hpp columns.hpp jobs.hpp loading.hpp places.hpp queries.hpp samples.hpp series.hpp series_columns.hpp shared.hpp shared_lock.hpp shared_workers.hpp summary.hpp transcripts.hpp)
 # what programs that are linked with liblivevec.so ask for: another number where they would no longer run

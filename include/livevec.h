@@ -82,6 +82,7 @@ LIVEVEC_MUST_USE const char *livevec_refusal_text(uint32_t refusal);
 #include "livevec_series_kinds.h"
 #include "livevec_samples.h"
 #include "livevec_transcripts.h"
+#include "livevec_shared.h"
 
 #ifdef __cplusplus
 }

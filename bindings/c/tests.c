@@ -302,6 +302,7 @@ int main(void)
     samples();
     saved();
     transcripts();
+    shared_forms();
     printf("%d checks, %d failed\n", checks, failures);
     return failures ? EXIT_FAILURE : EXIT_SUCCESS;
 }

@@ -72,4 +72,7 @@ void subtrees(void);
 /* The tests of the journal and of transcripts. */
 void transcripts(void);
 
+/* The tests of what threads share. */
+void shared_forms(void);
+
 #endif

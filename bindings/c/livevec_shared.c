@@ -1,0 +1,453 @@
+/* A lock round a vector, a series or samples, and its subscribers. All is done by calls of livevec.h at the handle; no proof covers what stands here.
+ * It is an object of its own, so that only a program that shares asks for the calls of threads. */
+#include "livevec_shared_lock.h"
+
+/* The number of the last edit. Of a handle that can't be asked, as one whose elements are lent, it is the last one that is known. */
+static uint64_t edits_of(shared_lock *at)
+{
+    livevec_series_count count = {.refusal = 0};
+    if (at->is_series) {
+        count = livevec_series_edits(at->series);
+    } else {
+        livevec_count of_vector = livevec_edits(at->vector);
+        count = (livevec_series_count){.refusal = of_vector.refusal, .value = of_vector.value};
+    }
+    if (!count.refusal)
+        at->edits = count.value;
+    return at->base + at->edits;
+}
+
+static uint32_t put_round(livevec_shared *slot, livevec_vector *vector, livevec_series *series)
+{
+    uint32_t why = IS_EMPTY(slot);
+    if (!why)
+        why = series ? livevec_series_edits(series).refusal : livevec_edits(vector).refusal;
+    if (why)
+        return why;
+    shared_lock *at = malloc(sizeof *at);
+    if (!at)
+        return LIVEVEC_NO_MEMORY;
+    *at = (shared_lock){.mutex = PTHREAD_ERRORCHECK_MUTEX_INITIALIZER_NP, .vector = vector, .series = series, .is_series = series, .holders = 1};
+    slot->at_ = at;
+    return LIVEVEC_OK;
+}
+
+uint32_t livevec_shared_new(livevec_shared *slot, livevec_vector *vector)
+{
+    return put_round(slot, vector, NULL);
+}
+
+uint32_t livevec_shared_new_series(livevec_shared *slot, livevec_series *series)
+{
+    return series ? put_round(slot, NULL, series) : LIVEVEC_NULL;
+}
+
+uint32_t livevec_shared_enter(livevec_shared *slot)
+{
+    uint32_t why = LEADS(slot);
+    if (why)
+        return why;
+    shared_lock *at = slot->at_;
+    why = take_lock(at);
+    if (!why && at->closed) {
+        give_lock(at);
+        why = LIVEVEC_NO_HANDLE;
+    }
+    if (!why)
+        at->entered = edits_of(at);
+    return why;
+}
+
+/* What refuses a call of a thread that hasn't entered. */
+static uint32_t is_within(livevec_shared *slot)
+{
+    uint32_t why = LEADS(slot);
+    if (why)
+        return why;
+    shared_lock *at = slot->at_;
+    if (take_lock(at) == LIVEVEC_BUSY)
+        return LIVEVEC_OK;
+    give_lock(at);
+    return LIVEVEC_NO_HANDLE;
+}
+
+/* Lets the lock go, and wakes who waits for a change. A worker that is awake sees it by itself, and calls others where there is much to do. */
+static void wake(shared_lock *at, bool is_changed)
+{
+    bool is_called = is_changed && at->idle == at->working && !at->calls && call_worker(at);
+    bool is_awaited = is_changed && at->unaware;
+    at->changes += is_changed;
+    at->unaware = at->unaware && !is_changed;
+    give_lock(at);
+    if (is_called)
+        ring(&at->work, 1);
+    if (is_awaited)
+        ring(&at->change, ALL);
+}
+
+livevec_left livevec_shared_leave(livevec_shared *slot)
+{
+    uint32_t why = is_within(slot);
+    if (why)
+        return AS_STRUCT(livevec_left, why);
+    shared_lock *at = slot->at_;
+    uint64_t edit = edits_of(at);
+    bool is_edited = edit != at->entered || at->exchanged;
+    at->exchanged = false;
+    wake(at, is_edited);
+    return (livevec_left){.is_edited = is_edited, .edit = edit};
+}
+
+static uint32_t exchange(livevec_shared *slot, bool is_series, livevec_vector *vector, livevec_series *series)
+{
+    uint32_t why = is_within(slot);
+    if (why)
+        return why;
+    shared_lock *at = slot->at_;
+    if (at->is_series != is_series)
+        return LIVEVEC_NO_HANDLE;
+    if (at->vector == vector && at->series == series)
+        return LIVEVEC_OK;
+    at->vector = vector;
+    at->series = series;
+    at->exchanged = true;
+    at->base = at->entered + 1;
+    at->edits = 0;
+    return LIVEVEC_OK;
+}
+
+uint32_t livevec_shared_exchange(livevec_shared *slot, livevec_vector *vector)
+{
+    return exchange(slot, false, vector, NULL);
+}
+
+uint32_t livevec_shared_exchange_series(livevec_shared *slot, livevec_series *series)
+{
+    return exchange(slot, true, NULL, series);
+}
+
+/* Pushes all elements of one vector into another. */
+static uint32_t copy_all(livevec_vector *from, livevec_vector *to)
+{
+    livevec_count size = livevec_size(from);
+    int64_t *elements = size.value ? malloc(size.value * sizeof *elements) : NULL;
+    uint32_t why = size.refusal;
+    if (!why && size.value && !elements)
+        why = LIVEVEC_NO_MEMORY;
+    if (!why)
+        why = livevec_read(from, 0, size.value, elements, size.value).refusal;
+    if (!why)
+        why = livevec_push_many(to, elements, size.value).refusal;
+    free(elements);
+    return why;
+}
+
+uint32_t livevec_shared_renew(livevec_shared *slot, livevec_vector *fresh)
+{
+    uint32_t why = first_of(LEADS(slot), THERE(fresh));
+    if (why)
+        return why;
+    shared_lock *at = slot->at_;
+    why = take_open(at, false);
+    if (why)
+        return why;
+    livevec_count made = livevec_edits(fresh);
+    uint64_t edit = edits_of(at);
+    why = made.refusal ? made.refusal : made.value || fresh == at->vector ? LIVEVEC_IN_USE : copy_all(at->vector, fresh);
+    if (!why) {
+        at->vector = fresh;
+        at->edits = livevec_edits(fresh).value;
+        at->base = edit - at->edits;
+    }
+    // nothing has changed, but that all summaries are wanted
+    bool is_called = !why && call_worker(at);
+    give_lock(at);
+    if (is_called)
+        ring(&at->work, 1);
+    return why;
+}
+
+/* What is watched at a series, and what was told of it last. */
+typedef struct watch {
+    livevec_watched what;
+    livevec_values told;
+} watch;
+
+/* What a subscriber has at a shared form. */
+typedef struct shared_seat {
+    shared_lock *at;
+    struct shared_seat *next;
+    livevec_queries *queries;
+    uint64_t seen;                          /* the changes that there were when it looked last; others before its first look */
+    uint64_t pause, rested;                 /* how long it pauses after a look, and until when it does */
+    livevec_told end;                       /* what it is told at the end, and wasn't given yet, */
+    livevec_note last[LIVEVEC_MOST_QUERIES]; /* with the notes */
+    size_t length;                          /* how many are watched at a series */
+    watch each[];
+} shared_seat;
+
+enum { MILLISECOND = 1000000 };
+static const uint64_t a_day = UINT64_C(86400000000000);
+
+static bool is_same(const livevec_values *a, const livevec_values *b)
+{
+    return a->any == b->any && a->sum == b->sum && a->least == b->least && a->greatest == b->greatest && a->best_low == b->best_low &&
+           a->best_high == b->best_high && a->affine_a == b->affine_a && a->affine_b == b->affine_b && !memcmp(a->automaton, b->automaton, sizeof a->automaton);
+}
+
+static uint64_t within(uint64_t index, uint64_t least, uint64_t most)
+{
+    return index < least ? least : index > most ? most : index;
+}
+
+/* As livevec_notes, of what is watched at a series. */
+static livevec_noted notes_of_series(shared_seat *seat, livevec_note *notes, size_t room)
+{
+    livevec_series *of = seat->at->series;
+    livevec_values values[LIVEVEC_MOST_QUERIES];
+    livevec_noted told = {.refusal = 0};
+    uint64_t first = livevec_series_first(of).value, size = livevec_series_size(of).value;
+    for (size_t i = 0; i < seat->length; i++) {
+        const livevec_watched *what = &seat->each[i].what;
+        livevec_series_reduced now = livevec_series_value(of, what->kind, within(what->lo, first, size), within(what->hi, first, size));
+        if (now.refusal)
+            return AS_STRUCT(livevec_noted, now.refusal);
+        values[i] = now.values;
+        told.edit = (uint32_t)now.edit;
+        told.count += !is_same(&now.values, &seat->each[i].told);
+    }
+    if (told.count > room)
+        return (livevec_noted){.refusal = LIVEVEC_SHORT_BUFFER, .detail = told.count};
+    for (size_t i = 0; i < seat->length; i++) {
+        watch *it = &seat->each[i];
+        if (is_same(&values[i], &it->told))
+            continue;
+        it->told = values[i];
+        *notes = (livevec_note){.kind = it->what.kind, .edit = told.edit, .values = values[i]};
+        memcpy(notes++->name, it->what.name, LIVEVEC_NAME_BYTES);
+    }
+    return told;
+}
+
+/* The notes that there are now, under the lock. */
+static livevec_told look(shared_seat *seat, livevec_note *notes, size_t room)
+{
+    shared_lock *at = seat->at;
+    livevec_noted noted = at->is_series ? notes_of_series(seat, notes, room) : livevec_notes(seat->queries, at->vector, notes, room);
+    if (noted.refusal)
+        return (livevec_told){.refusal = noted.refusal, .detail = noted.detail};
+    seat->seen = at->changes;
+    for (uint32_t i = 0; i < noted.count; i++)
+        notes[i].edit += (uint32_t)at->base;
+    return (livevec_told){.edit = noted.count ? edits_of(at) : 0, .count = noted.count};
+}
+
+/* The same, with a pause behind it. */
+static livevec_told look_and_rest(shared_seat *seat, livevec_note *notes, size_t room)
+{
+    uint64_t start = now();
+    livevec_told told = look(seat, notes, room);
+    uint64_t end = now(), pause = 2 * (end - start);
+    seat->rested = end + (!seat->pause ? 0 : pause > seat->pause ? pause : seat->pause);
+    return told;
+}
+
+/* What is told once it is closed. */
+static livevec_told last_of(shared_seat *seat, livevec_note *notes, size_t room)
+{
+    livevec_told told = seat->end;
+    if (told.count > room)
+        return (livevec_told){.refusal = LIVEVEC_SHORT_BUFFER, .detail = told.count};
+    if (told.count)
+        memcpy(notes, seat->last, told.count * sizeof *notes);
+    seat->end = (livevec_told){.is_over = true};
+    return told;
+}
+
+uint32_t livevec_shared_close(livevec_shared *slot)
+{
+    uint32_t why = LEADS(slot);
+    if (why)
+        return why;
+    shared_lock *at = slot->at_;
+    why = take_open(at, at->is_series);
+    if (why)
+        return why;
+    at->closed = true;
+    for (shared_seat *seat = at->seats; seat; seat = seat->next) {
+        seat->end = seat->seen == at->changes ? (livevec_told){.is_over = true} : look(seat, seat->last, LIVEVEC_MOST_QUERIES);
+        if (!seat->end.refusal && !seat->end.count)
+            seat->end.is_over = true;
+    }
+    // jobs that nobody delivers any more are handed out again
+    if (!at->is_series)
+        livevec_forget(at->vector);
+    give_lock(at);
+    ring(&at->work, ALL);
+    ring(&at->change, ALL);
+    ring(&at->pause, ALL);
+    return LIVEVEC_OK;
+}
+
+uint32_t livevec_free_shared(livevec_shared *slot)
+{
+    uint32_t why = LEADS(slot);
+    if (!why && livevec_shared_close(slot) == LIVEVEC_BUSY)
+        why = LIVEVEC_BUSY;
+    if (why)
+        return why;
+    let_go(slot->at_);
+    slot->at_ = NULL;
+    return LIVEVEC_OK;
+}
+
+/* Lets a seat in, which is freed where that is refused. */
+static uint32_t sit(livevec_shared *slot, livevec_subscriber *subscriber, shared_seat *seat)
+{
+    shared_lock *at = slot->at_;
+    if (!seat)
+        return LIVEVEC_NO_MEMORY;
+    uint32_t why = take_open(at, !seat->queries);
+    if (why) {
+        free(seat);
+        return why;
+    }
+    seat->at = at;
+    seat->seen = at->changes - 1;
+    seat->pause = MILLISECOND;
+    seat->next = at->seats;
+    at->seats = seat;
+    hold(at);
+    give_lock(at);
+    subscriber->at_ = seat;
+    return LIVEVEC_OK;
+}
+
+uint32_t livevec_shared_subscribe(livevec_shared *slot, livevec_subscriber *subscriber, livevec_queries *queries)
+{
+    uint32_t why = first_of(first_of(THERE(slot && queries), IS_EMPTY(subscriber)), LEADS(slot));
+    if (why)
+        return why;
+    shared_seat *seat = zeros(sizeof *seat);
+    if (seat)
+        seat->queries = queries;
+    return sit(slot, subscriber, seat);
+}
+
+/* The first of what would be watched that can't be. */
+static uint32_t judge_watched(const livevec_watched *watched, size_t length)
+{
+    if (length > LIVEVEC_MOST_QUERIES)
+        return LIVEVEC_TOO_MANY;
+    for (size_t i = 0; i < length; i++)
+        if (watched[i].kind > LIVEVEC_AUTOMATON || watched[i].lo > watched[i].hi)
+            return watched[i].kind > LIVEVEC_AUTOMATON ? LIVEVEC_BAD_KIND : LIVEVEC_BAD_RANGE;
+    return LIVEVEC_OK;
+}
+
+/* A thing that is watched, which counts as told its answer of no elements. */
+static watch watch_of(const livevec_watched *what)
+{
+    watch made = {.what = *what};
+    made.told.affine_a = what->kind == LIVEVEC_AFFINE;
+    for (uint8_t i = 0; i < 8 && what->kind == LIVEVEC_AUTOMATON; i++)
+        made.told.automaton[i] = i;
+    return made;
+}
+
+uint32_t livevec_shared_watch(livevec_shared *slot, livevec_subscriber *subscriber, const livevec_watched *watched, size_t length)
+{
+    uint32_t why = first_of(THERE(slot && (watched || !length)), IS_EMPTY(subscriber));
+    why = first_of(why, why ? why : judge_watched(watched, length));
+    why = first_of(why, LEADS(slot));
+    if (why)
+        return why;
+    shared_seat *seat = zeros(sizeof *seat + length * sizeof *seat->each);
+    for (size_t i = 0; seat && i < length; i++)
+        seat->each[seat->length++] = watch_of(&watched[i]);
+    return sit(slot, subscriber, seat);
+}
+
+/* Sleeps under the lock until there is something to tell, or until a time. */
+static livevec_told awaited(shared_seat *seat, livevec_note *notes, size_t room, uint64_t till)
+{
+    shared_lock *at = seat->at;
+    while (!at->closed) {
+        uint64_t time = now();
+        if (time >= seat->rested && seat->seen != at->changes) {
+            livevec_told told = look_and_rest(seat, notes, room);
+            if (told.refusal || told.count)
+                return told;
+        } else if (time >= till) {
+            return AS_STRUCT(livevec_told, LIVEVEC_OK);
+        } else if (time < seat->rested) {
+            sleep_till(at, &at->pause, seat->rested < till ? seat->rested : till);
+        } else {
+            at->unaware = true;
+            sleep_till(at, &at->change, till);
+        }
+    }
+    return last_of(seat, notes, room);
+}
+
+livevec_told livevec_subscriber_next(livevec_subscriber *slot, livevec_note *notes, size_t room, uint64_t nanoseconds)
+{
+    uint32_t why = first_of(first_of(THERE(slot), ARRAY(notes, room)), LEADS(slot));
+    if (why)
+        return AS_STRUCT(livevec_told, why);
+    shared_seat *seat = slot->at_;
+    uint64_t start = now();
+    why = take_lock(seat->at);
+    if (why)
+        return AS_STRUCT(livevec_told, why);
+    livevec_told told = awaited(seat, notes, room, nanoseconds > UINT64_MAX - start ? UINT64_MAX : start + nanoseconds);
+    give_lock(seat->at);
+    return told;
+}
+
+livevec_told livevec_subscriber_look(livevec_subscriber *slot, livevec_note *notes, size_t room)
+{
+    uint32_t why = first_of(first_of(THERE(slot), ARRAY(notes, room)), LEADS(slot));
+    if (why)
+        return AS_STRUCT(livevec_told, why);
+    shared_seat *seat = slot->at_;
+    why = take_lock(seat->at);
+    if (why)
+        return AS_STRUCT(livevec_told, why);
+    livevec_told told = {.refusal = 0};
+    if (seat->at->closed)
+        told = last_of(seat, notes, room);
+    else if (seat->seen != seat->at->changes)
+        told = look_and_rest(seat, notes, room);
+    give_lock(seat->at);
+    return told;
+}
+
+uint32_t livevec_subscriber_set_pause(livevec_subscriber *slot, uint64_t nanoseconds)
+{
+    uint32_t why = LEADS(slot);
+    if (!why)
+        ((shared_seat *)slot->at_)->pause = nanoseconds < a_day ? nanoseconds : a_day;
+    return why;
+}
+
+uint32_t livevec_free_subscriber(livevec_subscriber *slot)
+{
+    uint32_t why = LEADS(slot);
+    if (why)
+        return why;
+    shared_seat *seat = slot->at_;
+    shared_lock *at = seat->at;
+    // a thread that has entered is between two calls
+    bool is_within = take_lock(at) == LIVEVEC_BUSY;
+    shared_seat **before = &at->seats;
+    while (*before != seat)
+        before = &(*before)->next;
+    *before = seat->next;
+    if (!is_within)
+        give_lock(at);
+    let_go(at);
+    free(seat);
+    slot->at_ = NULL;
+    return LIVEVEC_OK;
+}
