@@ -16,7 +16,7 @@ FREE =
 # what livevec.h includes
 C_PARTS = $(addprefix include/livevec_,refusals.h records.h vectors.h reductions.h queries.h summaries.h jobs.h boards.h series.h series_kinds.h samples.h transcripts.h shared.h)
 # what livevec.hpp includes
-CPP_PARTS = $(addprefix include/livevec_,base.hpp blocks.hpp board.hpp by_index.hpp columns.hpp jobs.hpp loading.hpp places.hpp queries.hpp samples.hpp series.hpp series_columns.hpp shared.hpp shared_lock.hpp shared_workers.hpp summary.hpp transcripts.hpp)
+CPP_PARTS = $(addprefix include/livevec_,base.hpp blocks.hpp board.hpp by_index.hpp columns.hpp jobs.hpp loading.hpp places.hpp queries.hpp samples.hpp series.hpp series_columns.hpp shared.hpp subscriber.hpp summary.hpp transcripts.hpp)
 # what programs that are linked with liblivevec.so ask for: another number where they would no longer run
 SONAME = liblivevec.so.2
 # tells the system's loader what was installed, where that is allowed and nothing is only staged

@@ -95,7 +95,7 @@ class vector : public inner::with_jobs {
     /** One of its own with the same elements, limits, table and kind. Its edits are the pushes of its elements, so their numbers begin anew. O(n). */
     [[nodiscard]] vector clone() const
     {
-        vector made = table_ ? vector(*table_, limits_) : only_ ? vector(*only_, limits_) : vector(limits_);
+        vector made = unfilled_like();
         made.push_many(elements());
         return made;
     }
@@ -372,6 +372,7 @@ class vector : public inner::with_jobs {
   private:
     /* One whose handle is still empty, for `transcript` to fill. */
     friend class transcript;
+    template <class Of> friend class shared;
     struct unmade {};
     vector(unmade, limits most, std::optional<livevec::kind> only) : limits_(most), only_(only) {}
 
@@ -382,6 +383,9 @@ class vector : public inner::with_jobs {
         inner::checked(call(slot(), lo, hi, cells.data(), cells.size()), lo, hi);
         return cells;
     }
+
+    /* One without elements that is like it else. */
+    vector unfilled_like() const { return table_ ? vector(*table_, limits_) : only_ ? vector(*only_, limits_) : vector(limits_); }
 
     /* What a clone is made by. */
     limits limits_;

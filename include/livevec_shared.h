@@ -79,10 +79,10 @@ LIVEVEC_MUST_USE uint32_t livevec_shared_exchange(livevec_shared *slot, livevec_
 LIVEVEC_MUST_USE uint32_t livevec_shared_exchange_series(livevec_shared *slot, livevec_series *series);
 /**@}*/
 
-/** Goes on round a vector that has its edits before it, where the one before is nearly worn: `fresh` is a new vector without elements, of limits, kind
- * and table that the caller made it with. The elements are pushed into it, and it takes the place of the one before, which is the caller's again.
- * Numbers of edits go on as if nothing were, and nothing is told to subscribers. If it was refused nothing has changed. Cost: linear in the elements.
- * Refusals: NULL, BUSY, NO_HANDLE (also of a series), IN_USE (`fresh` has edits, or is the one before), those of livevec_push_many, NO_MEMORY. */
+/** By a thread that has entered: goes on round a copy, where a vector is nearly worn. `fresh` is a new vector, of limits, kind and table that the
+ * caller made it with. The elements are pushed into it, and it takes the place of the one before, which is the caller's again. Numbers of edits go on
+ * as if nothing were, and subscribers are told nothing. If it was refused nothing has changed. Cost: linear in the elements. Refusals: NULL, NO_HANDLE
+ * (also if this thread has not entered, or of a series), IN_USE (`fresh` has edits, or is the one before), those of livevec_push_many, NO_MEMORY. */
 LIVEVEC_MUST_USE uint32_t livevec_shared_renew(livevec_shared *slot, livevec_vector *fresh);
 
 /** Closes: the handle is the caller's again. Subscribers have their last notes at the last edit, which they are told on, and all who sleep are woken;

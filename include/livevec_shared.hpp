@@ -1,250 +1,441 @@
 /** @file
- * Part of livevec.hpp, which is what programs include: a vector that threads share, with a lock, threads that compute its summaries, and subscribers. */
+ * Part of livevec.hpp, which is what programs include: a vector, a series or samples that threads share, with a lock, subscribers, and for a vector
+ * threads that compute its summaries. It stands on livevec_shared.h, so its programs are linked with -pthread. */
 #ifndef LIVEVEC_SHARED_HPP
 #define LIVEVEC_SHARED_HPP
 
 #include "livevec.hpp"
-#include "livevec_queries.hpp"
-#include "livevec_shared_lock.hpp"
+#include "livevec_subscriber.hpp"
 
 #include <algorithm>
-#include <chrono>
 #include <cstddef>
 #include <cstdint>
+#include <exception>
+#include <iterator>
 #include <memory>
 #include <optional>
+#include <thread>
 #include <utility>
 #include <vector>
 
 namespace livevec {
 
-/** One who is told which answers of its standing queries by a shared vector have changed; made by `shared_vector::subscribe`. It may outlive the
- * vector, and may end at any time. It is one thread's at a time. */
-class [[nodiscard]] subscriber {
-  public:
-    /** Takes what another has. O(1). */
-    subscriber(subscriber &&other) noexcept = default;
-    /** Takes what another has. O(1). */
-    subscriber &operator=(subscriber &&other) noexcept = default;
-
-    /** Sleeps until an edit changes an answer, and gives a note of each query whose answer differs from the one that was told last, in the order in
-     * which they were named. All notes of one list are at one edit, and these rise. A change that is undone between two looks is not told. Once the
-     * vector is closed it gives the notes at the last edit, if there are any, and then nothing. Refused with LIVEVEC_BAD_KIND if the vector is of one
-     * kind and another is among the queries. A look costs as queries::notes, under the lock. */
-    [[nodiscard]] std::optional<std::vector<livevec_note>> next()
-    {
-        while (true) {
-            inner::shared_lock::held guard = at().enter();
-            if (!at().is_awaited(*seat_, rested_, guard))
-                return std::nullopt;
-            std::vector<livevec_note> told = looked(guard);
-            if (!told.empty())
-                return told;
-        }
-    }
-
-    /** The notes that there are now; none if nothing has changed. It neither sleeps nor pauses. As queries::notes, under the lock. */
-    [[nodiscard]] std::vector<livevec_note> look()
-    {
-        inner::shared_lock::held guard = at().enter();
-        return looked(guard);
-    }
-
-    /** Makes it pause so long after each look from now on, or twice as long as the look took if that is longer, so that edits are not held up; at first
-     * it is a millisecond. With 0 it doesn't pause at all: each edit may be looked at then, and waits for the look. O(1). */
-    void set_pause(std::chrono::nanoseconds pause) noexcept { pause_ = std::min<std::chrono::nanoseconds>(pause, std::chrono::hours(24)); }
-
-  private:
-    friend class shared_vector;
-    using clock = std::chrono::steady_clock;
-
-    subscriber(std::shared_ptr<inner::shared_lock> at, std::shared_ptr<inner::shared_seat> seat) : at_(std::move(at)), seat_(std::move(seat)) {}
-
-    inner::shared_lock &at() const
-    {
-        if (!at_)
-            inner::raise(refused(LIVEVEC_NULL));
-        return *at_;
-    }
-
-    /* Looks under a lock, which is let go. */
-    std::vector<livevec_note> looked(inner::shared_lock::held &guard)
-    {
-        const clock::time_point start = clock::now();
-        std::vector<livevec_note> told = at_->look(*seat_, guard);
-        guard.unlock();
-        const clock::time_point end = clock::now();
-        rested_ = pause_.count() > 0 ? end + std::max<std::chrono::nanoseconds>(pause_, 2 * (end - start)) : end;
-        return told;
-    }
-
-    std::shared_ptr<inner::shared_lock> at_;
-    std::shared_ptr<inner::shared_seat> seat_;
-    std::chrono::nanoseconds pause_ = std::chrono::milliseconds(1);
-    clock::time_point rested_{};
+/** What an edit of a shared form answers: its number, and what it did. */
+struct receipt {
+    std::uint64_t edit;      /**< the edit's number */
+    std::uint64_t place = 0; /**< of a push the index; of a reserve how many elements now fit; of what drops elements how many were dropped; else 0 */
+    std::int64_t value = 0;  /**< of a pop the element that was dropped; of a write the one before; of a swap the one at the first index now; else 0 */
+    /** As C answers for a vector, with the low 32 bits of the number. */
+    operator livevec_edited() const noexcept { return {0, 0, static_cast<std::uint32_t>(edit), static_cast<std::uint32_t>(place), value}; }
 };
 
-/** A vector that threads share, which its end closes. Each call may be made by any thread at any time: edits and queries take a lock for one call. An
- * edit answers as C does: its number, which is a receipt, and what it did. Once it is closed each call is refused with LIVEVEC_NO_HANDLE. A call of a
- * thread within a `with` of its own is refused with LIVEVEC_BUSY: it would wait for itself. A call costs what the vector's does, and the lock.
+namespace inner {
+
+/** A lock round a vector. */
+inline std::uint32_t put_round(livevec_shared *lock, livevec_vector *of) { return livevec_shared_new(lock, of); }
+/** A lock round a series. */
+inline std::uint32_t put_round(livevec_shared *lock, livevec_series *of) { return livevec_shared_new_series(lock, of); }
+/** Another vector within. */
+inline std::uint32_t exchange(livevec_shared *lock, livevec_vector *of) { return livevec_shared_exchange(lock, of); }
+/** Another series within. */
+inline std::uint32_t exchange(livevec_shared *lock, livevec_series *of) { return livevec_shared_exchange_series(lock, of); }
+/** The handle that is shared. */
+inline livevec_vector *handle_of(const vector &of) noexcept { return of.slot(); }
+/** The handle that is shared. */
+template <class Slot, std::uint32_t (*Free)(Slot *)> livevec_series *handle_of(const by_index<Slot, Free> &of) noexcept { return of.series_slot(); }
+
+/** A thread that computes summaries. Its end dismisses it, and waits for it. */
+class shared_worker : public owned<livevec_worker, livevec_free_worker> {
+  public:
+    /** Hires one, and starts it. */
+    explicit shared_worker(livevec_shared *at)
+    {
+        check(livevec_shared_hire(at, slot()));
+        thread_ = std::thread([slot = slot()] { livevec_worker_work(slot); });
+    }
+    /** Takes what another has. */
+    shared_worker(shared_worker &&other) noexcept = default;
+    ~shared_worker()
+    {
+        if (!thread_.joinable())
+            return;
+        livevec_worker_dismiss(slot());
+        thread_.join();
+    }
+
+  private:
+    std::thread thread_;
+};
+
+/** What all shared forms have. */
+template <class Of>
+class shared_form {
+  public:
+    using size_type = typename Of::size_type; /**< an index, or a count */
+
+    /** Closes it, and has another's in its place. */
+    shared_form &operator=(shared_form &&other) noexcept = default;
+
+    /** Drops the last element; `value` is that element. As what is shared. */
+    receipt pop()
+    {
+        return edit([](Of &of) { return receipt{0, 0, of.pop()}; });
+    }
+    /** Overwrites the element at an index; `value` is the one before. As what is shared. */
+    receipt write(size_type index, element value)
+    {
+        return edit([=](Of &of) { return receipt{0, 0, of.write(index, value)}; });
+    }
+    /** Drops the elements from an index on; `place` is how many were dropped. As what is shared. */
+    receipt truncate(size_type size)
+    {
+        return edit([=](Of &of) { return receipt{0, of.truncate(size)}; });
+    }
+
+    /** The element at an index; the index is checked. O(1). */
+    [[nodiscard]] std::int64_t operator[](size_type index) const
+    {
+        return read([=](const Of &of) { return of[index]; });
+    }
+    /** How many elements there are; of a series and samples the index behind the last. O(1). */
+    [[nodiscard]] size_type size() const
+    {
+        return read([](const Of &of) { return of.size(); });
+    }
+    /** The number of the last edit. O(1). */
+    [[nodiscard]] std::uint64_t edits() const
+    {
+        turn mine(at());
+        return mine.leave();
+    }
+    /** The values of a range by all six kinds, as `reduce` of what is shared: **linear in the range** for what no worker, refresh or query computed. */
+    [[nodiscard]] auto reduce(size_type lo, size_type hi) const
+    {
+        return answer([=](const Of &of) { return of.reduce(lo, hi); });
+    }
+    /** The value of a range by one kind, as `value` of what is shared. O(log n), and more after edits. */
+    [[nodiscard]] auto value(kind by, size_type lo, size_type hi) const
+    {
+        return answer([=](const Of &of) { return of.value(by, lo, hi); });
+    }
+    /** The sum of a range modulo 2^64. O(log n), and more after edits. */
+    [[nodiscard]] std::int64_t sum(size_type lo, size_type hi) const { return static_cast<std::int64_t>(unsigned_sum(lo, hi)); }
+    /** The same from 0 up. O(log n), and more after edits. */
+    [[nodiscard]] std::uint64_t unsigned_sum(size_type lo, size_type hi) const { return value(kind::sum, lo, hi).values.sum; }
+    /** The minimum of a range, if it isn't empty. O(log n), and more after edits. */
+    [[nodiscard]] std::optional<std::int64_t> least(size_type lo, size_type hi) const
+    {
+        return read([=](const Of &of) { return of.least(lo, hi); });
+    }
+    /** The maximum of a range, if it isn't empty. O(log n), and more after edits. */
+    [[nodiscard]] std::optional<std::int64_t> greatest(size_type lo, size_type hi) const
+    {
+        return read([=](const Of &of) { return of.greatest(lo, hi); });
+    }
+    /** The best run of a range, if it isn't empty; exact. O(log n), and more after edits. */
+    [[nodiscard]] std::optional<int128> best(size_type lo, size_type hi) const
+    {
+        return read([=](const Of &of) { return of.best(lo, hi); });
+    }
+
+    /** Several calls, with no other thread's between them: hands what is shared to a call, and gives what that gives. Another that is put in its place
+     * counts as an edit. */
+    template <class Calls> decltype(auto) with(Calls &&calls)
+    {
+        turn mine(at());
+        return std::forward<Calls>(calls)(mine.at.of);
+    }
+
+    /** Ends edits, workers and subscribers, and waits for the workers; gives what is shared back. Each subscriber has its last notes then, at the last
+     * edit. As queries::notes for each subscriber. */
+    Of close()
+    {
+        state &ended = at();
+        check(livevec_shared_close(&ended.lock));
+        ended.workers.clear();
+        return std::move(ended.of);
+    }
+
+  protected:
+    /* What is shared, its lock, and its workers, which the lock guards. The end of it closes. */
+    struct state {
+        Of of;
+        decltype(handle_of(std::declval<const Of &>())) handle;
+        livevec_shared lock{};
+        std::vector<shared_worker> workers{};
+        explicit state(Of taken) : of(std::move(taken)), handle(handle_of(of)) { check(put_round(&lock, handle)); }
+        ~state() { livevec_free_shared(&lock); }
+    };
+
+    /* A thread that has entered. Its end lets the lock go, and wakes who sleeps. */
+    struct turn {
+        state &at;
+        bool is_left = false;
+        explicit turn(state &entered) : at(entered) { check(livevec_shared_enter(&at.lock)); }
+        turn(const turn &) = delete;
+        ~turn() { leave(); }
+        std::uint64_t leave() noexcept
+        {
+            if (std::exchange(is_left, true))
+                return 0;
+            if (at.handle != handle_of(at.of) && !exchange(&at.lock, handle_of(at.of)))
+                at.handle = handle_of(at.of);
+            return livevec_shared_leave(&at.lock).edit;
+        }
+    };
+
+    explicit shared_form(Of of) : state_(new state(std::move(of))) {}
+    shared_form(shared_form &&other) noexcept = default;
+    ~shared_form() = default;
+
+    state &at() const
+    {
+        if (!state_)
+            raise(refused(LIVEVEC_NULL));
+        return *state_;
+    }
+    template <class Call> auto read(Call call) const
+    {
+        const turn mine(at());
+        return call(static_cast<const Of &>(mine.at.of));
+    }
+    /* An answer that names the edit after which it is so. */
+    template <class Call> auto answer(Call call) const
+    {
+        turn mine(at());
+        auto told = call(static_cast<const Of &>(mine.at.of));
+        told.edit = static_cast<decltype(told.edit)>(mine.leave());
+        return told;
+    }
+    template <class Call> receipt edit(Call call)
+    {
+        turn mine(at());
+        receipt did = call(mine.at.of);
+        did.edit = mine.leave();
+        return did;
+    }
+    /* Many edits, of which the last is told. */
+    template <class Call> std::uint64_t edit_many(Call call)
+    {
+        turn mine(at());
+        call(mine.at.of);
+        return mine.leave();
+    }
+    /* One more who is told of changes at a series. */
+    subscriber watch(const std::vector<watched> &all)
+    {
+        std::vector<livevec_watched> asked;
+        for (const watched &it : all) {
+            check(it.name.size() > LIVEVEC_NAME_BYTES ? LIVEVEC_BAD_NAME : LIVEVEC_OK);
+            asked.push_back({{}, number(it.by), it.lo, it.hi});
+            std::copy(it.name.begin(), it.name.end(), asked.back().name);
+        }
+        subscriber made;
+        check(livevec_shared_watch(&at().lock, made.slot(), asked.data(), asked.size()));
+        return made;
+    }
+
+  private:
+    std::unique_ptr<state> state_;
+};
+
+} // namespace inner
+
+/** What threads share: a vector, a series or samples, which its end closes. Each call may be made by any thread at any time: edits and queries take a lock
+ * for one call. An edit gives a receipt. Once it is closed each call is refused with LIVEVEC_NO_HANDLE. A call of a thread within a `with` of its own is
+ * refused with LIVEVEC_BUSY: it would wait for itself. A call costs what it costs at what is shared, and the lock.
+ *
+ * Numbers of edits have 64 bits, and go on rising where a `renew` or a `with` puts another vector in its place. If an answer has 32 bits for one, these
+ * are its low ones.
  *
  * If a call that is handed to `with` throws, the edits that it made before stay; the lock is let go, subscribers are told, and the exception goes on
  * only to the caller of `with`. Nothing else of a caller's runs under the lock. If C++ itself is out of memory, std::bad_alloc is thrown, and nothing
  * has changed or counts as told. */
-class [[nodiscard]] shared_vector {
+template <class Of> class shared;
+
+/** A vector that threads share, as livevec::shared says. */
+template <>
+class [[nodiscard]] shared<vector> : public inner::shared_form<vector> {
   public:
     /** Puts a lock round a vector. O(1). */
-    explicit shared_vector(vector of = vector()) : at_(std::make_shared<inner::shared_lock>(std::move(of))) {}
-    /** Takes what another has. O(1). */
-    shared_vector(shared_vector &&other) noexcept = default;
-    /** Closes its own, and takes what another has. O(1). */
-    shared_vector &operator=(shared_vector &&other) noexcept
-    {
-        shared_vector ended(std::move(*this));
-        at_ = std::move(other.at_);
-        return *this;
-    }
-    /** Closes it. */
-    ~shared_vector()
-    {
-        if (at_)
-            at_->close();
-    }
+    explicit shared(vector of = vector()) : shared_form(std::move(of)) {}
 
     /** Puts an element at the end; `place` is its index. O(log n) amortised. */
-    livevec_edited push(element value)
+    receipt push(element value)
     {
-        return edit([=](const vector &of) { return inner::checked(livevec_push(of.slot(), value)); });
-    }
-    /** Drops the last element; `value` is that element. O(log n). */
-    livevec_edited pop()
-    {
-        return edit([](const vector &of) { return inner::checked(livevec_pop(of.slot())); });
-    }
-    /** Overwrites the element at an index; `value` is the one before. O(log n) amortised. */
-    livevec_edited write(std::uint32_t index, element value)
-    {
-        return edit([=](const vector &of) { return inner::checked(livevec_write(of.slot(), index, value), index); });
+        return edit([=](vector &of) { return receipt{0, of.push(value)}; });
     }
     /** Exchanges the elements at two indices. O(log n) amortised. */
-    livevec_edited swap_elements(std::uint32_t first, std::uint32_t second)
+    receipt swap_elements(std::uint32_t first, std::uint32_t second)
     {
-        return edit([=](const vector &of) { return inner::checked(livevec_swap(of.slot(), first, second), std::max(first, second)); });
-    }
-    /** Keeps so many elements; `place` is how many were dropped. O(log n) amortised. */
-    livevec_edited truncate(std::uint32_t elements)
-    {
-        return edit([=](const vector &of) { return inner::checked(livevec_truncate(of.slot(), elements), elements); });
+        return edit([=](vector &of) { return of.swap_elements(first, second), receipt{0, 0, of[first]}; });
     }
     /** Makes room for so many elements in all; `place` is how many now fit. O(1). */
-    livevec_edited reserve(std::uint32_t elements)
+    receipt reserve(std::uint32_t elements)
     {
-        return edit([=](const vector &of) { return inner::checked(livevec_reserve(of.slot(), elements)); });
+        return edit([=](vector &of) { return receipt{0, of.reserve(elements)}; });
     }
     /** Pushes all or none, with no other edit between, and gives the last edit. O(length) amortised. */
-    std::uint32_t push_many(array_view values)
+    std::uint64_t push_many(array_view values)
     {
-        return at().edit_many([=](vector &of) { return of.push_many(values), of.edits(); });
+        return edit_many([=](vector &of) { of.push_many(values); });
     }
     /** Writes all or none, with no other edit between, and gives the last edit. O(length * log n) amortised. */
-    std::uint32_t write_many(index_view indices, array_view values)
+    std::uint64_t write_many(index_view indices, array_view values)
     {
-        return at().edit_many([=](vector &of) { return of.write_many(indices, values); });
-    }
-
-    /** The element at an index; the index is checked. O(1). */
-    [[nodiscard]] std::int64_t operator[](std::uint32_t index) const
-    {
-        return at().read([=](const vector &of) { return of[index]; });
-    }
-    /** How many elements there are. O(1). */
-    [[nodiscard]] std::uint32_t size() const
-    {
-        return at().read([](const vector &of) { return of.size(); });
-    }
-    /** The number of the last edit. O(1). */
-    [[nodiscard]] std::uint32_t edits() const
-    {
-        return at().read([](const vector &of) { return of.edits(); });
-    }
-    /** The values of a range by all six kinds, as vector::reduce: **linear in the range** if workers or a refresh have not computed its summaries. */
-    [[nodiscard]] livevec_reduced reduce(std::uint32_t lo, std::uint32_t hi) const
-    {
-        return at().read([=](const vector &of) { return of.reduce(lo, hi); });
-    }
-    /** The value of a range by one kind, as vector::value. O(log n), and more after edits. */
-    [[nodiscard]] livevec_reduced value(kind by, std::uint32_t lo, std::uint32_t hi) const
-    {
-        return at().read([=](const vector &of) { return of.value(by, lo, hi); });
-    }
-    /** The sum of a range modulo 2^64, as vector::sum. O(log n), and more after edits. */
-    [[nodiscard]] std::int64_t sum(std::uint32_t lo, std::uint32_t hi) const
-    {
-        return at().read([=](const vector &of) { return of.sum(lo, hi); });
-    }
-    /** The same from 0 up, as vector::unsigned_sum. O(log n), and more after edits. */
-    [[nodiscard]] std::uint64_t unsigned_sum(std::uint32_t lo, std::uint32_t hi) const
-    {
-        return at().read([=](const vector &of) { return of.unsigned_sum(lo, hi); });
+        return edit_many([=](vector &of) { of.write_many(indices, values); });
     }
     /** The exact sum of a range, as vector::total. */
     [[nodiscard]] int128 total(std::uint32_t lo, std::uint32_t hi) const
     {
-        return at().read([=](const vector &of) { return of.total(lo, hi); });
-    }
-    /** The minimum of a range, if it isn't empty. O(log n), and more after edits. */
-    [[nodiscard]] std::optional<std::int64_t> least(std::uint32_t lo, std::uint32_t hi) const
-    {
-        return at().read([=](const vector &of) { return of.least(lo, hi); });
-    }
-    /** The maximum of a range, if it isn't empty. O(log n), and more after edits. */
-    [[nodiscard]] std::optional<std::int64_t> greatest(std::uint32_t lo, std::uint32_t hi) const
-    {
-        return at().read([=](const vector &of) { return of.greatest(lo, hi); });
-    }
-    /** The best run of a range, if it isn't empty; exact. O(log n), and more after edits. */
-    [[nodiscard]] std::optional<int128> best(std::uint32_t lo, std::uint32_t hi) const
-    {
-        return at().read([=](const vector &of) { return of.best(lo, hi); });
+        return read([=](const vector &of) { return of.total(lo, hi); });
     }
 
-    /** Several calls at the vector, with no other thread's between them: hands the vector to a call, and gives what that gives. */
-    template <class Calls> decltype(auto) with(Calls &&calls) { return at().with(std::forward<Calls>(calls)); }
+    /** Goes on as a copy, before the vector is worn: with the same elements, limits, table and kind, and no edits yet but the pushes of its elements.
+     * Numbers of edits go on as if nothing were, and subscribers are told nothing. Refused as the pushes would be, with nothing changed. O(n). */
+    void renew()
+    {
+        turn mine(at());
+        vector fresh = mine.at.of.unfilled_like();
+        inner::check(livevec_shared_renew(&mine.at.lock, fresh.slot()));
+        mine.at.handle = fresh.slot();
+        mine.at.of = std::move(fresh);
+    }
 
-    /** Starts so many more workers, or is refused with LIVEVEC_NO_MEMORY and starts none. Each sleeps while there is nothing to compute; edits wake it. It
-     * takes jobs under the lock, computes them without it, and hands in the outcomes. If many blocks near each other need one it takes a subtree of
-     * 4,096 elements, or else at most 1,024 blocks. A subtree that was written to meanwhile it goes over again by its blocks. Summaries above those it
-     * computes under the lock, 256 at a time. No answer changes by it; `reduce` gets quick. O(count). */
-    void start_workers(std::size_t count) { at().start(count); }
+    /** Starts so many more workers, or is refused with LIVEVEC_NO_MEMORY and starts none. Each computes summaries as livevec_worker_work says: no answer
+     * changes by it, `reduce` gets quick. O(count). */
+    void start_workers(std::size_t count)
+    {
+        std::vector<inner::shared_worker> made;
+        try {
+            for (made.reserve(count); made.size() < count;)
+                made.emplace_back(&at().lock);
+            const turn mine(at());
+            mine.at.workers.reserve(mine.at.workers.size() + count);
+            std::move(made.begin(), made.end(), std::back_inserter(mine.at.workers));
+        } catch (const refused &) {
+            throw;
+        } catch (const std::exception &) {
+            inner::raise(refused(LIVEVEC_NO_MEMORY));
+        }
+    }
     /** Ends all workers, and waits for them. More may be started later. */
-    void stop_workers() { at().stop(); }
-
-    /** One more that is told which answers of these queries change. Before its first look each counts as told what `queries` says. O(subscribers). */
-    subscriber subscribe(queries asked) { return subscriber(at_, at().sit(std::move(asked))); }
-
-    /** Ends edits, workers and subscribers, and waits for the workers; gives the vector back. Each subscriber has its last notes then, at the last edit.
-     * As queries::notes for each subscriber. */
-    vector close()
+    void stop_workers()
     {
-        if (!at().close())
-            inner::raise(refused(LIVEVEC_NO_HANDLE));
-        return at_->taken();
+        std::vector<inner::shared_worker> ended;
+        try {
+            const turn mine(at());
+            ended.swap(mine.at.workers);
+        } catch (const refused &why) {
+            if (why.number() != LIVEVEC_NO_HANDLE)
+                throw;
+        }
     }
 
-  private:
-    inner::shared_lock &at() const
+    /** One more that is told which answers of these queries change. Before its first look each counts as told what `queries` says. O(1). */
+    subscriber subscribe(queries asked)
     {
-        if (!at_)
-            inner::raise(refused(LIVEVEC_NULL));
-        return *at_;
+        subscriber made;
+        made.seat_->asked.emplace(std::move(asked));
+        inner::check(livevec_shared_subscribe(&at().lock, made.slot(), made.seat_->asked->slot()));
+        return made;
     }
-    template <class Call> livevec_edited edit(Call call)
-    {
-        return at().edit(call);
-    }
-
-    std::shared_ptr<inner::shared_lock> at_;
 };
+
+/** A series that threads share, as livevec::shared says. */
+template <>
+class [[nodiscard]] shared<series> : public inner::shared_form<series> {
+  public:
+    /** Puts a lock round a series. O(1). */
+    explicit shared(series of = series()) : shared_form(std::move(of)) {}
+
+    /** Puts an element at the end; `place` is its index. O(1) amortised for each tree. */
+    receipt push(element value)
+    {
+        return edit([=](series &of) { return receipt{0, of.push(value)}; });
+    }
+    /** Exchanges the elements under two indices. O(log n) for each tree. */
+    receipt swap_elements(std::uint64_t first, std::uint64_t second)
+    {
+        return edit([=](series &of) { return of.swap_elements(first, second), receipt{0, 0, of[first]}; });
+    }
+    /** Pushes all or none, with no other edit between, and gives the last edit. O(length) amortised for each tree. */
+    std::uint64_t push_many(array_view values)
+    {
+        return edit_many([=](series &of) { of.push_many(values); });
+    }
+    /** Writes all or none, with no other edit between, and gives the last edit. O(length * log n) for each tree. */
+    std::uint64_t write_many(series_index_view indices, array_view values)
+    {
+        return edit_many([=](series &of) { of.write_many(indices, values); });
+    }
+    /** Drops the elements before an index; `place` is how many were dropped. O(1) amortised. */
+    receipt expire(std::uint64_t index)
+    {
+        return edit([=](series &of) { return receipt{0, of.expire(index)}; });
+    }
+    /** The first index that is kept. O(1). */
+    [[nodiscard]] std::uint64_t first() const
+    {
+        return read([](const series &of) { return of.first(); });
+    }
+    /** One more that is told which of these answers change. Before its first look each counts as told its answer of no elements. O(length). */
+    subscriber subscribe(const std::vector<watched> &asked) { return watch(asked); }
+};
+
+/** Samples that threads share, as livevec::shared says. */
+template <>
+class [[nodiscard]] shared<samples> : public inner::shared_form<samples> {
+  public:
+    /** Puts a lock round samples. O(1). */
+    explicit shared(samples of = samples()) : shared_form(std::move(of)) {}
+
+    /** Puts a sample at the end; `place` is its index. O(1) amortised for each tree. */
+    receipt push(element time, element value)
+    {
+        return edit([=](samples &of) { return receipt{0, of.push(time, value)}; });
+    }
+    /** Pushes in order, up to the first that is refused, as samples::push_many, and gives the last edit. O(length) amortised for each tree. */
+    std::uint64_t push_many(array_view times, array_view values)
+    {
+        return edit_many([=](samples &of) { of.push_many(times, values); });
+    }
+    /** Drops the samples before an index; `place` is how many were dropped. O(1) amortised. */
+    receipt expire(std::uint64_t index)
+    {
+        return edit([=](samples &of) { return receipt{0, of.expire(index)}; });
+    }
+    /** Drops the samples that were taken before a time; `place` is how many they were. O(log n), and O(1) amortised. */
+    receipt expire_before(element time)
+    {
+        return edit([=](samples &of) { return receipt{0, of.expire_before(time)}; });
+    }
+    /** The sample under an index; the index is checked. O(1). */
+    [[nodiscard]] sample at(std::uint64_t index) const
+    {
+        return read([=](const samples &of) { return of.at(index); });
+    }
+    /** The first index that is kept. O(1). */
+    [[nodiscard]] std::uint64_t first() const
+    {
+        return read([](const samples &of) { return of.first(); });
+    }
+    /** The value of a window of time by one kind, as samples::value_between. O(log n); the first time O(n), which makes the tree. */
+    [[nodiscard]] livevec_series_reduced value_between(kind by, element since, element until) const
+    {
+        return answer([=](const samples &of) { return of.value_between(by, since, until); });
+    }
+    /** The value of the last `span` of time by one kind, as samples::value_of_last. O(log n); the first time O(n), which makes the tree. */
+    [[nodiscard]] livevec_series_reduced value_of_last(kind by, std::uint64_t span) const
+    {
+        return answer([=](const samples &of) { return of.value_of_last(by, span); });
+    }
+    /** One more that is told which of these answers change. Before its first look each counts as told its answer of no elements. O(length). */
+    subscriber subscribe(const std::vector<watched> &asked) { return watch(asked); }
+};
+
+/** A vector that threads share. */
+using shared_vector = shared<vector>;
 
 } // namespace livevec
 

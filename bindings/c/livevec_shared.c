@@ -144,27 +144,23 @@ static uint32_t copy_all(livevec_vector *from, livevec_vector *to)
 
 uint32_t livevec_shared_renew(livevec_shared *slot, livevec_vector *fresh)
 {
-    uint32_t why = first_of(LEADS(slot), THERE(fresh));
+    uint32_t why = first_of(THERE(slot && fresh), is_within(slot));
     if (why)
         return why;
     shared_lock *at = slot->at_;
-    why = take_open(at, false);
-    if (why)
-        return why;
+    if (at->is_series)
+        return LIVEVEC_NO_HANDLE;
     livevec_count made = livevec_edits(fresh);
     uint64_t edit = edits_of(at);
     why = made.refusal ? made.refusal : made.value || fresh == at->vector ? LIVEVEC_IN_USE : copy_all(at->vector, fresh);
-    if (!why) {
-        at->vector = fresh;
-        at->edits = livevec_edits(fresh).value;
-        at->base = edit - at->edits;
-    }
+    if (why)
+        return why;
+    at->vector = fresh;
+    at->base = edit - livevec_edits(fresh).value;
     // nothing has changed, but that all summaries are wanted
-    bool is_called = !why && call_worker(at);
-    give_lock(at);
-    if (is_called)
+    if (call_worker(at))
         ring(&at->work, 1);
-    return why;
+    return LIVEVEC_OK;
 }
 
 /* What is watched at a series, and what was told of it last. */

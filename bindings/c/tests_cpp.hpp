@@ -51,5 +51,6 @@ void samples();
 void transcripts();
 void queries();
 void nothing_is_lost();
+void other_sorts();
 
 #endif

@@ -373,5 +373,6 @@ int main()
     workers_share_many_blocks();
     workers_get_on_beside_a_writer();
     subscribers_come_and_go_while_edits_go_on();
+    other_sorts();
     std::puts("livevec_shared.hpp: all hold");
 }

@@ -52,7 +52,7 @@ static void enters_and_leaves(void)
     IS(livevec_shared_enter(&shared), LIVEVEC_BUSY);
     IS(livevec_shared_close(&shared), LIVEVEC_BUSY);
     IS(livevec_free_shared(&shared), LIVEVEC_BUSY);
-    IS(livevec_shared_renew(&shared, &other), LIVEVEC_BUSY);
+    IS(livevec_shared_renew(&shared, NULL), LIVEVEC_NULL);
     IS(livevec_shared_exchange_series(&shared, &s), LIVEVEC_NO_HANDLE);
     livevec_left left = livevec_shared_leave(&shared);
     IS(left.refusal, 0);
@@ -182,7 +182,9 @@ static void tells_of_a_series(void)
     IS(livevec_series_new(&s), 0);
     IS(livevec_shared_new_series(&shared, &s), 0);
     IS(livevec_shared_hire(&shared, &worker), LIVEVEC_NO_HANDLE);
+    IS(livevec_shared_enter(&shared), 0);
     IS(livevec_shared_renew(&shared, &(livevec_vector){0}), LIVEVEC_NO_HANDLE);
+    IS(livevec_shared_leave(&shared).refusal, 0);
     IS(livevec_shared_subscribe(&shared, &alerts, &set), LIVEVEC_NO_HANDLE);
     IS(livevec_shared_watch(&shared, &alerts, NULL, 1), LIVEVEC_NULL);
     IS(livevec_shared_watch(&shared, &alerts, watched, 65), LIVEVEC_TOO_MANY);
@@ -290,7 +292,8 @@ static void renews(void)
     IS(livevec_subscriber_look(&alerts, &note, 1).edit, 4);
     IS(livevec_new(&fresh, 17, 4), 0);
     IS(livevec_new(&narrow, 17, 1), 0);
-    IS(livevec_shared_renew(&shared, NULL), LIVEVEC_NULL);
+    IS(livevec_shared_renew(&shared, &fresh), LIVEVEC_NO_HANDLE);
+    IS(livevec_shared_enter(&shared), 0);
     IS(livevec_shared_renew(&shared, &none), LIVEVEC_NO_HANDLE);
     IS(livevec_shared_renew(&shared, &v), LIVEVEC_IN_USE);
     IS(livevec_shared_renew(&shared, &narrow), LIVEVEC_WORN);
@@ -299,6 +302,9 @@ static void renews(void)
     until_failure = 0;
     IS(livevec_size(&fresh).value, 0);
     IS(livevec_shared_renew(&shared, &fresh), 0);
+    livevec_left left = livevec_shared_leave(&shared);
+    IS(left.is_edited, false);
+    IS(left.edit, 4);
     IS(livevec_free(&v), 0);
     IS(livevec_edits(&fresh).value, 2);
     IS(livevec_subscriber_look(&alerts, &note, 1).count, 0);
@@ -310,7 +316,7 @@ static void renews(void)
     IS(note.values.sum, 8);
     IS(push(&shared, &fresh, 5), 6);
     IS(push(&shared, &fresh, 5), 0);
-    livevec_left left = livevec_shared_leave(&shared);
+    left = livevec_shared_leave(&shared);
     IS(left.is_edited, false);
     IS(left.edit, 6);
     IS(livevec_shared_close(&shared), 0);
@@ -495,7 +501,9 @@ static void workers_compute(void)
     IS(livevec_worker_dismiss(&workers[0]), 0);
     IS(pthread_join(threads[0], NULL), 0);
     IS(livevec_new(&fresh, 17, 16777215), 0);
+    IS(livevec_shared_enter(&shared_vector), 0);
     IS(livevec_shared_renew(&shared_vector, &fresh), 0);
+    IS(livevec_shared_leave(&shared_vector).edit, 2 * MANY);
     IS(livevec_free(&vector), 0);
     for (uint32_t read = 1, tries = 0; tries < 20000 && read; tries++) {
         IS(livevec_shared_enter(&shared_vector), 0);
