@@ -7,7 +7,7 @@ from array import array
 from typing import Optional, Union
 
 from livevec import Answered, Board, Column, Delivered, Finished, Job, Kind, LongReduced, NotKept, Note, Outrun, Queries, Receipt, Reduced
-from livevec import BestRun, Placed, Refusal, Sample, Samples, Scan, Seat, Series, SharedVector, Subscriber, Summary, Values, Vector, Window, rolling
+from livevec import BestRun, Placed, Refusal, Sample, Samples, Scan, Seat, Series, SharedSamples, SharedSeries, SharedVector, Subscriber, Summary, Values, Vector, Window, rolling
 
 
 class Prices(Vector):
@@ -201,8 +201,24 @@ def threads(prices: Vector, queries: Queries) -> Vector:
         shared.subscribe("total")  # type: ignore[arg-type]
         shared.start_workers(None)  # type: ignore[arg-type]
         least: int = shared.least()  # type: ignore[assignment]
+        shared.renew()
         print(last, looked, least)
         return shared.close()
+
+
+def threads_of_series(readings: Series, load: Samples) -> tuple[Series, Samples]:
+    with SharedSeries(readings) as shared, SharedSamples(load) as samples:
+        receipt: Receipt = shared.push(7)
+        alerts: Subscriber = shared.subscribe({"total": "sum", "dip": (Kind.LEAST, 0, None)})
+        looked: list[Note] = alerts.look() + samples.subscribe({"most": "greatest"}).look()
+        with shared.locked() as series, samples.locked() as within:
+            index: int = series.push(8) + within.push(0, 8)
+        last: int = shared.extend([index]) + samples.push_many([1], [2]) + shared.expire(1).edit + samples.expire_before(1).told
+        shared.start_workers(2)  # type: ignore[attr-defined]
+        samples.push(7)  # type: ignore[call-arg]
+        SharedSeries(load)  # type: ignore[arg-type]
+        print(last, looked, receipt, shared.reduce().edit, shared.first + shared.size, samples.sample(0).time)
+        return shared.close(), samples.close()
 
 
 def jobs(prices: Vector) -> None:

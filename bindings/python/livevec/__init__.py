@@ -17,7 +17,7 @@ Threads. A `Vector`'s calls into C keep the interpreter's lock, so it may be use
 one call (`vector[-1]`, a loop over the elements, `edits` after a push) needs a lock of your own if another thread edits meanwhile.
 `value_many`, `rolling`, `write_many` and scans by one kind release the interpreter's lock, so that other threads run meanwhile. Of such a call and
 an edit of the same vector meanwhile, the one that comes second raises Busy.
-A `SharedVector` has such a lock, with workers and subscribers.
+A `SharedVector`, a `SharedSeries` and `SharedSamples` have such a lock, with subscribers; that of a vector with workers too.
 A `Board` is for threads: each has a `Seat`, whose calls into C release the interpreter's lock and wait for no other thread.
 
 Machines. A `Summary` is what a list comes to, as bytes that travel; `livevec_mpi`, a module beside this one, joins those of MPI's ranks.
@@ -41,8 +41,8 @@ from ._samples import Sample, Samples, Window
 from ._scans import Column, Scan
 from ._series import Series
 from ._series_lent import Lent
-from ._shared import SharedVector
-from ._shared_edits import Receipt
+from ._shared import Receipt, SharedVector
+from ._shared_series import SharedSamples, SharedSeries
 from ._subscribers import Subscriber
 from ._summary import Summary
 from ._transcripts import JournalEdit, Recorded, Verdict, audit, audit_front, journal, restore, transcript
@@ -53,7 +53,7 @@ __all__ = [
     "Vector", "Job", "Outcome", "Batch", "Taken", "Subtree", "Scan", "Column", "Summary", "Values", "Reduced", "Delivered", "Became", "Node", "Placed", "BestRun",
     "Board", "Seat", "Kind", "Told", "Refreshed", "Finished",
     "Queries", "Note", "Answered",
-    "SharedVector", "Subscriber", "Receipt",
+    "SharedVector", "SharedSeries", "SharedSamples", "Subscriber", "Receipt",
     "Refusal", "Worn", "Empty", "OutOfRange", "TooLarge", "Full", "NoMemory", "BadRange", "BadLimits", "BadTable", "Stranger", "Closed",
     "ShortBuffer", "TooWide", "Outrun", "Contended", "Overtaken", "NoSeat", "SeatsOut", "Busy", "OtherVersion", "Damaged", "OtherTable", "TooLong",
     "Series", "LongReduced", "Lent", "NotKept", "Samples", "Sample", "Window", "Earlier", "NotSaved", "rolling",

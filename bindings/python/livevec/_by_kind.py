@@ -25,7 +25,7 @@ if TYPE_CHECKING:
 
 
 class _ByKind:
-    """The part of `Vector`, `SharedVector`, `Series` and `Samples` that answers about one range by one kind.
+    """The part of `Vector`, `Series`, `Samples` and what threads share of these that answers about one range by one kind.
 
     What a question costs: of a series, O(log n) by the kind's tree, which the first question by that kind makes in O(n). Of a vector, O(log n), and
     at most as much again for each edit since the last question by that kind: O(n) at first."""

@@ -2,7 +2,7 @@
 from __future__ import annotations
 
 import ctypes
-from typing import TYPE_CHECKING, Iterable, Optional, TypeVar
+from typing import TYPE_CHECKING, Callable, Iterable, Optional, TypeVar
 
 from ._buffers import _address, _as_buffer
 from ._calls import (
@@ -13,7 +13,7 @@ from ._elements import _Elements
 from ._numbers import _as_i64, _as_u32
 from ._ranges import _as_places
 from ._refusals import _PLACED, Closed, Refusal, _accepted, _refuse
-from ._structures import _Edited, _Verdict
+from ._structures import _Edited, _Pushed, _Verdict
 
 if TYPE_CHECKING:
     from _typeshed import WriteableBuffer
@@ -106,9 +106,11 @@ class _Edits(_Elements):
         All elements are pushed, or none. Raises Worn, Full and NoMemory where one would be refused: nothing has changed then, and its `pushed` is
         0. Raises TypeError and OverflowError of a buffer of several dimensions, of floats or of what else is no whole number of 64 bits.
         """
-        buffer = _as_buffer(values)
+        self._extended(_as_buffer(values))
+
+    def _extended(self, buffer: WriteableBuffer, by: Callable[..., _Pushed] = _push_many) -> None:
         length = len(buffer)
-        did = _push_many(self._at, ctypes.byref(_address(buffer)) if length else None, length)
+        did = by(self._at, ctypes.byref(_address(buffer)) if length else None, length)
         self._changes += did.pushed
         if did.refusal:
             raise _refuse(did.refusal, did.detail, did.pushed)

@@ -139,7 +139,7 @@ class Queries(_Handle):
         did = _notes(self._at, _vector(vector)._at, room, MOST_QUERIES)
         if did.refusal:
             raise _refuse(did.refusal, did.detail)
-        return [_note_of(room[at]) for at in range(did.count)]
+        return [_note_of(room[at], did.edit) for at in range(did.count)]
 
     def close(self) -> None:
         """Gives the memory back. Every later call raises Closed; to close again does nothing. Raises Busy beside a call of another thread."""
@@ -167,12 +167,12 @@ def _named(name: str) -> tuple[bytes, int]:
     return spelled, len(spelled)
 
 
-def _reach(index: int) -> int:
-    """An end of a range that no vector has, where it is greater than C's numbers, is as good as the greatest of them."""
+def _reach(index: int, most: int = _MOST_U32) -> int:
+    """An end of a range that none has, where it is greater than C's numbers, is as good as the greatest of them."""
     index = operator.index(index)
     if index < 0:
         raise ValueError(f"the end {index} of a query's range is below 0")
-    return min(index, _MOST_U32)
+    return min(index, most)
 
 
 def _vector(vector: Vector) -> Vector:
@@ -181,6 +181,6 @@ def _vector(vector: Vector) -> Vector:
     return vector
 
 
-def _note_of(raw: _Note) -> Note:
+def _note_of(raw: _Note, edit: int) -> Note:
     kind = Kind(raw.kind)
-    return Note(raw.name.decode(), kind, raw.edit, _value_of(kind, raw.values))
+    return Note(raw.name.decode(), kind, edit, _value_of(kind, raw.values))

@@ -104,9 +104,9 @@ class _Questions(_Elements, _ManyByKind):
     def _start(self) -> int:
         return 0
 
-    def _valued(self, kind: Kind, lo: Optional[int], hi: Optional[int]) -> _Values:
+    def _valued(self, kind: Kind, lo: Optional[int], hi: Optional[int], by: Callable[..., _Reduced] = _value) -> _Values:
         start, end = self._range(lo, hi)
-        return _accepted(_value(self._at, kind.value, start, end), start, end).values
+        return _accepted(by(self._at, kind.value, start, end), start, end).values
 
     def _pairs(self, rows: list[Any]) -> array[int]:
         return _as_pairs(rows, self)

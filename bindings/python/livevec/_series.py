@@ -2,14 +2,14 @@
 from __future__ import annotations
 
 import ctypes
-from typing import TYPE_CHECKING, Iterable, TypeVar
+from typing import TYPE_CHECKING, Callable, Iterable, TypeVar
 
 from ._buffers import _address, _as_buffer
 from ._by_index import _ByIndex
 from ._library import _call, _u32
 from ._numbers import _as_i64
 from ._refusals import _refuse
-from ._series_calls import _new, _push, _push_many, _SeriesSlot, _slot, _swap
+from ._series_calls import _new, _push, _push_many, _SeriesPushed, _SeriesSlot, _slot, _swap
 from ._series_kinds import _all_kept, _write_many
 
 if TYPE_CHECKING:
@@ -68,9 +68,11 @@ class Series(_ByIndex):
 
         Raises Worn or Full as the first push that would be refused, then NoMemory: nothing has changed then, so that its `pushed` is 0.
         """
-        buffer = _as_buffer(values)
+        self._extended(_as_buffer(values))
+
+    def _extended(self, buffer: WriteableBuffer, by: Callable[..., _SeriesPushed] = _push_many) -> None:
         length = len(buffer)
-        did = _push_many(self._at, ctypes.byref(_address(buffer)) if length else None, length)
+        did = by(self._at, ctypes.byref(_address(buffer)) if length else None, length)
         self._changes += did.pushed
         if did.refusal:
             raise _refuse(did.refusal, 0, did.pushed)

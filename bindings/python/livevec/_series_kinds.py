@@ -97,9 +97,9 @@ class _SeriesKinds(_SeriesRanges, _ManyByKind):
     def _start(self) -> int:
         return self.first
 
-    def _valued(self, kind: Kind, lo: Optional[int], hi: Optional[int]) -> _Values:
+    def _valued(self, kind: Kind, lo: Optional[int], hi: Optional[int], by: Callable[..., _SeriesReduced] = _value) -> _Values:
         start, end = self._range(lo, hi)
-        return _kept(_value(self._at, kind.value, start, end), start, end).values
+        return _kept(by(self._at, kind.value, start, end), start, end).values
 
     def _quick(self, view: memoryview) -> Optional[bytearray]:
         # a copy, for C looks at them twice while other threads run, which may write to what the caller has

@@ -1,36 +1,212 @@
-"""A vector that threads share, by a lock: with workers, and subscribers who are told of changes."""
+"""What threads share, by a lock: a vector, a series or samples, with subscribers who are told of changes, and for a vector with workers."""
 from __future__ import annotations
 
 import contextlib
+import ctypes
 import operator
 import threading
 import weakref
-from typing import Any, Callable, Iterator, Optional, TypeVar, Union
+from typing import Any, Callable, Generic, Iterable, Iterator, NamedTuple, Optional, TypeVar, Union
 
+from ._buffers import _as_buffer
 from ._by_kind import _ByKind
 from ._calls import _slot
 from ._kinds import Kind
-from ._library import _call, _released, _u32
-from ._numbers import _whole
-from ._queries import Queries, _vector
-from ._ranges import _ends
-from ._refusals import Busy, Closed, NoMemory, _accepted, _refuse
-from ._shared_edits import _SharedEdits
-from ._shared_state import _Seat, _State
-from ._shared_workers import _work
-from ._structures import _Reduced, _Values
-from ._subscribers import Subscriber
-from ._values import Reduced, _values_of
-from ._vector import Vector
+from ._library import _call, _pointer, _released, _size, _u32
+from ._numbers import _as_i64, _whole
+from ._queries import Queries, _QueriesSlot, _vector
+from ._refusals import Busy, Closed, NoMemory, _refuse
+from ._samples import Samples
+from ._series import Series
+from ._structures import _Pushed, _Reduced, _Values
+from ._subscribers import Subscriber, _place, _Place
+from ._values import Reduced
+from ._vector import Vector, _remade
 
-# Calls that release the interpreter's lock: the lock of the shared vector keeps them apart.
+
+class _Left(ctypes.Structure):
+    refusal: int
+    is_edited: bool
+    edit: int
+    _fields_ = [("refusal", _u32), ("is_edited", ctypes.c_bool), ("edit", ctypes.c_uint64)]
+
+
+# All these release the interpreter's lock: who has the lock of what is shared may want that one.
+_new = _call("livevec_shared_new", _u32, _place, _slot, by=_released)
+_enter = _call("livevec_shared_enter", _u32, _place, by=_released)
+_leave = _call("livevec_shared_leave", _Left, _place, by=_released)
+_renew = _call("livevec_shared_renew", _u32, _place, _slot, by=_released)
+_close = _call("livevec_shared_close", _u32, _place, by=_released)
+_free = _call("livevec_free_shared", _u32, _place, by=_released)
+_subscribe = _call("livevec_shared_subscribe", _u32, _place, _place, ctypes.POINTER(_QueriesSlot), by=_released)
+_hire = _call("livevec_shared_hire", _u32, _place, _place, by=_released)
+_work = _call("livevec_worker_work", _u32, _place, by=_released)
+_dismiss = _call("livevec_worker_dismiss", _u32, _place, by=_released)
+_free_worker = _call("livevec_free_worker", _u32, _place, by=_released)
+# and these take long
 _reduce = _call("livevec_reduce", _Reduced, _slot, _u32, _u32, by=_released)
 _value = _call("livevec_value", _Reduced, _slot, _u32, _u32, _u32, by=_released)
+_push_many = _call("livevec_push_many", _Pushed, _slot, _pointer, _size, by=_released)
 
+_Of = TypeVar("_Of", bound=Union[Vector, Series, Samples])
+_Some = TypeVar("_Some", bound="_Shared[Any]")
 _Result = TypeVar("_Result")
 
 
-class SharedVector(_ByKind, _SharedEdits):
+class Receipt(NamedTuple):
+    """What an edit of what is shared answers: its number, and what the edit of that name of a `Vector`, a `Series` or `Samples` gives."""
+
+    edit: int
+    told: int
+
+
+class _Worker:
+    """What a thread computes by, until it is dismissed. It is freed once nobody has it, nor its thread."""
+
+    def __init__(self, at: Any) -> None:
+        self._slot = _Place()
+        self._at = ctypes.byref(self._slot)
+        _check(_hire(at, self._at))
+        self.thread = threading.Thread(target=self._compute, name="livevec worker", daemon=True)
+
+    def _compute(self) -> None:
+        _work(self._at)
+
+    def __del__(self, _free: Callable[..., int] = _free_worker) -> None:
+        _free(self._at)
+
+
+def _check(refusal: int) -> None:
+    if refusal:
+        raise _refuse(refusal)
+
+
+class _Shared(_ByKind, Generic[_Of]):
+    """The part that all have who are shared. Edits and questions are those of what is shared, each under the lock for one call: they cost what those
+    do, with the wait for the lock. An edit gives a `Receipt`, whose number goes on rising where another vector took the place of one.
+
+    Each call of a thread that is within a `locked` of its own raises Busy, where it would wait for itself. Where a thread leaves `locked` by an
+    exception, what it did there stays, each a whole edit; the lock is let go, subscribers are told, and the exception goes on in that thread
+    alone. Nothing else of a caller's runs under the lock. Calls into C that take long release the interpreter's lock.
+
+    What is handed in belongs to it from then on, until `close` gives it back; then each call raises Closed. The end of a `with` closes it. Where it
+    is let go without that, or the program ends, workers and subscribers end too."""
+
+    __slots__ = ("_of", "_slot", "_at", "_is_closed", "_workers", "__weakref__")
+    # how C puts a lock round it, and what it is asked by
+    _put_round: Callable[..., int]
+
+    def __init__(self, of: _Of) -> None:
+        self._of, self._slot, self._is_closed = of, _Place(), False
+        self._at = ctypes.byref(self._slot)
+        self._workers: list[_Worker] = []
+        _check(type(self)._put_round(self._at, of._at))
+        weakref.finalize(self, _free, self._at)
+
+    # Edits.
+
+    def pop(self) -> Receipt:
+        """Drops the last element; the receipt has it."""
+        return self._edited(lambda of: of.pop())
+
+    def write(self, index: int, value: int) -> Receipt:
+        """Overwrites an element; the receipt has the one before."""
+        place, element = _whole(index, "the index"), _as_i64(value)
+        return self._edited(lambda of: of.write(place, element))
+
+    def __setitem__(self, index: int, value: int) -> None:
+        self.write(index, value)
+
+    def truncate(self, elements: int) -> Receipt:
+        """As that of what is shared: drops the elements from an index on; the receipt has how many they were."""
+        size = operator.index(elements)
+        return self._edited(lambda of: of.truncate(size))
+
+    # Questions.
+
+    def __len__(self) -> int:
+        return self._read(len)
+
+    @property
+    def edits(self) -> int:
+        """The number of the last edit."""
+        return self._entered(len)[1]
+
+    def __getitem__(self, index: int) -> int:
+        """The element at an index; of a vector a negative one counts from the end. Raises OutOfRange, NotKept."""
+        place = operator.index(index)
+        return self._read(lambda of: of[place])
+
+    def __iter__(self) -> Iterator[int]:
+        """The elements in order, all after one edit: they are copied once, under the lock."""
+        return iter(self._read(lambda of: of.to_array()))
+
+    def __reversed__(self) -> Iterator[int]:
+        """The elements from the last one on, all after one edit: they are copied once, under the lock."""
+        return reversed(self._read(lambda of: of.to_array()))
+
+    def total(self, lo: Optional[int] = None, hi: Optional[int] = None) -> int:
+        """The exact sum of a range, after one edit."""
+        return self._read(lambda of: of.total(lo, hi))
+
+    # More than one call, and the end.
+
+    @contextlib.contextmanager
+    def locked(self) -> Iterator[_Of]:
+        """What is shared itself for the time of a `with`, for several calls with no other thread's between them. It is not to be used later."""
+        _check(_enter(self._at))
+        try:
+            yield self._of
+        finally:
+            _leave(self._at)
+
+    def close(self) -> _Of:
+        """Ends edits, workers and subscribers, and waits for the workers; gives what is shared back. To close again gives it again.
+
+        Each subscriber has its last notes then, at the last edit."""
+        refusal = _close(self._at)
+        if refusal != Closed.number:
+            _check(refusal)
+        self._is_closed = True
+        for worker in self._workers:
+            worker.thread.join()
+        return self._of
+
+    def __enter__(self: _Some) -> _Some:
+        return self
+
+    def __exit__(self, *_: object) -> None:
+        self.close()
+
+    def __reduce__(self) -> Union[str, tuple[Any, ...]]:
+        raise TypeError(f"a {type(self).__name__} can't be copied or pickled, for threads share it in this process")
+
+    def __repr__(self) -> str:
+        return f"<livevec.{type(self).__name__}{', closed' if self._is_closed else ''}>"
+
+    # Within.
+
+    def _entered(self, call: Callable[[_Of], _Result]) -> tuple[_Result, int]:
+        """What a call under the lock gives, and the number of the last edit."""
+        _check(_enter(self._at))
+        try:
+            told = call(self._of)
+        finally:
+            left = _leave(self._at)
+        return told, left.edit
+
+    def _read(self, call: Callable[[_Of], _Result]) -> _Result:
+        return self._entered(call)[0]
+
+    def _edited(self, call: Callable[[_Of], int]) -> Receipt:
+        told, edit = self._entered(call)
+        return Receipt(edit, told)
+
+    def _subscribed(self, names: Iterable[str], asked: object, sits: Callable[[Any, Any], int]) -> Subscriber:
+        return Subscriber(names, asked, lambda seat: sits(self._at, seat))
+
+
+class SharedVector(_Shared[Vector]):
     """A `Vector` that threads share, by a lock.
 
         >>> from livevec import Queries, SharedVector, Vector
@@ -47,98 +223,92 @@ class SharedVector(_ByKind, _SharedEdits):
         40
 
     Edits and questions are those of a `Vector`, each under the lock for one call: they cost what those do, with the wait for the lock. An edit gives a
-    `Receipt`. `locked` takes the lock for several.
-    `start_workers` starts threads that compute summaries beside them, without the lock, and a `Subscriber` sleeps until an edit changes what it
-    asks. Calls into C that take long release the interpreter's lock.
+    `Receipt`. `locked` takes the lock for several. `start_workers` starts threads that compute summaries beside them, without the lock, and a
+    `Subscriber` sleeps until an edit changes what it asks. `renew` goes on as a copy, where the vector is nearly worn.
 
-    Each call of a thread that is within a `locked` of its own raises Busy, where it would wait for itself. Where a thread leaves `locked` by an
-    exception, what it did there stays, each a whole edit; the lock is let go, subscribers are told, and the exception goes on in that thread
-    alone. Nothing else of a caller's runs under the lock. A worker that fails tells it as any thread does, and the others go on.
-
-    The vector that is handed in belongs to it from then on, until `close` gives it back; then each call raises Closed. The end of a `with`
-    closes it. Where it is let go without that, workers and subscribers end too.
+    Each call of a thread that is within a `locked` of its own raises Busy. An exception in `locked` stops nobody else, and undoes nothing. The vector
+    that is handed in belongs to it until `close`, or the end of a `with`, gives it back; then each call raises Closed.
     """
 
     __slots__ = ()
+    _put_round = _new
 
     def __init__(self, vector: Optional[Vector] = None) -> None:
-        self._state = _State(Vector() if vector is None else _vector(vector))
+        super().__init__(Vector() if vector is None else _vector(vector))
 
-    # Questions.
+    def push(self, value: int) -> Receipt:
+        """As `Vector.push`; the receipt has the index."""
+        element = _as_i64(value)
+        return self._edited(lambda vector: vector.push(element))
 
-    def __len__(self) -> int:
-        return self._read(len)
+    def swap(self, first: int, second: int) -> Receipt:
+        """As `Vector.swap`; the receipt has the element that stands at the first index now."""
+        places = operator.index(first), operator.index(second)
+        return self._edited(lambda vector: vector.swap(*places))
 
-    @property
-    def edits(self) -> int:
-        """The number of the last edit."""
-        return self._read(lambda vector: vector.edits)
+    def reserve(self, elements: int) -> Receipt:
+        """As `Vector.reserve`; the receipt has the capacity."""
+        room = operator.index(elements)
+        return self._edited(lambda vector: vector.reserve(room))
 
-    def __getitem__(self, index: int) -> int:
-        """The element at an index; a negative one counts from the end. Raises OutOfRange."""
-        place = operator.index(index)
-        return self._read(lambda vector: vector[place])
+    def extend(self, values: Iterable[int]) -> int:
+        """As `Vector.extend`, with no other edit between; gives the number of the last edit."""
+        buffer = _as_buffer(values)
+        return self._entered(lambda vector: vector._extended(buffer, _push_many))[1]
 
-    def __iter__(self) -> Iterator[int]:
-        """The elements in order, all after one edit: they are copied once, under the lock."""
-        return iter(self._read(lambda vector: vector.to_array()))
-
-    def __reversed__(self) -> Iterator[int]:
-        """The elements from the last one on, all after one edit: they are copied once, under the lock."""
-        return reversed(self._read(lambda vector: vector.to_array()))
-
-    def total(self, lo: Optional[int] = None, hi: Optional[int] = None) -> int:
-        """As `Vector.total`: the exact sum, after one edit."""
-        return self._read(lambda vector: vector.total(lo, hi))
+    def write_many(self, indices: Iterable[int], values: Iterable[int]) -> int:
+        """As `Vector.write_many`, with no other edit between; gives the number of the last edit."""
+        rows, elements = _as_buffer(indices, "indices"), _as_buffer(values, "values")
+        return self._entered(lambda vector: vector.write_many(rows, elements))[1]
 
     def reduce(self, lo: int = 0, hi: Optional[int] = None) -> Reduced:
         """As `Vector.reduce`, which tells after which edit the values are so. Linear in what no worker or question computed before."""
-        did = self._asked(_reduce, lo, hi)
-        return Reduced(did.edit, did.cells, did.summaries, _values_of(did.values))
+        reduced, edit = self._entered(lambda vector: vector._reduced(_reduce, lo, hi))
+        return reduced._replace(edit=edit)
 
-    # More than one call, and other threads.
+    def renew(self) -> None:
+        """Goes on as a copy of the vector, where that is nearly worn: with the same elements, limits, table and kind, and no edits but the pushes of its
+        elements. Numbers of edits go on as if nothing were, and subscribers are told nothing. The vector that was handed in is that copy from then
+        on. Linear. Raises NoMemory, and Worn where it has more elements than its limit of edits: nothing has changed then."""
 
-    @contextlib.contextmanager
-    def locked(self) -> Iterator[Vector]:
-        """The vector itself for the time of a `with`, for several calls with no other thread's between them. It is not to be used later."""
-        state = self._state
-        state.check()
-        with state.lock:
-            vector = state.open()
-            state.holder = threading.get_ident()
-            try:
-                yield vector
-            finally:
-                state.holder = 0
-                state.changed()
+        def goes_on(vector: Vector) -> None:
+            fresh = _remade(type(vector), (), *vector._limits)
+            _check(_renew(self._at, fresh._at))
+            for name in ("_slot", "_at"):
+                worn = getattr(vector, name)
+                setattr(vector, name, getattr(fresh, name))
+                setattr(fresh, name, worn)
+
+        self._read(goes_on)
 
     def start_workers(self, count: int = 1) -> None:
         """Starts so many more threads that compute summaries, or none. Each sleeps while there is nothing to compute; edits wake it.
 
         It takes jobs under the lock, computes them without it, and hands in what the vector vouches for. Where many blocks near together want one it
         takes a subtree of 4,096 elements, or where there is none at most 1,024 blocks. A subtree that was written to meanwhile it goes over again by
-        its blocks. Summaries above those it computes under the lock, by the 256. No answer changes by it. Raises Closed, and NoMemory where no thread
-        is to be had."""
-        state, stop = self._state, threading.Event()
-        self._read(len)
-        made: list[tuple[threading.Thread, threading.Event]] = []
+        its blocks. Summaries above those it computes under the lock, by the 256. All of that is done in C, beside the threads of Python. No answer
+        changes by it. Raises Closed, and NoMemory where no thread is to be had."""
+        made: list[_Worker] = []
         try:
+            self._read(len)
             for _ in range(operator.index(count)):
-                thread = threading.Thread(target=_work, args=(state, stop), name="livevec worker", daemon=True)
-                thread.start()
-                made.append((thread, stop))
+                worker = _Worker(self._at)
+                worker.thread.start()
+                made.append(worker)
+            self._read(lambda _: self._workers.extend(made))
         except (RuntimeError, MemoryError):
-            state.end(made)
+            _ended(made)
             raise _refuse(NoMemory.number) from None
-        with state.lock:
-            state.workers += made
+        except BaseException:
+            _ended(made)
+            raise
 
     def stop_workers(self) -> None:
         """Ends all workers, and waits for them. More may be started later."""
-        self._state.check()
-        with self._state.lock:
-            workers, self._state.workers = self._state.workers, []
-        self._state.end(workers)
+        ended: list[_Worker] = []
+        with contextlib.suppress(Closed), self.locked():
+            ended, self._workers = self._workers, []
+        _ended(ended)
 
     def subscribe(self, queries: Queries) -> Subscriber:
         """One more that is told which answers of these queries change. Before its first look each counts as told what `Queries` says.
@@ -146,66 +316,15 @@ class SharedVector(_ByKind, _SharedEdits):
         The queries are the subscriber's from now on: a call at them beside its look raises Busy there or here. Raises Closed."""
         if not isinstance(queries, Queries):
             raise TypeError(f"Queries are wanted, not a {type(queries).__name__}")
-        state, seat = self._state, _Seat(queries)
-        state.check()
-        with state.lock:
-            state.open()
-            state.seats = [it for it in state.seats if it() is not None]
-            state.seats.append(weakref.ref(seat))
-        return Subscriber(state, seat)
-
-    def close(self) -> Vector:
-        """Ends edits, workers and subscribers, and waits for the workers; gives the vector back. To close again gives it again.
-
-        Each subscriber has its last notes then, at the last edit."""
-        state = self._state
-        state.check()
-        with state.lock:
-            state.shut()
-            workers = list(state.workers)
-        state.end(workers)
-        # jobs that nobody delivers any more are handed out again
-        with contextlib.suppress(Closed, Busy):
-            state.vector.forget_claims()
-        return state.vector
-
-    def __enter__(self) -> SharedVector:
-        return self
-
-    def __exit__(self, *_: object) -> None:
-        self.close()
-
-    # It may run while its thread has the lock: who has it looks at the word before it sleeps.
-    def __del__(self) -> None:
-        state: Optional[_State] = getattr(self, "_state", None)
-        if state is None:
-            return
-        state.is_left = True
-        if state.lock.acquire(blocking=False):
-            try:
-                state.is_over()
-            finally:
-                state.lock.release()
-
-    def __reduce__(self) -> Union[str, tuple[Any, ...]]:
-        raise TypeError("a SharedVector can't be copied or pickled, for threads share it in this process")
-
-    def __repr__(self) -> str:
-        return f"<livevec.SharedVector{', closed' if self._state.is_closed else ''}>"
-
-    # Within.
+        return self._subscribed(queries.names, queries, lambda at, seat: _subscribe(at, seat, queries._at))
 
     def _valued(self, kind: Kind, lo: Optional[int], hi: Optional[int]) -> _Values:
-        return self._asked(_value, 0 if lo is None else lo, hi, kind.value).values
+        return self._read(lambda vector: vector._valued(kind, lo, hi, _value))
 
-    def _asked(self, call: Callable[..., _Reduced], lo: int, hi: Optional[int], *first: int) -> _Reduced:
-        did: _Reduced
-        start, end = _whole(lo, "the start of the range"), None if hi is None else _whole(hi, "the end of the range")
-        ends, did = self._read(lambda vector: (ends := _ends(start, end, vector), call(vector._at, *first, *ends)))
-        return _accepted(did, *ends)
 
-    def _read(self, call: Callable[[Vector], _Result]) -> _Result:
-        state = self._state
-        state.check()
-        with state.lock:
-            return call(state.open())
+def _ended(workers: list[_Worker]) -> None:
+    """Ends workers, and waits for them."""
+    for worker in workers:
+        _dismiss(worker._at)
+    for worker in workers:
+        worker.thread.join()

@@ -1,79 +1,100 @@
-"""Those who are told which answers by a shared vector have changed."""
+"""Those who are told which answers by what threads share have changed."""
 from __future__ import annotations
 
-import time
+import ctypes
+import threading
+from typing import Any, Callable, Iterable
 
-from ._queries import Note
-from ._shared_state import _Seat, _State
+from ._library import _call, _pointer, _released, _size, _u32
+from ._limits import _MOST_U64, MOST_QUERIES
+from ._queries import Note, _Note, _note_of
+from ._refusals import _refuse
+
+
+class _Place(ctypes.Structure):
+    """A slot of livevec_shared.h."""
+
+    _fields_ = [("at_", ctypes.c_void_p)]
+
+
+class _Told(ctypes.Structure):
+    refusal: int
+    detail: int
+    edit: int
+    count: int
+    is_over: bool
+    _fields_ = [("refusal", _u32), ("detail", _u32), ("edit", ctypes.c_uint64), ("count", _u32), ("is_over", ctypes.c_bool)]
+
+
+# All calls at what is shared release the interpreter's lock: who has the lock of what is shared may want that one.
+_place: Any = ctypes.POINTER(_Place)
+_next = _call("livevec_subscriber_next", _Told, _place, ctypes.POINTER(_Note), _size, ctypes.c_uint64, by=_released)
+_look = _call("livevec_subscriber_look", _Told, _place, ctypes.POINTER(_Note), _size, by=_released)
+_set_pause = _call("livevec_subscriber_set_pause", _u32, _place, ctypes.c_uint64, by=_released)
+_free = _call("livevec_free_subscriber", _u32, _place, by=_released)
+
+# A signal is looked at by the main thread alone, between two calls: so it sleeps for so many nanoseconds at once, and others without an end.
+_A_WHILE = 100_000_000
 
 
 class Subscriber:
-    """One who is told which answers of its queries by a shared vector have changed; made by `SharedVector.subscribe`.
+    """One who is told which answers by what threads share have changed; made by `SharedVector.subscribe` and those of its like.
 
     As an iterator it sleeps until an edit changes an answer, and gives the notes of those that differ from what it was told last, in the order in
-    which the queries were named. All notes of one list are at one edit, and these rise. What comes and goes between two looks is not told. Once
-    the vector is closed it gives the notes at the last edit, if there are any, and then ends.
+    which they were named. All notes of one list are at one edit, and these rise. What comes and goes between two looks is not told. Once what is
+    shared is closed it gives the notes at the last edit, if there are any, and then ends.
 
     It pauses `pause` seconds between two looks, at first a millisecond, and twice as long as the last look took where that is longer, so that
     edits are not held up. By 0 it doesn't pause: each edit may be looked at then, and waits for the look. It is one thread's at a time, and may
     be let go at any time. Raises BadKind where the vector is of one kind and another is among the queries: nothing counts as told then.
     """
 
-    __slots__ = ("pause", "_state", "_seat", "_rested")
+    __slots__ = ("_slot", "_at", "_pause", "_names", "_asked")
 
-    def __init__(self, state: _State, seat: _Seat) -> None:
-        self.pause = 0.001
-        self._state, self._seat = state, seat
-        self._rested = 0.0
+    def __init__(self, names: Iterable[str], asked: object, sits: Callable[[Any], int]) -> None:
+        # what is asked stays while C asks it
+        self._slot, self._names, self._asked, self._pause = _Place(), names, asked, 0.001
+        self._at = ctypes.byref(self._slot)
+        refusal = sits(self._at)
+        if refusal:
+            raise _refuse(refusal)
+
+    @property
+    def pause(self) -> float:
+        """For how many seconds it pauses after a look, at least."""
+        return self._pause
+
+    @pause.setter
+    def pause(self, seconds: float) -> None:
+        self._pause = seconds
+        _set_pause(self._at, min(max(int(seconds * 1e9), 0), _MOST_U64))
 
     def look(self) -> list[Note]:
         """The notes that there are now; none where nothing has changed. It neither sleeps nor pauses. Costs what `Queries.notes`
         does, under the lock."""
-        self._state.check()
-        with self._state.lock:
-            return self._looked()
+        return self._told(_look)[1]
 
     def __iter__(self) -> Subscriber:
         return self
 
     def __next__(self) -> list[Note]:
-        state = self._state
+        rest = _A_WHILE if threading.current_thread() is threading.main_thread() else _MOST_U64
         while True:
-            state.check()
-            with state.lock:
-                if not self._is_awaited():
-                    raise StopIteration
-                notes = self._looked()
+            is_over, notes = self._told(_next, rest)
+            if is_over:
+                raise StopIteration
             if notes:
                 return notes
 
-    def _is_awaited(self) -> bool:
-        """Sleeps until there may be something to look at; tells whether there is."""
-        state, seat = self._state, self._seat
-        while not state.is_over():
-            rest = self._rested - time.monotonic()
-            if rest > 0:
-                state.pause.wait(rest)
-            elif seat.seen != state.changes:
-                return True
-            else:
-                state.is_unaware = True
-                state.change.wait()
-        return bool(seat.last)
+    def _told(self, call: Callable[..., _Told], *rest: int) -> tuple[bool, list[Note]]:
+        room = (_Note * MOST_QUERIES)()
+        did = call(self._at, room, MOST_QUERIES, *rest)
+        if did.refusal:
+            raise _refuse(did.refusal, did.detail)
+        return did.is_over, [_note_of(room[at], did.edit) for at in range(did.count)]
 
-    def _looked(self) -> list[Note]:
-        state, seat = self._state, self._seat
-        if state.is_over():
-            last, seat.last = seat.last, []
-            if isinstance(last, Exception):
-                raise last
-            return last
-        start = time.monotonic()
-        try:
-            return state.notes(seat)
-        finally:
-            end = time.monotonic()
-            self._rested = end + max(self.pause, 2 * (end - start)) if self.pause > 0 else end
+    def __del__(self, _free: Callable[..., int] = _free) -> None:
+        _free(self._at)
 
     def __repr__(self) -> str:
-        return f"<livevec.Subscriber to {', '.join(self._seat.queries.names)}>"
+        return f"<livevec.Subscriber to {', '.join(self._names)}>"

@@ -1,0 +1,179 @@
+"""A series and samples that threads share."""
+from __future__ import annotations
+
+import ctypes
+from typing import Any, Iterable, Mapping, Optional, Union
+
+from ._buffers import _as_buffer
+from ._by_index import LongReduced
+from ._kinds import Kind, _kind_of, _Value
+from ._library import _call, _pointer, _released, _size, _u32
+from ._limits import _MOST_U64
+from ._numbers import _as_i64, _whole
+from ._queries import _NAME_BYTES, _named, _reach
+from ._refusals import BadName, _refuse
+from ._samples import Sample, Samples
+from ._series import Series
+from ._series_calls import _SeriesPushed, _SeriesReduced, _slot, _u64
+from ._shared import _Of, _Shared, Receipt
+from ._structures import _Values
+from ._subscribers import Subscriber, _place
+
+
+class _Watched(ctypes.Structure):
+    name: bytes
+    kind: int
+    lo: int
+    hi: int
+    _fields_ = [("name", ctypes.c_char * (_NAME_BYTES + 1)), ("kind", _u32), ("lo", _u64), ("hi", _u64)]
+
+
+# All these release the interpreter's lock: who has the lock of what is shared may want that one, and the last three take long.
+_new = _call("livevec_shared_new_series", _u32, _place, _slot, by=_released)
+_watch = _call("livevec_shared_watch", _u32, _place, _place, ctypes.POINTER(_Watched), _size, by=_released)
+_reduce = _call("livevec_series_reduce", _SeriesReduced, _slot, _u64, _u64, by=_released)
+_value = _call("livevec_series_value", _SeriesReduced, _slot, _u32, _u64, _u64, by=_released)
+_push_many = _call("livevec_series_push_many", _SeriesPushed, _slot, _pointer, _size, by=_released)
+
+# a kind of all that is kept, or of what is kept of a range
+_Asked = Union[Kind, str, tuple[Union[Kind, str], int, Optional[int]]]
+
+
+class _SharedByIndex(_Shared[_Of]):
+    """What a series and samples that are shared have in common."""
+
+    __slots__ = ()
+    _put_round = _new
+
+    def expire(self, index: int) -> Receipt:
+        """As `Series.expire`; the receipt has how many elements were dropped."""
+        place = _whole(index, "the index")
+        return self._edited(lambda of: of.expire(place))
+
+    @property
+    def first(self) -> int:
+        """The index of the first element that is kept."""
+        return self._read(lambda of: of.first)
+
+    @property
+    def size(self) -> int:
+        """The index behind the last element."""
+        return self._read(lambda of: of.size)
+
+    def reduce(self, lo: Optional[int] = None, hi: Optional[int] = None) -> LongReduced:
+        """As `Series.reduce`, which tells after which edit the values are so."""
+        reduced, edit = self._entered(lambda of: of._reduced(_reduce, lo, hi))
+        return LongReduced(edit, reduced.values)
+
+    def subscribe(self, asked: Mapping[str, _Asked]) -> Subscriber:
+        """One more that is told which of some answers change, each of which has a name of at most 16 bytes: what a kind says of all elements that are
+        kept, or of those that are from `lo` up to `hi`, or without an end: `{"total": "sum", "low": ("least", 5, 9), "late": ("best", 70, None)}`.
+
+        Before its first look each counts as told its answer of no elements. Raises TooMany above 64, BadName, BadRange, Closed; ValueError of what is
+        no kind, and of an end below 0."""
+        rows = (_Watched * max(len(asked), 1))()
+        for row, (name, what) in zip(rows, asked.items()):
+            kind, lo, hi = what if isinstance(what, tuple) else (what, 0, None)
+            spelled, length = _named(name)
+            if length > _NAME_BYTES:
+                raise _refuse(BadName.number)
+            row.name, row.kind, row.lo, row.hi = spelled, _kind_of(kind).value, _reach(lo, _MOST_U64), _MOST_U64 if hi is None else _reach(hi, _MOST_U64)
+        return self._subscribed(tuple(asked), rows, lambda at, seat: _watch(at, seat, rows, len(asked)))
+
+    def _valued(self, kind: Kind, lo: Optional[int], hi: Optional[int]) -> _Values:
+        return self._read(lambda of: of._valued(kind, lo, hi, _value))
+
+
+class SharedSeries(_SharedByIndex[Series]):
+    """A `Series` that threads share, by a lock.
+
+        >>> from livevec import Series, SharedSeries
+        >>> with SharedSeries(Series([30, 12])) as shared:
+        ...     alerts = shared.subscribe({"total": "sum"})
+        ...     next(alerts)[0].value
+        ...     shared.push(-2)
+        ...     next(alerts)[0].value
+        42
+        Receipt(edit=3, told=2)
+        40
+
+    Calls, the lock, subscribers and the end are as with a `SharedVector`. It has no workers, since each edit renews the trees, and is never worn.
+    """
+
+    __slots__ = ()
+
+    def __init__(self, series: Optional[Series] = None) -> None:
+        super().__init__(Series() if series is None else _of(series, Series))
+
+    def push(self, value: int) -> Receipt:
+        """As `Series.push`; the receipt has the index."""
+        element = _as_i64(value)
+        return self._edited(lambda series: series.push(element))
+
+    def swap(self, first: int, second: int) -> Receipt:
+        """As `Series.swap`; the receipt has the element that stands under the first index now."""
+        places = _whole(first, "the index"), _whole(second, "the index")
+        return self._edited(lambda series: series.swap(*places))
+
+    def extend(self, values: Iterable[int]) -> int:
+        """As `Series.extend`, with no other edit between; gives the number of the last edit."""
+        buffer = _as_buffer(values)
+        return self._entered(lambda series: series._extended(buffer, _push_many))[1]
+
+    def write_many(self, indices: Iterable[int], values: Iterable[int]) -> int:
+        """As `Series.write_many`, with no other edit between; gives the number of the last edit."""
+        rows, elements = _as_buffer(indices, "indices"), _as_buffer(values, "values")
+        return self._entered(lambda series: series.write_many(rows, elements))[1]
+
+
+class SharedSamples(_SharedByIndex[Samples]):
+    """`Samples` that threads share, by a lock.
+
+        >>> from livevec import Samples, SharedSamples
+        >>> with SharedSamples(Samples([0, 12], [20, 22])) as load:
+        ...     load.push(61, 30)
+        ...     load.value_of_last("sum", 60)
+        Receipt(edit=3, told=2)
+        52
+
+    Calls, the lock, subscribers and the end are as with a `SharedVector`, without workers.
+    """
+
+    __slots__ = ()
+
+    def __init__(self, samples: Optional[Samples] = None) -> None:
+        super().__init__(Samples() if samples is None else _of(samples, Samples))
+
+    def push(self, time: int, value: int) -> Receipt:
+        """As `Samples.push`; the receipt has the index."""
+        when, element = _as_i64(time, "the time"), _as_i64(value, "the value")
+        return self._edited(lambda samples: samples.push(when, element))
+
+    def push_many(self, times: Iterable[int], values: Iterable[int]) -> int:
+        """As `Samples.push_many`, with no other edit between; gives the number of the last edit."""
+        rows, elements = _as_buffer(times, "times"), _as_buffer(values, "values")
+        return self._entered(lambda samples: samples.push_many(rows, elements))[1]
+
+    def expire_before(self, time: int) -> Receipt:
+        """As `Samples.expire_before`; the receipt has how many samples were dropped."""
+        when = _as_i64(time, "the time")
+        return self._edited(lambda samples: samples.expire_before(when))
+
+    def sample(self, index: int) -> Sample:
+        """As `Samples.sample`."""
+        place = _whole(index, "the index")
+        return self._read(lambda samples: samples.sample(place))
+
+    def value_between(self, kind: Union[Kind, str], since: int, until: int) -> _Value:
+        """As `Samples.value_between`."""
+        return self._read(lambda samples: samples.value_between(kind, since, until))
+
+    def value_of_last(self, kind: Union[Kind, str], span: int) -> _Value:
+        """As `Samples.value_of_last`."""
+        return self._read(lambda samples: samples.value_of_last(kind, span))
+
+
+def _of(given: Any, wanted: type) -> Any:
+    if not isinstance(given, wanted):
+        raise TypeError(f"a {wanted.__name__} is wanted, not a {type(given).__name__}")
+    return given

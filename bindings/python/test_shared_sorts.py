@@ -1,0 +1,169 @@
+"""A series and samples that threads share, and a shared vector that goes on as its copy. Values are worked out by hand."""
+import _thread
+import copy
+import subprocess
+import sys
+import threading
+import time
+import unittest
+
+import livevec
+from livevec import Kind, LongReduced, Queries, Receipt, Sample, Samples, Series, SharedSamples, SharedSeries, SharedVector, Vector
+
+
+def values(notes):
+    return [(note.name, note.edit, note.value) for note in notes]
+
+
+class OfSeries(unittest.TestCase):
+    def test_each_call(self):
+        shared = SharedSeries(Series([4, 5]))
+        alerts, late = shared.subscribe({"all": "sum", "front": ("least", 0, 2)}), shared.subscribe({"most": (Kind.GREATEST, 0, None)})
+        self.assertEqual((shared.push(6), len(shared), shared[2], shared.edits), (Receipt(3, 2), 3, 6, 3))
+        self.assertEqual(values(next(alerts)), [("all", 3, 15), ("front", 3, 4)])
+        self.assertEqual((shared.write(0, 7), shared.swap(0, 1), shared.pop()), (Receipt(4, 4), Receipt(5, 5), Receipt(6, 6)))
+        self.assertEqual(values(next(alerts)), [("all", 6, 12), ("front", 6, 5)])
+        self.assertEqual((shared.extend([1, 2, 3]), shared.write_many([4], [30]), shared.expire(1)), (9, 10, Receipt(11, 1)))
+        self.assertEqual((shared.first, shared.size, shared.truncate(4), list(shared), list(reversed(shared))), (1, 5, Receipt(12, 1), [7, 1, 2], [2, 1, 7]))
+        self.assertEqual((shared.sum(), shared.least(), shared.greatest(2), shared.best(1, 3), shared.total(), shared.value("affine", 4)), (10, 1, 2, 8, 10, (1, 0)))
+        self.assertEqual((type(shared.reduce()), shared.reduce().edit, shared.reduce().values.sum), (LongReduced, 12, 10))
+        self.assertRaises(livevec.NotKept, lambda: shared[0])
+        self.assertRaises(livevec.NotKept, shared.write, -1, 0)
+        self.assertRaises(OverflowError, shared.push, 2**63)
+        with self.assertRaises(livevec.NotKept), shared.locked() as series:
+            self.assertRaises(livevec.Busy, len, shared)
+            series.push(50)
+            series[0]
+        self.assertEqual((shared.edits, values(alerts.look()), values(next(late))), (13, [("all", 13, 60), ("front", 13, 7)], [("most", 13, 50)]))
+        self.assertRaises(AttributeError, lambda: shared.start_workers())
+        self.assertRaises(AttributeError, lambda: shared.renew())
+        self.assertRaises(TypeError, copy.copy, shared)
+        told = []
+        listener = threading.Thread(target=lambda: told.extend(late))
+        listener.start()
+        time.sleep(0.02)
+        shared[4] = 51
+        series = shared.close()
+        listener.join()
+        self.assertEqual([values(notes) for notes in told], [[("most", 14, 51)]])
+        self.assertEqual((list(series), series is shared.close(), repr(shared)), ([7, 1, 2, 51], True, "<livevec.SharedSeries, closed>"))
+        self.assertEqual([values(notes) for notes in alerts], [[("all", 14, 61)]])
+        for call in (lambda: shared.push(1), lambda: len(shared), lambda: shared.subscribe({}), lambda: shared.sum()):
+            self.assertRaises(livevec.Closed, call)
+
+    def test_what_can_not_be_watched(self):
+        shared = SharedSeries()
+        for wrong, asked in ((livevec.BadName, {"seventeen letters": "sum"}), (livevec.BadRange, {"back": ("sum", 2, 1)}), (ValueError, {"of": "median"}),
+                             (ValueError, {"of": ("sum", -1, 2)}), (livevec.TooMany, {f"q{i}": "sum" for i in range(65)}), (TypeError, {5: "sum"})):
+            self.assertRaises(wrong, shared.subscribe, asked)
+        self.assertEqual((shared.subscribe({}).look(), repr(shared.subscribe({"low": "least"}))), ([], "<livevec.Subscriber to low>"))
+        for wrong in (Vector(), [1], None.__class__):
+            self.assertRaises(TypeError, SharedSeries, wrong)
+        self.assertRaises(TypeError, SharedSamples, Series())
+        self.assertRaises(TypeError, SharedVector, Series())
+
+    def test_threads_push_and_listen(self):
+        shared, told = SharedSeries(), []
+        alerts = shared.subscribe({"all": "sum"})
+        alerts.pause = 0
+        listener = threading.Thread(target=lambda: told.extend(alerts))
+        feeders = [threading.Thread(target=lambda: [shared.push(2) for _ in range(500)]) for _ in range(4)]
+        for thread in (listener, *feeders):
+            thread.start()
+        for thread in feeders:
+            thread.join()
+        self.assertEqual(shared.close().size, 2000)
+        listener.join()
+        # of twos alone the sum is twice the number of edits, and the numbers rise
+        self.assertTrue(all(note.value == 2 * note.edit for notes in told for note in notes))
+        edits = [notes[0].edit for notes in told]
+        self.assertEqual((edits, edits[-1]), (sorted(set(edits)), 2000))
+
+
+class OfSamples(unittest.TestCase):
+    def test_each_call(self):
+        with SharedSamples(Samples([0, 12], [20, 22])) as load:
+            alerts = load.subscribe({"most": "greatest"})
+            self.assertEqual((load.push(61, 30), load.push_many([75, 80], [26, 28]), load.sample(3), load[3]), (Receipt(3, 2), 5, Sample(75, 26), 26))
+            self.assertEqual((values(next(alerts)), load.value_of_last("sum", 60), load.value_between("least", 0, 13)), ([("most", 5, 30)], 84, 20))
+            self.assertEqual((load.expire_before(70), load.expire(4), load.first, len(load)), (Receipt(6, 3), Receipt(7, 1), 4, 1))
+            with self.assertRaises(livevec.Earlier) as earlier:
+                load.push(79, 1)
+            self.assertEqual((earlier.exception.newest, load.write(4, 29), values(alerts.look())), (80, Receipt(8, 28), [("most", 8, 29)]))
+        self.assertEqual(list(load.close().times()), [80])
+
+
+class Renewed(unittest.TestCase):
+    def test_a_vector_of_few_edits_goes_on(self):
+        shared, queries = SharedVector(Vector(most_buckets=1, most_edits=6, kind="sum")), Queries()
+        queries.watch("all", "sum")
+        alerts, wanted = shared.subscribe(queries), []
+        shared.start_workers(2)
+        first = shared._of
+        for edit in range(1, 51):
+            with shared.locked() as vector:
+                is_worn = vector.edits == 6
+            if is_worn:
+                self.assertRaises(livevec.Worn, shared.push, 1)
+                shared.renew()
+                self.assertEqual((shared.edits, alerts.look(), list(shared)), (edit - 1, [], wanted))
+                self.assertRaises(livevec.BadKind, shared.least)
+            # of at most two elements, so that a copy has four edits left
+            if len(wanted) < 2:
+                wanted.append(edit)
+                self.assertEqual(shared.push(edit), Receipt(edit, len(wanted) - 1))
+            else:
+                self.assertEqual(shared.pop(), Receipt(edit, wanted.pop()))
+            self.assertEqual(values(alerts.look()), [("all", edit, sum(wanted))])
+        with shared.locked():
+            self.assertRaises(livevec.Busy, shared.renew)
+        self.assertIs(shared.close(), first)
+        self.assertEqual((list(first), first.kind), (wanted, Kind.SUM))
+        self.assertLessEqual(first.edits, 6)
+        self.assertRaises(livevec.Closed, shared.renew)
+
+    def test_it_is_refused_with_nothing_changed(self):
+        shared = SharedVector(Vector([1, 1], most_edits=3))
+        shared.push(1)
+        shared.renew()
+        self.assertEqual((shared.edits, list(shared)), (3, [1, 1, 1]))
+        self.assertRaises(livevec.Worn, shared.pop)
+
+    def test_it_answers_by_the_same_table(self):
+        table = [[(state + letter) % 8 for letter in range(4)] for state in range(8)]
+        shared = SharedVector(Vector([1, 2, 3], table=table))
+        shared.renew()
+        self.assertEqual((shared.value("automaton"), shared.push(1), shared.reduce().edit), ((6, 7, 0, 1, 2, 3, 4, 5), Receipt(4, 3), 4))
+
+
+class Ends(unittest.TestCase):
+    def test_a_signal_wakes_who_sleeps(self):
+        alerts = SharedSeries().subscribe({"all": "sum"})
+        shared = SharedVector()
+        queries = Queries()
+        queries.watch("all", "sum")
+        for sleeper in (shared.subscribe(queries),):
+            threading.Timer(0.05, _thread.interrupt_main).start()
+            self.assertRaises(KeyboardInterrupt, next, sleeper)
+        # what was let go at once has ended
+        self.assertRaises(StopIteration, next, alerts)
+
+    def test_what_is_let_go_at_work_ends(self):
+        before = threading.active_count()
+        for _ in range(100):
+            shared = SharedVector(Vector(range(2000)))
+            shared.start_workers(2)
+            shared.push(7)
+            del shared
+        while threading.active_count() > before:
+            time.sleep(0.001)
+
+    def test_a_program_ends_that_closes_nothing(self):
+        program = ("from livevec import SharedVector, SharedSeries, Vector\n"
+                   "shared = SharedVector(Vector(range(100000)))\nshared.start_workers(3)\nother = SharedSeries()\nalerts = other.subscribe({'all': 'sum'})\n"
+                   "shared.push(1)\nother.push(2)\nprint(alerts.look()[0].value)\n")
+        self.assertEqual(subprocess.run([sys.executable, "-c", program], capture_output=True, text=True, timeout=60).stdout, "2\n")
+
+
+if __name__ == "__main__":
+    unittest.main()
