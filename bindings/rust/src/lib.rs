@@ -7,7 +7,7 @@
 //! A [`Series`] goes on: its elements and edits are bounded by memory alone, and its front may expire.
 //! [`Samples`] are such values with times, for windows of time.
 //! [`Queries`] are names for questions, and tell which answers have changed.
-//! A [`Shared`] vector is for several threads, by a lock; it has workers, and subscribers to such answers.
+//! A [`Shared`] vector, series or samples are for several threads, by a lock; they have subscribers to such answers, and a vector has workers.
 //! A [`Summary`] is what a list comes to, as bytes that travel between processes and machines, and are joined there.
 //!
 //! ```
@@ -54,6 +54,7 @@ mod series_saved;
 mod series_scans;
 mod shared;
 mod shared_lock;
+mod shared_series;
 mod shared_subscriber;
 mod shared_sweep;
 mod shared_workers;
@@ -82,7 +83,8 @@ pub use samples::{Sample, Samples};
 pub use samples_like_vec::Timed;
 pub use scans::{Beginnings, Scan};
 pub use series::Series;
-pub use shared::Shared;
+pub use shared::{Shared, Sharing};
+pub use shared_series::Watched;
 pub use shared_subscriber::Subscriber;
 pub use subtrees::{Subtree, SubtreeOutcome};
 pub use summary::Summary;

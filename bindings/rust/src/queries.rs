@@ -131,13 +131,18 @@ impl Queries {
 impl Note {
     fn of_raw(raw: &raw::Note) -> Note {
         let kind = raw.kind();
-        Note { name: raw.name, kind, edit: raw.edit, value: Value::of(kind, Values::of_raw(raw.values)) }
+        Note { edit: raw.edit, ..Note::of(raw.name, kind, Value::of(kind, Values::of_raw(raw.values))) }
+    }
+
+    /// A note whose edit is told later.
+    pub(crate) fn of(name: [u8; raw::NAME_BYTES + 1], kind: Kind, value: Value) -> Note {
+        Note { name, kind, edit: 0, value }
     }
 
     /// The query's name.
     pub fn name(&self) -> &str {
         let length = self.name.iter().position(|&byte| byte == 0).unwrap_or(raw::NAME_BYTES);
-        std::str::from_utf8(&self.name[..length]).expect("a name is small letters, digits and _")
+        std::str::from_utf8(&self.name[..length]).expect("a name is whole text")
     }
 }
 

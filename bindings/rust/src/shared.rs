@@ -1,4 +1,4 @@
-//! A vector that threads share, by a lock round it.
+//! What threads share, by a lock round it: a vector, a series or samples.
 
 use std::fmt;
 use std::sync::Arc;
@@ -7,14 +7,14 @@ use std::sync::atomic::Ordering;
 use crate::shared_lock::Lock;
 use crate::shared_subscriber::Subscriber;
 use crate::{
-    Answered, AsIndex, Indices, Kind, Popped, Pushed, Queries, Reduced, Refusal, RefusedAt, Reserved, Swapped, Truncated, Value, Vector,
-    Written, shared_workers,
+    Answered, AsIndex, Indices, Kind, Note, Popped, Pushed, Queries, Reduced, Refusal, RefusedAt, Reserved, Swapped, Truncated, Value,
+    Vector, Written, shared_workers,
 };
 
-/// A [`Vector`] that threads share: each clone is a handle of the same vector.
+/// A [`Vector`] that threads share, or a [`Series`](crate::Series), or [`Samples`](crate::Samples): each clone is a handle of the same one.
 ///
-/// Edits and questions take a lock for one call, and cost what those of a [`Vector`] do, with the wait for it; [`with`](Shared::with) takes it for
-/// several. Workers compute summaries beside them, without the
+/// Edits and questions take a lock for one call, and cost what those of what is shared do, with the wait for it; [`with`](Shared::with) takes it for
+/// several. Workers compute summaries of a vector beside them, without the
 /// lock, and [`Subscriber`]s sleep until an edit changes what they ask. Each edit tells its number, so that who edits has a receipt.
 ///
 /// ```
@@ -46,136 +46,102 @@ use crate::{
 /// [`close`](Shared::close)d, edits are refused with [`CLOSED`](Shared::CLOSED); questions are answered on. Where the last clone is dropped
 /// without it, workers and subscribers end all the same.
 ///
+/// Numbers of edits go on rising where another vector takes the place of one, by [`renew`](Shared::renew) or in a `with`: what is told in 32 bits are the
+/// low ones, and [`last_edit`](Shared::last_edit) and [`Subscriber::edit`] tell all 64.
+///
 /// Where a thread panics within `with`, the calls that it made there stay, each a whole edit; the lock is let go, subscribers are told, and the
 /// panic goes on in that thread alone. Should a worker panic, [`close`](Shared::close) or [`stop_workers`](Shared::stop_workers) goes on with
 /// its panic. Nothing else of a caller's runs under the lock.
 ///
 /// Memory for `Arc`s and for what `std` needs to start a thread is not refused: where it is wanting, the process ends, as ever.
-pub struct Shared {
-    lock: Arc<Lock>,
+pub struct Shared<T: Sharing = Vector> {
+    pub(crate) lock: Arc<Lock<T>>,
     /// Whether it is no longer counted among the clones.
     is_gone: bool,
 }
 
-impl Shared {
-    /// What edits, `subscribe` and `start_workers` are refused with once it is closed.
-    pub const CLOSED: Refusal = Refusal::Other { number: 101 };
+/// What edits, `subscribe` and `start_workers` are refused with once it is closed.
+pub(crate) const CLOSED: Refusal = Refusal::Other { number: 101 };
 
-    /// Puts a lock round a vector.
-    pub fn new(vector: Vector) -> Shared {
-        Shared { lock: Arc::new(Lock::new(vector)), is_gone: false }
-    }
-
-    /// As [`Vector::push`].
-    pub fn push(&self, value: i64) -> Result<Pushed, Refusal> {
-        self.edit(|vector| vector.push(value))
-    }
-
-    /// As [`Vector::pop`].
-    pub fn pop(&self) -> Result<Popped, Refusal> {
-        self.edit(Vector::pop)
-    }
-
-    /// As [`Vector::write`].
-    pub fn write(&self, index: impl AsIndex, value: i64) -> Result<Written, Refusal> {
-        self.edit(|vector| vector.write(index, value))
-    }
-
-    /// As [`Vector::swap`].
-    pub fn swap(&self, first: impl AsIndex, second: impl AsIndex) -> Result<Swapped, Refusal> {
-        self.edit(|vector| vector.swap(first, second))
-    }
-
-    /// As [`Vector::truncate`].
-    pub fn truncate(&self, elements: impl AsIndex) -> Result<Truncated, Refusal> {
-        self.edit(|vector| vector.truncate(elements))
-    }
-
-    /// As [`Vector::reserve`].
-    pub fn reserve(&self, elements: impl AsIndex) -> Result<Reserved, Refusal> {
-        self.edit(|vector| vector.reserve(elements))
-    }
-
-    /// As [`Vector::extend_from_slice`]: no other edit comes between. Tells the number of the last edit.
-    pub fn extend_from_slice(&self, values: &[i64]) -> Result<u32, RefusedAt> {
-        let told = self.lock.edit(|vector| {
-            let told = vector.extend_from_slice(values);
-            (told, told.is_ok() && !values.is_empty())
-        });
-        told.unwrap_or_else(|refusal| Err(RefusedAt::of_all(refusal)))
-    }
-
-    /// As [`Vector::write_many`]: no other edit comes between. Tells the number of the last edit.
-    pub fn write_many(&self, indices: &[u32], values: &[i64]) -> Result<u32, RefusedAt> {
-        let told = self.lock.edit(|vector| {
-            let told = vector.write_many(indices, values);
-            (told, told.map_or_else(|refused| refused.done > 0, |_| !indices.is_empty()))
-        });
-        told.unwrap_or_else(|refusal| Err(RefusedAt::of_all(refusal)))
-    }
-
-    /// As [`Vector::get`].
-    pub fn get(&self, index: impl AsIndex) -> Result<i64, Refusal> {
-        self.lock.read(|vector| vector.get(index))?
-    }
-
-    /// How many elements there are.
-    pub fn len(&self) -> Result<u32, Refusal> {
-        self.lock.read(Vector::len)
-    }
-
-    /// Whether there is no element.
-    pub fn is_empty(&self) -> Result<bool, Refusal> {
-        self.lock.read(Vector::is_empty)
-    }
+/// What threads may share: [`Vector`], [`Series`](crate::Series) and [`Samples`](crate::Samples). It can't be implemented elsewhere.
+pub trait Sharing: Send + Sized + sealed::Sealed {
+    /// What a subscriber asks: [`Queries`] of a vector, [`Watched`](crate::Watched) of a series and samples.
+    type Asked: Send;
 
     /// The number of the last edit.
-    pub fn edits(&self) -> Result<u32, Refusal> {
-        self.lock.read(Vector::edits)
+    #[doc(hidden)]
+    fn number(&self) -> u64;
+
+    /// A note of each answer that is another than was told last. It counts as told then.
+    #[doc(hidden)]
+    fn notes(&mut self, asked: &mut Self::Asked) -> Result<Vec<Note>, Refusal>;
+
+    /// It is given back.
+    #[doc(hidden)]
+    fn given_back(&mut self) {}
+}
+
+pub(crate) mod sealed {
+    pub trait Sealed {}
+}
+
+/// A number of an edit, as it is told.
+pub(crate) trait Above {
+    /// With what is added to it.
+    fn above(&mut self, base: u64);
+}
+
+impl Above for u32 {
+    fn above(&mut self, base: u64) {
+        *self = self.wrapping_add(base as u32);
+    }
+}
+
+impl Above for u64 {
+    fn above(&mut self, base: u64) {
+        *self += base;
+    }
+}
+
+/// Calls of what is shared, each under the lock: those that edit, or ask, and tell a number of an edit; and those that read alone, with a refusal of their
+/// own or none.
+macro_rules! forwarded {
+    ($($(#[$doc:meta])* $how:ident $name:ident($($given:ident: $of:ty),*) -> $told:ty;)*) => {
+        $(
+            $(#[$doc])*
+            pub fn $name(&self $(, $given: $of)*) -> Result<$told, crate::Refusal> {
+                crate::shared::forwarded!(@ $how self, $name($($given),*))
+            }
+        )*
+    };
+    (@ edit $of:ident, $name:ident $given:tt) => {
+        $of.lock.edit(|of, base| of.$name $given.map(|mut did| { crate::shared::Above::above(&mut did.edit, base); did }))?
+    };
+    (@ ask $of:ident, $name:ident $given:tt) => {
+        $of.lock.read(|of, base| of.$name $given.map(|mut did| { crate::shared::Above::above(&mut did.edit, base); did }))?
+    };
+    (@ read $of:ident, $name:ident $given:tt) => {
+        $of.lock.read(|of, _| of.$name $given)?
+    };
+    (@ count $of:ident, $name:ident $given:tt) => {
+        $of.lock.read(|of, _| of.$name $given)
+    };
+}
+pub(crate) use forwarded;
+
+impl<T: Sharing> Shared<T> {
+    /// Puts a lock round a vector, a series or samples.
+    pub fn new(of: T) -> Shared<T> {
+        Shared { lock: Arc::new(Lock::new(of)), is_gone: false }
     }
 
-    /// As [`Vector::sum`].
-    pub fn sum(&self, range: impl Indices) -> Result<i64, Refusal> {
-        self.lock.read(|vector| vector.sum(range))?
+    /// The number of the last edit, in 64 bits.
+    pub fn last_edit(&self) -> Result<u64, Refusal> {
+        self.lock.read(|of, base| base + of.number())
     }
 
-    /// As [`Vector::least`].
-    pub fn least(&self, range: impl Indices) -> Result<Option<i64>, Refusal> {
-        self.lock.read(|vector| vector.least(range))?
-    }
-
-    /// As [`Vector::greatest`].
-    pub fn greatest(&self, range: impl Indices) -> Result<Option<i64>, Refusal> {
-        self.lock.read(|vector| vector.greatest(range))?
-    }
-
-    /// As [`Vector::best`].
-    pub fn best(&self, range: impl Indices) -> Result<Option<i128>, Refusal> {
-        self.lock.read(|vector| vector.best(range))?
-    }
-
-    /// As [`Vector::value`].
-    pub fn value(&self, kind: Kind, range: impl Indices) -> Result<Value, Refusal> {
-        self.lock.read(|vector| vector.value(kind, range))?
-    }
-
-    /// As [`Vector::value_at_edit`]: by [`edits`](Shared::edits) another thread's later edit may be told.
-    pub fn value_at_edit(&self, kind: Kind, range: impl Indices) -> Result<Answered, Refusal> {
-        self.lock.read(|vector| vector.value_at_edit(kind, range))?
-    }
-
-    /// As [`Vector::total`]: the exact sum.
-    pub fn total(&self, range: impl Indices) -> Result<i128, Refusal> {
-        self.lock.read(|vector| vector.total(range))?
-    }
-
-    /// As [`Vector::reduce`], which tells after which edit the values are so.
-    pub fn reduce(&self, range: impl Indices) -> Result<Reduced, Refusal> {
-        self.lock.read(|vector| vector.reduce(range))?
-    }
-
-    /// Several calls at the vector, with no other thread's between them. Other threads wait meanwhile. Within it no call of this thread at the
-    /// vector's clones and subscribers goes through, but by what it is handed. Refused with `Busy` and `CLOSED`.
+    /// Several calls, with no other thread's between them. Other threads wait meanwhile. Within it no call of this thread at the
+    /// clones and subscribers goes through, but by what it is handed. Refused with `Busy` and `CLOSED`.
     ///
     /// ```
     /// use livevec::{Refusal, Shared, Vector};
@@ -192,8 +158,160 @@ impl Shared {
     /// # Ok(())
     /// # }
     /// ```
-    pub fn with<T>(&self, calls: impl FnOnce(&mut Vector) -> T) -> Result<T, Refusal> {
+    pub fn with<R>(&self, calls: impl FnOnce(&mut T) -> R) -> Result<R, Refusal> {
         self.lock.with(calls)
+    }
+
+    /// One more that is told which of these answers change: those of [`Queries`] by a vector, or of [`Watched`](crate::Watched) by a series or samples.
+    /// Before its first look each counts as told its answer of no elements. Refused with `CLOSED`, then with `NoMemory`.
+    pub fn subscribe(&self, asked: T::Asked) -> Result<Subscriber<T>, Refusal> {
+        Subscriber::new(&self.lock, asked)
+    }
+
+    /// Ends edits, workers and subscribers, of all clones, and waits for the workers. Each subscriber has its last notes then, at the last edit.
+    /// Gives what is shared back, unless there are other clones: each of them may be closed too, and the last one has it.
+    ///
+    /// Within a `with` of the same thread nothing is ended, and there is another clone: the one whose `with` it is.
+    pub fn close(mut self) -> Option<T> {
+        self.lock.close().ok()?;
+        self.gone()
+    }
+
+    /// Is counted off, once. The last one ends all, and has what is shared.
+    fn gone(&mut self) -> Option<T> {
+        if std::mem::replace(&mut self.is_gone, true) || self.lock.clones.fetch_sub(1, Ordering::AcqRel) > 1 {
+            return None;
+        }
+        self.lock.close().ok()?;
+        let mut of = self.lock.enter().ok()?.of.take()?;
+        of.given_back();
+        Some(of)
+    }
+}
+
+impl<T: Sharing> Clone for Shared<T> {
+    fn clone(&self) -> Shared<T> {
+        self.lock.clones.fetch_add(1, Ordering::Relaxed);
+        Shared { lock: self.lock.clone(), is_gone: false }
+    }
+}
+
+impl<T: Sharing> Drop for Shared<T> {
+    fn drop(&mut self) {
+        drop(self.gone());
+    }
+}
+
+impl<T: Sharing> fmt::Debug for Shared<T> {
+    fn fmt(&self, f: &mut fmt::Formatter<'_>) -> fmt::Result {
+        f.debug_struct("Shared").finish_non_exhaustive()
+    }
+}
+
+impl sealed::Sealed for Vector {}
+impl Sharing for Vector {
+    type Asked = Queries;
+
+    fn number(&self) -> u64 {
+        self.edits().into()
+    }
+
+    fn notes(&mut self, asked: &mut Queries) -> Result<Vec<Note>, Refusal> {
+        asked.notes(self)
+    }
+
+    /// Jobs that nobody delivers any more are handed out again.
+    fn given_back(&mut self) {
+        self.forget_claims();
+    }
+}
+
+impl Shared {
+    /// What edits, `subscribe` and `start_workers` are refused with once it is closed.
+    pub const CLOSED: Refusal = CLOSED;
+
+    forwarded! {
+        /// As [`Vector::push`].
+        edit push(value: i64) -> Pushed;
+        /// As [`Vector::pop`].
+        edit pop() -> Popped;
+        /// As [`Vector::write`].
+        edit write(index: impl AsIndex, value: i64) -> Written;
+        /// As [`Vector::swap`].
+        edit swap(first: impl AsIndex, second: impl AsIndex) -> Swapped;
+        /// As [`Vector::truncate`].
+        edit truncate(elements: impl AsIndex) -> Truncated;
+        /// As [`Vector::reserve`].
+        edit reserve(elements: impl AsIndex) -> Reserved;
+        /// As [`Vector::get`].
+        read get(index: impl AsIndex) -> i64;
+        /// How many elements there are.
+        count len() -> u32;
+        /// Whether there is no element.
+        count is_empty() -> bool;
+        /// As [`Vector::sum`].
+        read sum(range: impl Indices) -> i64;
+        /// As [`Vector::least`].
+        read least(range: impl Indices) -> Option<i64>;
+        /// As [`Vector::greatest`].
+        read greatest(range: impl Indices) -> Option<i64>;
+        /// As [`Vector::best`].
+        read best(range: impl Indices) -> Option<i128>;
+        /// As [`Vector::value`].
+        read value(kind: Kind, range: impl Indices) -> Value;
+        /// As [`Vector::value_at_edit`]: by [`edits`](Shared::edits) another thread's later edit may be told.
+        ask value_at_edit(kind: Kind, range: impl Indices) -> Answered;
+        /// As [`Vector::total`]: the exact sum.
+        read total(range: impl Indices) -> i128;
+        /// As [`Vector::reduce`], which tells after which edit the values are so.
+        ask reduce(range: impl Indices) -> Reduced;
+    }
+
+    /// The number of the last edit.
+    pub fn edits(&self) -> Result<u32, Refusal> {
+        self.last_edit().map(|edit| edit as u32)
+    }
+
+    /// As [`Vector::extend_from_slice`]: no other edit comes between. Tells the number of the last edit.
+    pub fn extend_from_slice(&self, values: &[i64]) -> Result<u32, RefusedAt> {
+        self.many(|vector| vector.extend_from_slice(values))
+    }
+
+    /// As [`Vector::write_many`]: no other edit comes between. Tells the number of the last edit.
+    pub fn write_many(&self, indices: &[u32], values: &[i64]) -> Result<u32, RefusedAt> {
+        self.many(|vector| vector.write_many(indices, values))
+    }
+
+    /// Goes on as a copy, before the vector is worn: with the same elements, limits, table and kind, and no edits yet but the pushes of its elements.
+    /// Numbers of edits go on as if nothing were, and subscribers are told nothing. Linear. Refused with `CLOSED`, then as
+    /// [`Vector::try_clone`], with nothing changed.
+    ///
+    /// ```
+    /// use livevec::{Limits, Refusal, Shared, Vector};
+    ///
+    /// # fn main() -> Result<(), Refusal> {
+    /// let shared = Shared::new(Vector::with_limits(Limits::new(1, 2)?)?);
+    /// assert_eq!((shared.push(7)?.edit, shared.pop()?.edit, shared.push(8)), (1, 2, Err(Refusal::Worn)));
+    /// shared.renew()?;
+    /// assert_eq!((shared.push(8)?.edit, shared.last_edit()?), (3, 3));
+    /// # Ok(())
+    /// # }
+    /// ```
+    pub fn renew(&self) -> Result<(), Refusal> {
+        let mut guarded = self.lock.enter()?;
+        let vector = guarded.open()?;
+        let fresh = vector.try_clone()?;
+        let more = u64::from(vector.edits() - fresh.edits());
+        let worn = std::mem::replace(vector, fresh);
+        guarded.base += more;
+        // nothing has changed, but that all summaries are wanted
+        let is_called = guarded.call();
+        drop(guarded);
+        if is_called {
+            self.lock.work.notify_one();
+        }
+        drop(worn);
+        Ok(())
     }
 
     /// Starts so many more workers, or none. Each sleeps while there is nothing to compute; edits wake it. It takes jobs under the lock, computes
@@ -210,58 +328,16 @@ impl Shared {
         self.lock.end(workers);
         Ok(())
     }
-
-    /// One more that is told which answers of these queries change. Before its first look each counts as told what [`Queries`] say. Refused
-    /// with `CLOSED`, then with `NoMemory`.
-    pub fn subscribe(&self, queries: Queries) -> Result<Subscriber, Refusal> {
-        Subscriber::new(&self.lock, queries)
-    }
-
-    /// Ends edits, workers and subscribers, of all clones, and waits for the workers. Each subscriber has its last notes then, at the last edit.
-    /// Gives the vector back, unless there are other clones: each of them may be closed too, and the last one has the vector.
-    ///
-    /// Within a `with` of the same thread nothing is ended, and there is another clone: the one whose `with` it is.
-    pub fn close(mut self) -> Option<Vector> {
-        self.lock.close().ok()?;
-        self.gone()
-    }
-
-    /// Is counted off, once. The last one ends all, and has the vector.
-    fn gone(&mut self) -> Option<Vector> {
-        if std::mem::replace(&mut self.is_gone, true) || self.lock.clones.fetch_sub(1, Ordering::AcqRel) > 1 {
-            return None;
-        }
-        self.lock.close().ok()?;
-        let mut vector = self.lock.enter().ok()?.vector.take()?;
-        // jobs that nobody delivers any more are handed out again
-        vector.forget_claims();
-        Some(vector)
-    }
-
-    fn edit<T>(&self, call: impl FnOnce(&mut Vector) -> Result<T, Refusal>) -> Result<T, Refusal> {
-        self.lock.edit(|vector| {
-            let told = call(vector);
-            let is_changed = told.is_ok();
-            (told, is_changed)
-        })?
-    }
 }
 
-impl Clone for Shared {
-    fn clone(&self) -> Shared {
-        self.lock.clones.fetch_add(1, Ordering::Relaxed);
-        Shared { lock: self.lock.clone(), is_gone: false }
-    }
-}
-
-impl Drop for Shared {
-    fn drop(&mut self) {
-        drop(self.gone());
-    }
-}
-
-impl fmt::Debug for Shared {
-    fn fmt(&self, f: &mut fmt::Formatter<'_>) -> fmt::Result {
-        f.debug_struct("Shared").finish_non_exhaustive()
+impl<T: Sharing> Shared<T> {
+    /// Many edits by one call, which tells the number of the last.
+    pub(crate) fn many<N: Above>(&self, call: impl FnOnce(&mut T) -> Result<N, RefusedAt>) -> Result<N, RefusedAt> {
+        let told = self.lock.edit(|of, base| {
+            let mut edit = call(of)?;
+            edit.above(base);
+            Ok(edit)
+        });
+        told.unwrap_or_else(|refusal| Err(RefusedAt::of_all(refusal)))
     }
 }

@@ -1,17 +1,18 @@
-//! The lock round a shared vector, what it guards, and who sleeps at it.
+//! The lock round what threads share, what it guards, and who sleeps at it.
 
 use std::sync::atomic::{AtomicBool, AtomicUsize, Ordering};
 use std::sync::{Arc, Condvar, Mutex, MutexGuard, PoisonError, Weak};
 use std::thread::JoinHandle;
 use std::time::Duration;
 
+use crate::shared::CLOSED;
 use crate::shared_sweep::Sweep;
-use crate::{Note, Queries, Refusal, Shared, Vector};
+use crate::{Note, Refusal, Sharing};
 
-/// What each call at a shared vector goes through. Nothing is computed while it is held, but in `with`, in a subscriber's look, and by the 256
+/// What each call at what is shared goes through. Nothing is computed while it is held, but in `with`, in a subscriber's look, and by the 256
 /// the summaries above blocks and subtrees that workers went over.
-pub(crate) struct Lock {
-    guarded: Mutex<Guarded>,
+pub(crate) struct Lock<T: Sharing> {
+    guarded: Mutex<Guarded<T>>,
     /// Workers sleep here while there is no job.
     pub(crate) work: Condvar,
     /// Subscribers sleep here while nothing has changed.
@@ -25,9 +26,11 @@ pub(crate) struct Lock {
 }
 
 /// What the lock guards.
-pub(crate) struct Guarded {
-    /// The vector, until it is given back.
-    pub(crate) vector: Option<Vector>,
+pub(crate) struct Guarded<T: Sharing> {
+    /// What is shared, until it is given back.
+    pub(crate) of: Option<T>,
+    /// What is added to its numbers of edits, since it took another's place.
+    pub(crate) base: u64,
     pub(crate) closed: bool,
     /// Grows with each call that changed something.
     pub(crate) changes: u64,
@@ -40,7 +43,7 @@ pub(crate) struct Guarded {
     /// Whether a subscriber may sleep.
     pub(crate) unaware: bool,
     pub(crate) workers: Vec<Worker>,
-    pub(crate) seats: Vec<Seat>,
+    pub(crate) seats: Vec<Seat<T>>,
 }
 
 /// A thread that computes summaries, until it is told to stop.
@@ -50,14 +53,32 @@ pub(crate) struct Worker {
 }
 
 /// What a subscriber has here.
-pub(crate) struct Seat {
+pub(crate) struct Seat<T: Sharing> {
     /// Goes with the subscriber.
     pub(crate) whose: Weak<()>,
-    pub(crate) queries: Queries,
+    pub(crate) asked: T::Asked,
     /// The changes that there were when it looked last; others before its first look.
     pub(crate) seen: u64,
     /// Notes of the end, that it wasn't given yet.
     pub(crate) last: Result<Vec<Note>, Refusal>,
+    /// The edit after which it was told notes last.
+    pub(crate) edit: u64,
+}
+
+impl<T: Sharing> Seat<T> {
+    /// The notes that there are now.
+    pub(crate) fn notes(&mut self, of: &mut T, base: u64, changes: u64) -> Result<Vec<Note>, Refusal> {
+        if self.seen == changes {
+            return Ok(Vec::new());
+        }
+        let mut notes = of.notes(&mut self.asked)?;
+        self.seen = changes;
+        if !notes.is_empty() {
+            self.edit = base + of.number();
+        }
+        notes.iter_mut().for_each(|note| note.edit = self.edit as u32);
+        Ok(notes)
+    }
 }
 
 /// Who is to be woken once the lock is let go.
@@ -67,7 +88,7 @@ pub(crate) struct Sleepers {
     subscribers: bool,
 }
 
-impl Guarded {
+impl<T: Sharing> Guarded<T> {
     /// Something has changed.
     pub(crate) fn changed(&mut self) -> Sleepers {
         self.changes += 1;
@@ -83,12 +104,17 @@ impl Guarded {
         some
     }
 
-    /// The vector, while it may be edited.
-    pub(crate) fn open(&mut self) -> Result<&mut Vector, Refusal> {
-        match &mut self.vector {
-            Some(vector) if !self.closed => Ok(vector),
-            _ => Err(Shared::CLOSED),
+    /// What is shared, while it may be edited.
+    pub(crate) fn open(&mut self) -> Result<&mut T, Refusal> {
+        match &mut self.of {
+            Some(of) if !self.closed => Ok(of),
+            _ => Err(CLOSED),
         }
+    }
+
+    /// The number of the last edit.
+    pub(crate) fn number(&self) -> u64 {
+        self.base + self.of.as_ref().map_or(0, T::number)
     }
 
     /// Forgets subscribers that are gone.
@@ -102,17 +128,18 @@ impl Guarded {
             return;
         }
         self.sweep();
-        let Some(vector) = &mut self.vector else { return };
-        for seat in self.seats.iter_mut().filter(|seat| seat.seen != self.changes) {
-            seat.last = seat.queries.notes(vector);
+        let Some(of) = &mut self.of else { return };
+        for seat in &mut self.seats {
+            seat.last = seat.notes(of, self.base, self.changes);
         }
     }
 }
 
-impl Lock {
-    pub(crate) fn new(vector: Vector) -> Lock {
+impl<T: Sharing> Lock<T> {
+    pub(crate) fn new(of: T) -> Lock<T> {
         let guarded = Guarded {
-            vector: Some(vector),
+            of: Some(of),
+            base: 0,
             closed: false,
             changes: 0,
             working: 0,
@@ -135,7 +162,7 @@ impl Lock {
 
     /// Takes the lock. Refused with `Busy` where this thread has it, within a `with`. A thread that panicked left whole calls behind, so that
     /// its panic is no concern of the others.
-    pub(crate) fn enter(&self) -> Result<MutexGuard<'_, Guarded>, Refusal> {
+    pub(crate) fn enter(&self) -> Result<MutexGuard<'_, Guarded<T>>, Refusal> {
         let within = self.within.load(Ordering::Relaxed);
         if within != 0 && within == me() {
             return Err(Refusal::Busy);
@@ -143,11 +170,12 @@ impl Lock {
         Ok(self.guarded.lock().unwrap_or_else(PoisonError::into_inner))
     }
 
-    /// One call that edits, which also tells whether it changed something.
-    pub(crate) fn edit<T>(&self, call: impl FnOnce(&mut Vector) -> (T, bool)) -> Result<T, Refusal> {
+    /// One call that edits, or nothing; it is given what is added to numbers of edits.
+    pub(crate) fn edit<R>(&self, call: impl FnOnce(&mut T, u64) -> R) -> Result<R, Refusal> {
         let mut guarded = self.enter()?;
-        let (told, is_changed) = call(guarded.open()?);
-        let sleepers = is_changed.then(|| guarded.changed());
+        let (before, base) = (guarded.number(), guarded.base);
+        let told = call(guarded.open()?, base);
+        let sleepers = (guarded.number() != before).then(|| guarded.changed());
         drop(guarded);
         if let Some(sleepers) = sleepers {
             self.wake(sleepers);
@@ -155,20 +183,20 @@ impl Lock {
         Ok(told)
     }
 
-    /// One call that reads.
-    pub(crate) fn read<T>(&self, call: impl FnOnce(&Vector) -> T) -> Result<T, Refusal> {
+    /// One call that reads; it is given what is added to numbers of edits.
+    pub(crate) fn read<R>(&self, call: impl FnOnce(&T, u64) -> R) -> Result<R, Refusal> {
         let guarded = self.enter()?;
-        Ok(call(guarded.vector.as_ref().ok_or(Shared::CLOSED)?))
+        Ok(call(guarded.of.as_ref().ok_or(CLOSED)?, guarded.base))
     }
 
-    /// What a caller does with the vector, whose thread is known meanwhile.
-    pub(crate) fn with<T>(&self, call: impl FnOnce(&mut Vector) -> T) -> Result<T, Refusal> {
+    /// What a caller does with what is shared, whose thread is known meanwhile.
+    pub(crate) fn with<R>(&self, call: impl FnOnce(&mut T) -> R) -> Result<R, Refusal> {
         let mut guarded = self.enter()?;
-        guarded.open()?;
+        let before = guarded.open()?.number();
         self.within.store(me(), Ordering::Relaxed);
-        let mut held = Within { lock: self, guarded: Some(guarded) };
-        let vector = held.guarded.as_mut().expect("it is held until it is dropped").open()?;
-        Ok(call(vector))
+        let mut held = Within { lock: self, guarded: Some(guarded), before };
+        let of = held.guarded.as_mut().expect("it is held until it is dropped").open()?;
+        Ok(call(of))
     }
 
     /// Wakes those that were told of a change.
@@ -182,7 +210,7 @@ impl Lock {
     }
 
     /// Lets the lock go for so long, or until all are woken.
-    pub(crate) fn paused<'a>(&self, guarded: MutexGuard<'a, Guarded>, pause: Duration) -> MutexGuard<'a, Guarded> {
+    pub(crate) fn paused<'a>(&self, guarded: MutexGuard<'a, Guarded<T>>, pause: Duration) -> MutexGuard<'a, Guarded<T>> {
         self.pause.wait_timeout(guarded, pause).unwrap_or_else(PoisonError::into_inner).0
     }
 
@@ -223,15 +251,22 @@ impl Lock {
 }
 
 /// A `with` under way. Its end, also by a panic, lets the lock go and wakes who sleeps.
-struct Within<'a> {
-    lock: &'a Lock,
-    guarded: Option<MutexGuard<'a, Guarded>>,
+struct Within<'a, T: Sharing> {
+    lock: &'a Lock<T>,
+    guarded: Option<MutexGuard<'a, Guarded<T>>>,
+    before: u64,
 }
 
-impl Drop for Within<'_> {
+impl<T: Sharing> Drop for Within<'_, T> {
     fn drop(&mut self) {
         self.lock.within.store(0, Ordering::Relaxed);
-        let sleepers = self.guarded.take().map(|mut guarded| guarded.changed());
+        let sleepers = self.guarded.take().map(|mut guarded| {
+            // another is in its place, which counts as an edit: numbers go on rising
+            if guarded.number() < guarded.base + self.before {
+                guarded.base += self.before + 1;
+            }
+            guarded.changed()
+        });
         if let Some(sleepers) = sleepers {
             self.lock.wake(sleepers);
         }

@@ -5,26 +5,27 @@ use std::sync::{Arc, PoisonError};
 use std::time::{Duration, Instant};
 
 use crate::shared_lock::{Guarded, Lock, Seat};
-use crate::{Note, Queries, Refusal};
+use crate::{Note, Refusal, Sharing, Vector};
 
-/// One who is told which answers of its standing queries by a [`Shared`](crate::Shared) vector have changed; made by
+/// One who is told by a [`Shared`](crate::Shared) form which of its answers have changed; made by
 /// [`Shared::subscribe`](crate::Shared::subscribe).
 ///
 /// As an iterator it sleeps until an edit changes an answer, and gives the notes of those that differ from what it was told last, in the order
 /// in which the queries were named. All notes of one list are at one edit, and these rise. What comes and goes between two looks is not told.
-/// Once the vector is closed it gives the notes at the last edit, if there are any, and then ends.
+/// Once it is closed it gives the notes at the last edit, if there are any, and then ends.
 ///
 /// It gives `Err(BadKind)` where the vector is of one kind and another is among the queries, and `Err(NoMemory)` where memory was wanted: nothing
 /// counts as told then, and it may be asked again. At the close memory is asked for once. It gives `Err(Busy)` within a
 /// [`with`](crate::Shared::with) of its own thread.
 ///
 /// It may be dropped at any time.
-pub struct Subscriber {
-    lock: Arc<Lock>,
+pub struct Subscriber<T: Sharing = Vector> {
+    lock: Arc<Lock<T>>,
     me: Arc<()>,
     pause: Duration,
     /// No look before this one.
     rested: Option<Instant>,
+    edit: u64,
 }
 
 impl Subscriber {
@@ -33,17 +34,19 @@ impl Subscriber {
 
     /// It pauses so many times as long as its last look took, where that is longer.
     const SHARE: u32 = 2;
+}
 
-    pub(crate) fn new(lock: &Arc<Lock>, queries: Queries) -> Result<Subscriber, Refusal> {
+impl<T: Sharing> Subscriber<T> {
+    pub(crate) fn new(lock: &Arc<Lock<T>>, asked: T::Asked) -> Result<Subscriber<T>, Refusal> {
         let me = Arc::new(());
         let mut guarded = lock.enter()?;
         guarded.open()?;
         guarded.sweep();
         guarded.seats.try_reserve(1).map_err(|_| Refusal::NoMemory)?;
         let seen = guarded.changes.wrapping_sub(1);
-        guarded.seats.push(Seat { whose: Arc::downgrade(&me), queries, seen, last: Ok(Vec::new()) });
+        guarded.seats.push(Seat { whose: Arc::downgrade(&me), asked, seen, last: Ok(Vec::new()), edit: 0 });
         drop(guarded);
-        Ok(Subscriber { lock: lock.clone(), me, pause: Subscriber::PAUSE, rested: None })
+        Ok(Subscriber { lock: lock.clone(), me, pause: Subscriber::PAUSE, rested: None, edit: 0 })
     }
 
     /// Has it pause so long after each look from now on, and twice as long as the look took where that is longer. By `Duration::ZERO` it
@@ -56,21 +59,22 @@ impl Subscriber {
     pub fn look(&mut self) -> Result<Vec<Note>, Refusal> {
         let mut guarded = self.lock.enter()?;
         let start = Instant::now();
-        let Guarded { vector, closed, changes, seats, .. } = &mut *guarded;
+        let Guarded { of, base, closed, changes, seats, .. } = &mut *guarded;
         let Some(seat) = seats.iter_mut().find(|seat| is_of(seat, &self.me)) else { return Ok(Vec::new()) };
-        let (Some(vector), false) = (vector, *closed) else {
+        let (Some(of), false) = (of, *closed) else {
+            self.edit = seat.edit;
             return std::mem::replace(&mut seat.last, Ok(Vec::new()));
         };
-        if seat.seen == *changes {
-            return Ok(Vec::new());
-        }
-        let notes = seat.queries.notes(vector);
-        if notes.is_ok() {
-            seat.seen = *changes;
-        }
+        let notes = seat.notes(of, *base, *changes);
+        self.edit = seat.edit;
         drop(guarded);
         self.rested = self.rest(start.elapsed());
         notes
+    }
+
+    /// After which edit all answers are so that were told last: the whole number, of which a [`Note`] has the low 32 bits.
+    pub fn edit(&self) -> u64 {
+        self.edit
     }
 
     /// Until when it pauses after a look that took so long.
@@ -100,11 +104,11 @@ impl Subscriber {
     }
 }
 
-fn is_of(seat: &Seat, me: &Arc<()>) -> bool {
+fn is_of<T: Sharing>(seat: &Seat<T>, me: &Arc<()>) -> bool {
     seat.whose.as_ptr() == Arc::as_ptr(me)
 }
 
-impl Iterator for Subscriber {
+impl<T: Sharing> Iterator for Subscriber<T> {
     type Item = Result<Vec<Note>, Refusal>;
 
     fn next(&mut self) -> Option<Result<Vec<Note>, Refusal>> {
@@ -122,7 +126,7 @@ impl Iterator for Subscriber {
     }
 }
 
-impl Drop for Subscriber {
+impl<T: Sharing> Drop for Subscriber<T> {
     fn drop(&mut self) {
         // where the lock can't be had, the next subscriber or the close sweeps it away
         if let Ok(mut guarded) = self.lock.enter() {
@@ -131,7 +135,7 @@ impl Drop for Subscriber {
     }
 }
 
-impl fmt::Debug for Subscriber {
+impl<T: Sharing> fmt::Debug for Subscriber<T> {
     fn fmt(&self, f: &mut fmt::Formatter<'_>) -> fmt::Result {
         f.debug_struct("Subscriber").field("pause", &self.pause).finish_non_exhaustive()
     }

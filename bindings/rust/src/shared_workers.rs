@@ -36,11 +36,11 @@ impl Hands {
     }
 
     /// Hands in what was computed. An outcome that the vector doesn't know, since a `with` put another in its place, is let go.
-    fn deliver(&mut self, guarded: &mut Guarded) {
+    fn deliver(&mut self, guarded: &mut Guarded<Vector>) {
         if let Some(gave) = self.back.take() {
             self.give_back(guarded, gave);
         }
-        if let Some(vector) = &mut guarded.vector {
+        if let Some(vector) = &mut guarded.of {
             for outcome in &self.outcomes {
                 if vector.vouches_for(outcome) {
                     // it is never refused what it vouches for
@@ -52,8 +52,8 @@ impl Hands {
     }
 
     /// Hands in a portion. Of a subtree that a write came to it has the blocks in hand then.
-    fn give_back(&mut self, guarded: &mut Guarded, gave: Option<Gave>) {
-        let Guarded { vector: Some(vector), sweep, .. } = guarded else { return };
+    fn give_back(&mut self, guarded: &mut Guarded<Vector>, gave: Option<Gave>) {
+        let Guarded { of: Some(vector), sweep, .. } = guarded else { return };
         match gave {
             None => sweep.lost(vector),
             Some(Gave::Batch(outcomes)) => sweep.take_batch_in(vector, outcomes),
@@ -65,8 +65,8 @@ impl Hands {
     }
 
     /// Takes a portion where many blocks that lie near together want a job, else jobs. Refused with `NoMemory` alone.
-    fn take(&mut self, guarded: &mut Guarded) -> Result<(), Refusal> {
-        let Guarded { vector: Some(vector), sweep, .. } = guarded else { return Ok(()) };
+    fn take(&mut self, guarded: &mut Guarded<Vector>) -> Result<(), Refusal> {
+        let Guarded { of: Some(vector), sweep, .. } = guarded else { return Ok(()) };
         if self.are_empty() && sweep.is_under_way() {
             self.portion = sweep.take(vector)?;
         }
@@ -104,7 +104,7 @@ impl Hands {
 }
 
 /// Starts so many workers, or none. Refused with `CLOSED`, then with `NoMemory`.
-pub(crate) fn start(lock: &Arc<Lock>, count: usize) -> Result<(), Refusal> {
+pub(crate) fn start(lock: &Arc<Lock<Vector>>, count: usize) -> Result<(), Refusal> {
     let stop = Arc::new(AtomicBool::new(false));
     let mut workers = raw::roomy(count)?;
     lock.enter()?.open()?;
@@ -123,7 +123,7 @@ pub(crate) fn start(lock: &Arc<Lock>, count: usize) -> Result<(), Refusal> {
     kept
 }
 
-fn spawned(lock: &Arc<Lock>, stop: &Arc<AtomicBool>) -> Result<Worker, Refusal> {
+fn spawned(lock: &Arc<Lock<Vector>>, stop: &Arc<AtomicBool>) -> Result<Worker, Refusal> {
     let (lock, word, mut hands) = (lock.clone(), stop.clone(), Hands::new()?);
     let named = thread::Builder::new().name("livevec worker".to_owned());
     let thread = named.spawn(move || work(&lock, &word, &mut hands)).map_err(|_| Refusal::NoMemory)?;
@@ -131,7 +131,7 @@ fn spawned(lock: &Arc<Lock>, stop: &Arc<AtomicBool>) -> Result<Worker, Refusal> 
 }
 
 /// Takes and delivers under the lock, computes without it, and sleeps while there is nothing to take.
-fn work(lock: &Lock, stop: &AtomicBool, hands: &mut Hands) {
+fn work(lock: &Lock<Vector>, stop: &AtomicBool, hands: &mut Hands) {
     let Ok(mut guarded) = lock.enter() else { return };
     guarded.working += 1;
     let mut seen = guarded.changes;
@@ -171,7 +171,7 @@ fn work(lock: &Lock, stop: &AtomicBool, hands: &mut Hands) {
 }
 
 /// Computes what a worker has in hand without the lock, and has another help where there is more.
-fn run(lock: &Lock, hands: &mut Hands, mut guarded: MutexGuard<Guarded>) {
+fn run(lock: &Lock<Vector>, hands: &mut Hands, mut guarded: MutexGuard<Guarded<Vector>>) {
     let is_helped = (hands.jobs.len() == AT_ONCE || guarded.sweep.is_under_way()) && guarded.call();
     drop(guarded);
     if is_helped {
@@ -181,13 +181,13 @@ fn run(lock: &Lock, hands: &mut Hands, mut guarded: MutexGuard<Guarded>) {
 }
 
 /// Computes some summaries above blocks that workers went over; tells whether it did.
-fn risen(guarded: &mut Guarded) -> bool {
-    let Guarded { vector: Some(vector), sweep, .. } = guarded else { return false };
+fn risen(guarded: &mut Guarded<Vector>) -> bool {
+    let Guarded { of: Some(vector), sweep, .. } = guarded else { return false };
     sweep.rise(vector)
 }
 
 /// Sleeps until it is called, or told to stop.
-fn asleep<'a>(lock: &'a Lock, stop: &AtomicBool, mut guarded: MutexGuard<'a, Guarded>) -> MutexGuard<'a, Guarded> {
+fn asleep<'a>(lock: &'a Lock<Vector>, stop: &AtomicBool, mut guarded: MutexGuard<'a, Guarded<Vector>>) -> MutexGuard<'a, Guarded<Vector>> {
     guarded.idle += 1;
     while guarded.calls == 0 && !guarded.closed && !stop.load(Ordering::Relaxed) {
         guarded = lock.work.wait(guarded).unwrap_or_else(PoisonError::into_inner);

@@ -1,0 +1,149 @@
+//! A series and samples that threads share, and a shared vector that goes on as its copy. Values are worked out by hand.
+
+mod plain;
+
+use std::thread;
+use std::time::Duration;
+
+use livevec::series::{Dropped, Popped, Pushed, Swapped, Written};
+use livevec::{Kind, Limits, Note, Queries, Refusal, RefusedAt, Sample, Samples, Series, Shared, Subscriber, Value, Vector, Watched};
+use plain::until;
+
+type Told = Vec<(String, u32, Value)>;
+
+fn told(notes: Result<Vec<Note>, Refusal>) -> Told {
+    notes.unwrap().iter().map(|note| (note.name().to_owned(), note.edit, note.value)).collect()
+}
+
+fn one(name: &str, edit: u32, value: Value) -> (String, u32, Value) {
+    (name.to_owned(), edit, value)
+}
+
+fn all(kind: Kind) -> Vec<Watched> {
+    vec![Watched::new("all", kind, ..).unwrap()]
+}
+
+#[test]
+fn each_call_of_a_series() {
+    let shared = Shared::new(Series::try_from([4, 5]).unwrap());
+    let two = vec![Watched::new("all", Kind::Sum, ..).unwrap(), Watched::new("front", Kind::Least, ..2).unwrap()];
+    let (mut alerts, mut late) = (shared.subscribe(two).unwrap(), shared.subscribe(all(Kind::Greatest)).unwrap());
+    assert_eq!((shared.push(6), shared.len(), shared.get(2), shared.last_edit()), (Ok(Pushed { edit: 3, index: 2 }), Ok(3), Ok(6), Ok(3)));
+    assert_eq!(told(alerts.next().unwrap()), [one("all", 3, Value::Sum(15)), one("front", 3, Value::Least(Some(4)))]);
+    assert_eq!(shared.write(0, 7), Ok(Written { edit: 4, before: 4 }));
+    assert_eq!((shared.swap(0, 1), shared.pop()), (Ok(Swapped { edit: 5, first: 5 }), Ok(Popped { edit: 6, value: 6 })));
+    assert_eq!(told(alerts.next().unwrap()), [one("all", 6, Value::Sum(12)), one("front", 6, Value::Least(Some(5)))]);
+    assert_eq!(alerts.edit(), 6);
+    assert_eq!((shared.extend_from_slice(&[1, 2, 3]), shared.write_all(&[4], &[30])), (Ok(9), Ok(10)));
+    assert_eq!((shared.expire(1), shared.first(), shared.size()), (Ok(Dropped { edit: 11, dropped: 1 }), Ok(1), Ok(5)));
+    assert_eq!(shared.truncate(4), Ok(Dropped { edit: 12, dropped: 1 }));
+    assert_eq!((shared.sum(..), shared.total(..), shared.least(..), shared.greatest(2..)), (Ok(10), Ok(10), Ok(Some(1)), Ok(Some(2))));
+    assert_eq!((shared.best(1..3), shared.value(Kind::Affine, 4..), shared.is_empty()), (Ok(Some(8)), Ok(Value::Affine(1, 0)), Ok(false)));
+    assert_eq!((shared.reduce(..).unwrap().edit, shared.value_at_edit(Kind::Sum, 1..2).unwrap().edit), (12, 12));
+    assert_eq!((shared.get(0), shared.write(4, 1)), (Err(Refusal::NotKept { first: 1, size: 4 }), Err(Refusal::NotKept { first: 1, size: 4 })));
+    let refused = shared.write_all(&[1, 9], &[0, 0]).unwrap_err();
+    assert_eq!((refused.place, refused.done, shared.last_edit()), (1, 0, Ok(12)));
+    let within = shared.with(|series| {
+        assert_eq!(shared.len(), Err(Refusal::Busy));
+        *series = Series::try_from([9]).unwrap();
+    });
+    // another in its place is edit 13, and its push is 14
+    assert_eq!((within, shared.last_edit(), shared.push(50)), (Ok(()), Ok(14), Ok(Pushed { edit: 15, index: 1 })));
+    assert_eq!(told(alerts.look()), [one("all", 15, Value::Sum(59)), one("front", 15, Value::Least(Some(9)))]);
+    let sleeping = thread::spawn(move || (told(late.next().unwrap()), told(late.next().unwrap()), late.next().is_none(), late.edit()));
+    thread::sleep(Duration::from_millis(20));
+    until(|| Ok(15) == shared.last_edit());
+    shared.write(0, 90).unwrap();
+    let clone = shared.clone();
+    assert!(shared.close().is_none());
+    let (first, last, is_over, edit) = sleeping.join().unwrap();
+    assert_eq!((first, last), (vec![one("all", 15, Value::Greatest(Some(50)))], vec![one("all", 16, Value::Greatest(Some(90)))]));
+    assert!(is_over && edit == 16);
+    assert_eq!((clone.push(1), clone.subscribe(Vec::new()).err()), (Err(Shared::CLOSED), Some(Shared::CLOSED)));
+    assert_eq!(clone.extend_from_slice(&[1]), Err(RefusedAt { place: 0, done: 0, refusal: Shared::CLOSED }));
+    assert_eq!(clone.close().unwrap().to_vec(..).unwrap(), [90, 50]);
+}
+
+#[test]
+fn what_can_not_be_watched() {
+    assert_eq!(Watched::new("seventeen letters", Kind::Sum, ..).err(), Some(Refusal::BadName));
+    assert_eq!(Watched::new("back", Kind::Sum, 2..1).err(), Some(Refusal::BadRange));
+    // of no elements there is no news, by any kind
+    let shared = Shared::new(Series::new().unwrap());
+    let mut nothing = shared.subscribe(Kind::ALL.map(|kind| Watched::new("none", kind, 5..).unwrap()).to_vec()).unwrap();
+    shared.push(1).unwrap();
+    assert_eq!((nothing.look(), nothing.edit()), (Ok(Vec::new()), 0));
+}
+
+#[test]
+fn each_call_of_samples() {
+    let mut some = Samples::new().unwrap();
+    some.push_many(&[0, 12], &[20, 22]).unwrap();
+    let load = Shared::new(some);
+    let mut alerts: Subscriber<Samples> = load.subscribe(all(Kind::Greatest)).unwrap();
+    assert_eq!((load.push(61, 30), load.push_many(&[75, 80], &[26, 28])), (Ok(Pushed { edit: 3, index: 2 }), Ok(5)));
+    assert_eq!(told(alerts.next().unwrap()), [one("all", 5, Value::Greatest(Some(30)))]);
+    assert_eq!((load.get(3), load.value_of_last(Kind::Sum, 60)), (Ok(Sample { time: 75, value: 26 }), Ok(Value::Sum(84))));
+    assert_eq!(load.value(Kind::Least, 0..13), Ok(Value::Least(Some(20))));
+    assert_eq!((load.expire_before(70), load.expire(4)), (Ok(Dropped { edit: 6, dropped: 3 }), Ok(Dropped { edit: 7, dropped: 1 })));
+    assert_eq!((load.push(79, 1), load.write(4, 29)), (Err(Refusal::Earlier { newest: 80 }), Ok(Written { edit: 8, before: 28 })));
+    assert_eq!(told(alerts.look()), [one("all", 8, Value::Greatest(Some(29)))]);
+    assert_eq!((load.pop(), load.truncate(4)), (Ok(Popped { edit: 9, value: 29 }), Ok(Dropped { edit: 10, dropped: 0 })));
+    assert!(load.close().unwrap().values().is_empty());
+    assert_eq!(told(alerts.next().unwrap()), [one("all", 10, Value::Greatest(None))]);
+}
+
+#[test]
+fn threads_share_a_series() {
+    let shared = Shared::new(Series::new().unwrap());
+    let mut alerts = shared.subscribe(all(Kind::Sum)).unwrap();
+    alerts.set_pause(Duration::ZERO);
+    let listener = thread::spawn(move || alerts.map(|notes| told(notes)[0].clone()).collect::<Vec<_>>());
+    let feeders = [1, 2, 3, 4].map(|_| {
+        let shared = shared.clone();
+        thread::spawn(move || (0..2000).for_each(|_| assert!(shared.push(2).is_ok())))
+    });
+    feeders.into_iter().for_each(|feeder| feeder.join().unwrap());
+    assert_eq!(shared.close().unwrap().size(), 8000);
+    // of twos alone the sum is twice the number of edits, and the numbers rise
+    let heard = listener.join().unwrap();
+    assert!(heard.iter().all(|(_, edit, value)| *value == Value::Sum(2 * i64::from(*edit))));
+    assert!(heard.is_sorted_by(|a, b| a.1 < b.1) && heard.last().unwrap().1 == 8000);
+}
+
+#[test]
+fn a_vector_of_few_edits_goes_on() {
+    let shared = Shared::new(Vector::of_kind(Kind::Sum, Limits::new(1, 6).unwrap()).unwrap());
+    let mut queries = Queries::new().unwrap();
+    queries.watch("all", Kind::Sum, ..).unwrap();
+    let mut alerts = shared.subscribe(queries).unwrap();
+    shared.start_workers(2).unwrap();
+    let mut wanted: Vec<i64> = Vec::new();
+    for edit in 1..=50 {
+        if shared.with(|vector| vector.edits()) == Ok(6) {
+            assert_eq!(shared.push(1), Err(Refusal::Worn));
+            shared.renew().unwrap();
+            assert_eq!((shared.edits(), alerts.look(), shared.least(..)), (Ok(edit - 1), Ok(Vec::new()), Err(Refusal::BadKind)));
+        }
+        // of at most two elements, so that a copy has four edits left
+        let number = if wanted.len() < 2 {
+            wanted.push(edit.into());
+            shared.push(edit.into()).unwrap().edit
+        } else {
+            let did = shared.pop().unwrap();
+            assert_eq!(Some(did.value), wanted.pop());
+            did.edit
+        };
+        let sum = wanted.iter().sum();
+        assert_eq!((number, told(alerts.look()), alerts.edit()), (edit, vec![one("all", edit, Value::Sum(sum))], edit.into()));
+        assert_eq!((shared.sum(..), shared.value_at_edit(Kind::Sum, ..).unwrap().edit), (Ok(sum), edit));
+    }
+    assert_eq!(shared.with(|_| shared.renew()), Ok(Err(Refusal::Busy)));
+    let vector = shared.close().unwrap();
+    assert!(vector.to_vec().unwrap() == wanted && vector.edits() <= 6 && vector.kind() == Some(Kind::Sum));
+    let mut full = Vector::with_limits(Limits::new(1, 4).unwrap()).unwrap();
+    full.extend_from_slice(&[1; 4]).unwrap();
+    let full = Shared::new(full);
+    full.renew().unwrap();
+    assert_eq!((full.edits(), full.pop(), full.close().unwrap().edits()), (Ok(4), Err(Refusal::Worn), 4));
+}
