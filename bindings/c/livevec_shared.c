@@ -2,6 +2,14 @@
  * It is an object of its own, so that only a program that shares asks for the calls of threads. */
 #include "livevec_shared_lock.h"
 
+/* Its place is each thread's own. */
+static _Thread_local char place;
+
+bool livevec_private_is_within(const shared_lock *at)
+{
+    return __atomic_load_n(&at->holder, __ATOMIC_RELAXED) == &place;
+}
+
 /* The number of the last edit. Of a handle that can't be asked, as one whose elements are lent, it is the last one that is known. */
 static uint64_t edits_of(shared_lock *at)
 {
@@ -27,7 +35,8 @@ static uint32_t put_round(livevec_shared *slot, livevec_vector *vector, livevec_
     shared_lock *at = malloc(sizeof *at);
     if (!at)
         return LIVEVEC_NO_MEMORY;
-    *at = (shared_lock){.mutex = PTHREAD_ERRORCHECK_MUTEX_INITIALIZER_NP, .vector = vector, .series = series, .is_series = series, .holders = 1};
+    *at = (shared_lock){.mutex = PTHREAD_MUTEX_INITIALIZER, .vector = vector, .series = series, .is_series = series, .holders = 1};
+    at->told = edits_of(at);
     slot->at_ = at;
     return LIVEVEC_OK;
 }
@@ -54,21 +63,15 @@ uint32_t livevec_shared_enter(livevec_shared *slot)
         why = LIVEVEC_NO_HANDLE;
     }
     if (!why)
-        at->entered = edits_of(at);
+        __atomic_store_n(&at->holder, &place, __ATOMIC_RELAXED);
     return why;
 }
 
 /* What refuses a call of a thread that hasn't entered. */
-static uint32_t is_within(livevec_shared *slot)
+static uint32_t judge_within(livevec_shared *slot)
 {
     uint32_t why = LEADS(slot);
-    if (why)
-        return why;
-    shared_lock *at = slot->at_;
-    if (take_lock(at) == LIVEVEC_BUSY)
-        return LIVEVEC_OK;
-    give_lock(at);
-    return LIVEVEC_NO_HANDLE;
+    return why ? why : livevec_private_is_within(slot->at_) ? LIVEVEC_OK : LIVEVEC_NO_HANDLE;
 }
 
 /* Lets the lock go, and wakes who waits for a change. A worker that is awake sees it by itself, and calls others where there is much to do. */
@@ -87,20 +90,21 @@ static void wake(shared_lock *at, bool is_changed)
 
 livevec_left livevec_shared_leave(livevec_shared *slot)
 {
-    uint32_t why = is_within(slot);
+    uint32_t why = judge_within(slot);
     if (why)
         return AS_STRUCT(livevec_left, why);
     shared_lock *at = slot->at_;
     uint64_t edit = edits_of(at);
-    bool is_edited = edit != at->entered || at->exchanged;
-    at->exchanged = false;
+    bool is_edited = edit != at->told;
+    at->told = edit;
+    __atomic_store_n(&at->holder, NULL, __ATOMIC_RELAXED);
     wake(at, is_edited);
     return (livevec_left){.is_edited = is_edited, .edit = edit};
 }
 
 static uint32_t exchange(livevec_shared *slot, bool is_series, livevec_vector *vector, livevec_series *series)
 {
-    uint32_t why = is_within(slot);
+    uint32_t why = judge_within(slot);
     if (why)
         return why;
     shared_lock *at = slot->at_;
@@ -110,8 +114,7 @@ static uint32_t exchange(livevec_shared *slot, bool is_series, livevec_vector *v
         return LIVEVEC_OK;
     at->vector = vector;
     at->series = series;
-    at->exchanged = true;
-    at->base = at->entered + 1;
+    at->base = at->told + 1;
     at->edits = 0;
     return LIVEVEC_OK;
 }
@@ -144,7 +147,7 @@ static uint32_t copy_all(livevec_vector *from, livevec_vector *to)
 
 uint32_t livevec_shared_renew(livevec_shared *slot, livevec_vector *fresh)
 {
-    uint32_t why = first_of(THERE(slot && fresh), is_within(slot));
+    uint32_t why = first_of(THERE(slot && fresh), judge_within(slot));
     if (why)
         return why;
     shared_lock *at = slot->at_;
@@ -435,12 +438,12 @@ uint32_t livevec_free_subscriber(livevec_subscriber *slot)
     shared_seat *seat = slot->at_;
     shared_lock *at = seat->at;
     // a thread that has entered is between two calls
-    bool is_within = take_lock(at) == LIVEVEC_BUSY;
+    bool has_entered = take_lock(at) == LIVEVEC_BUSY;
     shared_seat **before = &at->seats;
     while (*before != seat)
         before = &(*before)->next;
     *before = seat->next;
-    if (!is_within)
+    if (!has_entered)
         give_lock(at);
     let_go(at);
     free(seat);

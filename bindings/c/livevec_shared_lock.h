@@ -2,11 +2,10 @@
 #ifndef LIVEVEC_SHARED_LOCK_H
 #define LIVEVEC_SHARED_LOCK_H
 
-#define _GNU_SOURCE      /* of syscall, and of a mutex that tells a thread that it has it already */
+#define _GNU_SOURCE      /* of syscall */
 #define LIVEVEC_MUST_USE /* an answer that tells nothing new is dropped here */
 #include "livevec_slots.h"
 
-#include <errno.h>
 #include <linux/futex.h>
 #include <pthread.h>
 #include <stdlib.h>
@@ -26,15 +25,16 @@ typedef struct shared_sweep {
  * summaries above blocks and subtrees that workers went over. */
 typedef struct shared_lock {
     pthread_mutex_t mutex;
-    bool is_taken; /* what the mutex says, for who only looks */
+    bool is_taken;      /* what the mutex says, for who only looks */
+    const char *holder; /* the thread that has entered, by a place of its own; or null */
     /* Bells: where workers sleep while there is no job, subscribers while nothing has changed, and who pauses, whom no edit wakes. */
     uint32_t work, change, pause;
     /* One of the two, and which. */
     livevec_vector *vector;
     livevec_series *series;
-    bool is_series, closed, unaware, exchanged;
-    /* What is added to the handle's numbers; the handle's last one that is known; the sum of the two when a thread entered. */
-    uint64_t base, edits, entered;
+    bool is_series, closed, unaware;
+    /* What is added to the handle's numbers; the handle's last one that is known; the sum of the two when a thread left last. */
+    uint64_t base, edits, told;
     uint64_t changes; /* grows with each change */
     /* How many workers there are, how many of them sleep, and how many of those are called. */
     size_t working, idle, calls;
@@ -43,10 +43,14 @@ typedef struct shared_lock {
     size_t holders; /* how many slots lead here: the last one frees it */
 } shared_lock;
 
+/* Whether this thread has entered. No other thread stores its place. */
+bool livevec_private_is_within(const shared_lock *at);
+
 static inline uint32_t take_lock(shared_lock *at)
 {
-    if (pthread_mutex_lock(&at->mutex) == EDEADLK)
+    if (livevec_private_is_within(at))
         return LIVEVEC_BUSY;
+    pthread_mutex_lock(&at->mutex);
     __atomic_store_n(&at->is_taken, true, __ATOMIC_RELAXED);
     return LIVEVEC_OK;
 }
