@@ -55,6 +55,7 @@ class shared_worker : public owned<livevec_worker, livevec_free_worker> {
     }
     /** Takes what another has. */
     shared_worker(shared_worker &&other) noexcept = default;
+    /** Dismisses it, and waits for it. */
     ~shared_worker()
     {
         if (!thread_.joinable())
@@ -157,23 +158,28 @@ class shared_form {
     }
 
   protected:
-    /* What is shared, its lock, and its workers, which the lock guards. The end of it closes. */
+    /** What is shared, its lock, and its workers, which the lock guards. The end of it closes. */
     struct state {
-        Of of;
-        decltype(handle_of(std::declval<const Of &>())) handle;
-        livevec_shared lock{};
-        std::vector<shared_worker> workers{};
+        Of of;                                                  /**< what is shared */
+        decltype(handle_of(std::declval<const Of &>())) handle; /**< its handle, as the lock knows it */
+        livevec_shared lock{};                                  /**< the lock */
+        std::vector<shared_worker> workers{};                   /**< the workers */
+        /** A lock round it. */
         explicit state(Of taken) : of(std::move(taken)), handle(handle_of(of)) { check(put_round(&lock, handle)); }
+        /** Closes. */
         ~state() { livevec_free_shared(&lock); }
     };
 
-    /* A thread that has entered. Its end lets the lock go, and wakes who sleeps. */
+    /** A thread that has entered. Its end lets the lock go, and wakes who sleeps. */
     struct turn {
-        state &at;
-        bool is_left = false;
+        state &at;            /**< what it entered */
+        bool is_left = false; /**< whether it has left */
+        /** Enters. */
         explicit turn(state &entered) : at(entered) { check(livevec_shared_enter(&at.lock)); }
         turn(const turn &) = delete;
+        /** Leaves, if it hasn't yet. */
         ~turn() { leave(); }
+        /** Leaves, and gives the number of the last edit. */
         std::uint64_t leave() noexcept
         {
             if (std::exchange(is_left, true))
@@ -184,22 +190,27 @@ class shared_form {
         }
     };
 
+    /** A lock round it. */
     explicit shared_form(Of of) : state_(new state(std::move(of))) {}
+    /** Takes what another has. */
     shared_form(shared_form &&other) noexcept = default;
+    /** Closes. */
     ~shared_form() = default;
 
+    /** What there is, unless it was moved from. */
     state &at() const
     {
         if (!state_)
             raise(refused(LIVEVEC_NULL));
         return *state_;
     }
+    /** A call that reads. */
     template <class Call> auto read(Call call) const
     {
         const turn mine(at());
         return call(static_cast<const Of &>(mine.at.of));
     }
-    /* An answer that names the edit after which it is so. */
+    /** An answer that names the edit after which it is so. */
     template <class Call> auto answer(Call call) const
     {
         turn mine(at());
@@ -207,6 +218,7 @@ class shared_form {
         told.edit = static_cast<decltype(told.edit)>(mine.leave());
         return told;
     }
+    /** One edit. */
     template <class Call> receipt edit(Call call)
     {
         turn mine(at());
@@ -214,14 +226,14 @@ class shared_form {
         did.edit = mine.leave();
         return did;
     }
-    /* Many edits, of which the last is told. */
+    /** Many edits, of which the last is told. */
     template <class Call> std::uint64_t edit_many(Call call)
     {
         turn mine(at());
         call(mine.at.of);
         return mine.leave();
     }
-    /* One more who is told of changes at a series. */
+    /** One more who is told of changes at a series. */
     subscriber watch(const std::vector<watched> &all)
     {
         std::vector<livevec_watched> asked;
