@@ -199,25 +199,32 @@ static uint64_t within(uint64_t index, uint64_t least, uint64_t most)
     return index < least ? least : index > most ? most : index;
 }
 
-/* As livevec_notes, of what is watched at a series. */
-static livevec_noted notes_of_series(shared_seat *seat, livevec_note *notes, size_t room)
+/* The values now of what is watched at a series; tells after which edit, and how many differ from what was told. */
+static livevec_noted values_of_series(shared_seat *seat, livevec_values *values)
 {
     livevec_series *of = seat->at->series;
-    livevec_values values[LIVEVEC_MOST_QUERIES];
     livevec_noted told = {.refusal = 0};
     uint64_t first = livevec_series_first(of).value, size = livevec_series_size(of).value;
     for (size_t i = 0; i < seat->length; i++) {
-        const livevec_watched *what = &seat->each[i].what;
-        livevec_series_reduced now = livevec_series_value(of, what->kind, within(what->lo, first, size), within(what->hi, first, size));
+        const watch *it = &seat->each[i];
+        livevec_series_reduced now = livevec_series_value(of, it->what.kind, within(it->what.lo, first, size), within(it->what.hi, first, size));
         if (now.refusal)
             return AS_STRUCT(livevec_noted, now.refusal);
         values[i] = now.values;
         told.edit = (uint32_t)now.edit;
-        told.count += !is_same(&now.values, &seat->each[i].told);
+        told.count += !is_same(&now.values, &it->told);
     }
+    return told;
+}
+
+/* As livevec_notes, of what is watched at a series. */
+static livevec_noted notes_of_series(shared_seat *seat, livevec_note *notes, size_t room)
+{
+    livevec_values values[LIVEVEC_MOST_QUERIES];
+    livevec_noted told = values_of_series(seat, values);
     if (told.count > room)
         return (livevec_noted){.refusal = LIVEVEC_SHORT_BUFFER, .detail = told.count};
-    for (size_t i = 0; i < seat->length; i++) {
+    for (size_t i = 0; i < seat->length && !told.refusal; i++) {
         watch *it = &seat->each[i];
         if (is_same(&values[i], &it->told))
             continue;
@@ -389,7 +396,8 @@ static livevec_told awaited(shared_seat *seat, livevec_note *notes, size_t room,
     return last_of(seat, notes, room);
 }
 
-livevec_told livevec_subscriber_next(livevec_subscriber *slot, livevec_note *notes, size_t room, uint64_t nanoseconds)
+/* What there is to tell: now, or once there is something, but not later than in so many nanoseconds. */
+static livevec_told told_to(livevec_subscriber *slot, livevec_note *notes, size_t room, bool sleeps, uint64_t nanoseconds)
 {
     uint32_t why = first_of(first_of(THERE(slot), ARRAY(notes, room)), LEADS(slot));
     if (why)
@@ -399,27 +407,25 @@ livevec_told livevec_subscriber_next(livevec_subscriber *slot, livevec_note *not
     why = take_lock(seat->at);
     if (why)
         return AS_STRUCT(livevec_told, why);
-    livevec_told told = awaited(seat, notes, room, nanoseconds > UINT64_MAX - start ? UINT64_MAX : start + nanoseconds);
-    give_lock(seat->at);
-    return told;
-}
-
-livevec_told livevec_subscriber_look(livevec_subscriber *slot, livevec_note *notes, size_t room)
-{
-    uint32_t why = first_of(first_of(THERE(slot), ARRAY(notes, room)), LEADS(slot));
-    if (why)
-        return AS_STRUCT(livevec_told, why);
-    shared_seat *seat = slot->at_;
-    why = take_lock(seat->at);
-    if (why)
-        return AS_STRUCT(livevec_told, why);
     livevec_told told = {.refusal = 0};
     if (seat->at->closed)
         told = last_of(seat, notes, room);
+    else if (sleeps)
+        told = awaited(seat, notes, room, nanoseconds > UINT64_MAX - start ? UINT64_MAX : start + nanoseconds);
     else if (seat->seen != seat->at->changes)
         told = look_and_rest(seat, notes, room);
     give_lock(seat->at);
     return told;
+}
+
+livevec_told livevec_subscriber_next(livevec_subscriber *slot, livevec_note *notes, size_t room, uint64_t nanoseconds)
+{
+    return told_to(slot, notes, room, true, nanoseconds);
+}
+
+livevec_told livevec_subscriber_look(livevec_subscriber *slot, livevec_note *notes, size_t room)
+{
+    return told_to(slot, notes, room, false, 0);
 }
 
 uint32_t livevec_subscriber_set_pause(livevec_subscriber *slot, uint64_t nanoseconds)
