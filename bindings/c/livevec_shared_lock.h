@@ -121,10 +121,11 @@ static inline void let_go(shared_lock *at)
     free(at);
 }
 
-/* Memory of zeros, or none. */
+/* Memory of zeros, or none. An embedder names no calloc, of which gcc would make a call if it saw where the memory comes from. */
 static inline void *zeros(size_t size)
 {
     void *made = malloc(size);
+    __asm__("" : "+r"(made));
     return made ? memset(made, 0, size) : NULL;
 }
 
