@@ -106,7 +106,8 @@ impl<N: WithBody<Six>> Subscriber<N> {
     ) -> Result<Option<Told>, Refusal>
         ensures told { IfOk result (IsToldIf N.limits self.old self.new) }
         ensures err { IfErr result (λ refusal. refusal ≡ Refusal.NoMemory) }
-        // Told or not, it has seen all edits that the hub had then.
+        // Told or not, it has seen the edits of a vector within the limits. That these are all edits of the hub so far isn't a clause: a
+        // hub's contracts don't name its state.
         ensures current { IfOk result (λ told. IsLegalInLimits (history_of N.limits self.new.share.seen)) }
         ensures unchanged { OnErr result (self.new ≡ self.old) }
     {
