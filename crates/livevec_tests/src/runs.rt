@@ -249,7 +249,7 @@ fn sum(value: u64, cells_read: u32, summaries_read: u32) -> Told {
     })
 }
 
-// What events of each kind are answered, on the elements 1 to 8.
+// What events of each kind are answered, on the elements 1 to 8. The first ten are late and stale deliveries.
 fn events_of_each_kind() -> [(Event, Told); 16] {
     let write = Event::Edit(Edit::Write { index: 3, value: 9 });
     let (lo, hi) = (0, 3);
@@ -257,7 +257,6 @@ fn events_of_each_kind() -> [(Event, Told); 16] {
         (Event::Claim, Told::Job(1, 1, 0, 8)),
         (Event::Claim, Told::Idle),
         (write, Told::Did(Receipt::Written { edit: 9, before: 4 })),
-        (Event::Settle, Told::Settled),
         (Event::Deliver(1), Told::Gave(Accepted::Stale { now: 9 })),
         (Event::Reduce { lo: 0, hi: 8 }, sum(41, 8, 0)),
         (Event::Claim, Told::Job(2, 1, 0, 9)),
@@ -265,6 +264,7 @@ fn events_of_each_kind() -> [(Event, Told); 16] {
         (Event::Deliver(2), Told::Gave(Accepted::Held)),
         (Event::Deliver(1), Told::Gave(Accepted::Stale { now: 9 })),
         (Event::Reduce { lo: 0, hi: 8 }, sum(41, 0, 1)),
+        (Event::Settle, Told::Settled),
         (Event::Forget, Told::Forgotten),
         (Event::Deliver(3), Told::Refused(Refusal::NoJob)),
         (
