@@ -157,7 +157,7 @@ OwnStamp board (Some seat) = OwnStampFrom board seat
 -- the answer for why a board stays open
 abbrev pub unclosed_for : Unclosed → Count
 unclosed_for unclosed.NoMemory = record { refusal = 6; value = 0 }
-unclosed_for unclosed.SeatsOut = record { refusal = 106; value = 0 }
+unclosed_for other = record { refusal = 106; value = 0 }
 
 -- a board was closed, and its slot holds what the vector was; or it is as it was, because a seat isn't there, or for want of memory, which is found
 -- only where all are there

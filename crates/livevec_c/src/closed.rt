@@ -65,6 +65,7 @@ fn unclosed(why: Unclosed) -> Count
     let refusal = match why {
         Unclosed::NoMemory => NO_MEMORY,
         Unclosed::SeatsOut => SEATS_OUT,
+        Unclosed::Shared => SEATS_OUT,
     };
     Count { refusal, value: 0 }
 }

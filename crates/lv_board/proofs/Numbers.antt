@@ -1,17 +1,21 @@
 -- Seats of which no two have one number: how many they can be, and what all of them made together.
-use Rattle.std.proofs.Common.{◌≡◌, ◌≢◌, ℕ, ◌+◌, ◌<◌, ◌≤◌, ◌||◌, true, false, nat_eq, List, [], ◌∷◌, ◌++◌, length, map, refl, sym, ap, ◌∙◌, subst, inl, inr, arith}
-use Rattle.std.specs.Prelude.{All, slice_index_or}
+use Rattle.std.proofs.Common.{◌≡◌, ◌≢◌, ℕ, zero, suc, ◌+◌, ◌<◌, ◌≤◌, ◌||◌, true, false, nat_eq, List, [], ◌∷◌, ◌++◌, length, map, get_or, refl, sym, ap, ◌∙◌, subst, inl, inr, arith}
+use Rattle.std.specs.Prelude.{◌⊎◌, All, slice_index_or}
 use Rattle.std.proofs.lemmas.Cmp.{nat_eq_equiv}
-use Rattle.std.specs.List.{AllByRecursion, IsDistinct, list_any, remove, sum_by}
+use Rattle.std.specs.List.{AllByRecursion, IsDistinct, list_any, range_with_len, remove, sum_by}
 use Rattle.std.proofs.lemmas.Bool.{cases_Bool, eq-eqb, eqb-true, false≢true, ne_eqb}
-use Rattle.std.proofs.lemmas.List.{length-append, length-map, map-append}
+use Rattle.std.proofs.lemmas.List.{get_or-map, length-append, length-map, map-append}
 use Rattle.std.proofs.lemmas.List.Elements.{All-cons, All-head, All-nil, All-push, All-tail}
+use Rattle.std.proofs.lemmas.List.Folds.{list_any_at}
+use Rattle.std.proofs.lemmas.List.FromFn.{get_or-range_with_len, length-range_with_len}
 use Rattle.std.proofs.lemmas.List.Sums.{sum_by-cons}
-use Rattle.std.proofs.lemmas.Map.Keys.{IsDistinct-head, IsDistinct-push, IsDistinct-tail}
+use Rattle.std.proofs.lemmas.Map.Keys.{IsDistinct-from_apart, IsDistinct-head, IsDistinct-push, IsDistinct-tail}
+use Rattle.std.proofs.lemmas.Map.Made.{length-le_from_is_member}
 use Rattle.std.proofs.lemmas.Map.Steps.{length-le_from_distinct_below}
 use Rattle.lv_machine.specs.declared.entries.Entry.{Entry}
 use Rattle.lv_machine.specs.History.{IsLegalHistory, own}
 use Rattle.lv_machine.specs.Terms.{Terms}
+use Rattle.lv_board.specs.declared.actors.Actor.{Actor}
 use Rattle.lv_board.specs.declared.seats.Seat.{Seat}
 use Rattle.lv_board.specs.Tells.{actor_of}
 use Rattle.lv_board.proofs.Advancing.{own-nil, own-other, own-same}
@@ -39,6 +43,57 @@ full_has xs n a apart all long less = elim (cases_Bool (list_any (nat_eq a) xs))
   | inl has ↦ has
   | inr lacks ↦ absurd (omega (arith, long, length-append xs (a ∷ []), few_below (xs ++ a ∷ []) n (IsDistinct-push nat_eq_equiv xs a apart lacks) (All-push (λ x. x < n) xs a all less)))
 ]
+
+-- no two of the numbers below k are the same
+range_apart : (k : ℕ) → IsDistinct nat_eq (range_with_len 0 k)
+range_apart k = IsDistinct-from_apart nat_eq (range_with_len 0 k) (λ i j d less within.
+    let inside : j < k = omega (arith, length-range_with_len 0 k, within) in
+    let before : i < k = omega arith in
+    let first = get_or-range_with_len 0 k i d before in
+    let second = get_or-range_with_len 0 k j d inside in
+    let apart : get_or (range_with_len 0 k) i d ≢ get_or (range_with_len 0 k) j d = omega (arith, first, second) in
+    ne_eqb (get_or (range_with_len 0 k) i d) (get_or (range_with_len 0 k) j d) apart)
+
+-- numbers that have each number below k, and k too, have each below the next
+has_more : (xs : List ℕ) (k : ℕ) → ((n : ℕ) → n < k → list_any (nat_eq n) xs ≡ true) → list_any (nat_eq k) xs ≡ true → (n : ℕ) → n < suc k → list_any (nat_eq n) xs ≡ true
+has_more xs k has here n less = elim (cases_Bool (nat_eq n k)) [
+  | inl same ↦ subst (λ m. list_any (nat_eq m) xs ≡ true) (sym (eqb-true n k same)) here
+  | inr other ↦
+      let apart : n ≢ k = λ same. false≢true (sym other ∙ eq-eqb n k same) in
+      has n (omega (arith, less, apart))
+]
+
+-- either numbers have each number below k, or one of these isn't among them
+has_or_lacks : (xs : List ℕ) (k : ℕ) → ((n : ℕ) → n < k → list_any (nat_eq n) xs ≡ true) ⊎ ((n : ℕ) × (n < k) × (list_any (nat_eq n) xs ≡ false))
+has_or_lacks xs zero = inl (λ n less. absurd (omega (arith, less)))
+has_or_lacks xs (suc k) = elim (has_or_lacks xs k) [
+  | inr lacks ↦ inr (lacks.0, omega (arith, lacks.1), lacks.2)
+  | inl has ↦ elim (cases_Bool (list_any (nat_eq k) xs)) [
+    | inl here ↦ inl (has_more xs k has here)
+    | inr lacks ↦ inr (k, omega arith, lacks)
+  ]
+]
+
+-- where they are fewer than k, one isn't among them
+lacks_one : (xs : List ℕ) (k : ℕ) → length xs < k → (n : ℕ) × (n < k) × (list_any (nat_eq n) xs ≡ false)
+lacks_one xs k few = elim (has_or_lacks xs k) [
+  | inr lacks ↦ lacks
+  | inl has ↦
+      let below : All (λ x. x < k) (range_with_len 0 k) = λ i d within. omega (arith, get_or-range_with_len 0 k i d (omega (arith, length-range_with_len 0 k, within)), length-range_with_len 0 k, within) in
+      absurd (omega (arith, few, length-range_with_len 0 k, length-le_from_is_member nat_eq_equiv (range_with_len 0 k) xs (range_apart k) (λ q any. has q (among_below (range_with_len 0 k) k q below any))))
+]
+
+-- where actors are fewer than the seats of a board, there is a seat with none of their numbers
+pub seat_out : (count : ℕ) (left : List Actor) → length left < count → (n : ℕ) × (n < count) × All (λ x. x.number ≢ n) left
+seat_out count left few =
+    let long = length-map left (λ (x : Actor). x.number) in
+    let out = lacks_one (map (λ (x : Actor). x.number) left) count (omega (arith, few, long)) in (
+      out.0,
+      out.1,
+      λ i x within same.
+          let here = get_or-map (λ (u : Actor). u.number) left i x 0 within ∙ same in
+          false≢true (sym out.2 ∙ list_any_at (nat_eq out.0) (map (λ (u : Actor). u.number) left) i 0 (omega (arith, within, long)) (eq-eqb out.0 (get_or (map (λ (u : Actor). u.number) left) i 0) (sym here))),
+    )
 
 -- a number that differs from some is not among them
 lacks_by : (xs : List ℕ) (a : ℕ) → AllByRecursion (λ y. nat_eq a y ≡ false) xs → list_any (nat_eq a) xs ≡ false

@@ -73,10 +73,10 @@ pub record IsBack (old : Shared) (s : Sat) (new : Shared) : Type 0 where
   pub left : new.left ≡ old.left ++ s.knows ∷ []
   pub same : new ≡ record old { left = new.left }
 
--- why a board stays open. Want of memory is found only where all seats are there
+-- why a board stays open: a seat of some number isn't there; or all seats are there, and there was no memory, or somebody has a share of it
 abbrev pub IsUnclosed : Shared → Unclosed → Type 0
-IsUnclosed old unclosed.SeatsOut = Unit {0}
-IsUnclosed old unclosed.NoMemory = length old.left ≡ old.terms.seats
+IsUnclosed old unclosed.SeatsOut = (n : ℕ) × (n < old.terms.seats) × All (λ x. x.number ≢ n) old.left
+IsUnclosed old other = length old.left ≡ old.terms.seats
 
 -- what was closed had one legal history. The number is that of its last edit, and the elements are those after it. All seats of the board were
 -- there: each knows an earlier history, with all entries of its own; and the entries of all seats are all that there are

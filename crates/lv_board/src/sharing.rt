@@ -33,6 +33,8 @@ pub enum Unclosed {
     SeatsOut,
     /// Memory for the elements was wanted, and there was none.
     NoMemory,
+    /// All seats are there, and yet some thread has a share of the board. Each share goes with a seat, so this is never seen.
+    Shared,
 }
 
 // A board and its seats, to be shared.
@@ -122,8 +124,8 @@ impl<B: BoardBody> Opened<B> {
         self.seats.len() == self.board.seats() as usize
     }
 
-    /// The vector when all seats are there: the number of its last edit, and its elements. Else, or for want of memory, the board comes
-    /// back as it was.
+    /// The vector when all seats are there: the number of its last edit, and its elements. Refused with `SeatsOut` only if a seat isn't
+    /// there, and else with `NoMemory` or `Shared`; the board comes back as it was.
     pub fn close(self, alloc: Global) -> Result<Closed, (Opened<B>, Unclosed)>
         ensures ok { IfOk result (λ closed. IsClosedShared (shared_of B.folding B.the_kind B.plain self) closed) }
         ensures err { IfErr result (λ r. ((shared_of B.folding B.the_kind B.plain r.0) ≡ (shared_of B.folding B.the_kind B.plain self)) × IsUnclosed (shared_of B.folding B.the_kind B.plain self) r.1) }
@@ -147,7 +149,7 @@ impl<B: BoardBody> Opened<B> {
                     board,
                     seats,
                 },
-                Unclosed::SeatsOut,
+                Unclosed::Shared,
             )),
         }
     }
