@@ -14,7 +14,6 @@ pub mod Openings
 pub mod PlainAnswers
 pub mod PushedLaws
 pub mod Programs
-pub mod QueriedLaws
 pub mod SetLaws
 pub mod Seatless
 pub mod Others

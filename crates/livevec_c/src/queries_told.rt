@@ -9,30 +9,25 @@ use crate::queries_notes::has_some;
 use crate::results::{BAD_KIND, Reduced, not_reduced};
 use crate::said::shown_values;
 use lv_bodies::{Kind, Shown};
-use lv_standing::{Answers, Indices, Query};
+use lv_standing::{Askable, Asks, Query};
 
-impl Answers<Query> for KindVector {
-    ghost use Rattle.std.specs.Prelude.{◌≡◌, ⊤, refl};
-    ghost use Rattle.std.proofs.Common.{◌∙◌, ap};
+impl Askable for KindVector {
+    ghost use Rattle.lv_bodies.specs.Automata.{table_of};
+    ghost use Rattle.lv_standing.specs.Askable.{vector_after};
 
-    ghost may_ask = { λ _. ⊤ };
+    ghost state = { λ v. vector_after (table_of v.body.automaton) v.history.journal };
 
-    ghost answer_of = { answer_by };
+    fn size(&self) -> u64 {
+        u64::from(self.live().size())
+    }
 
-    ghost same = { λ old new. new ≡ old };
+    fn edit(&self) -> u64 {
+        u64::from(self.live().edit())
+    }
 
-    ghost same_at_once = { λ _. refl };
-
-    ghost same_after_both = { λ _ _ _ first second. second ∙ first };
-
-    ghost may_ask_on = { λ _ _ _ asked. asked };
-
-    ghost answers_alike = { λ _ _ q is. ap (λ state. answer_by state q) is };
-
-    // Of the span what exists is asked, and is cheap until an edit touches it.
-    fn answer(&mut self, question: &Query) -> Shown {
-        let Indices { lo, hi } = question.span.indices_in(self.live().size());
-        match self.value(question.kind, lo, hi) {
+    // It is cheap until an edit touches the range.
+    fn value(&mut self, kind: Kind, lo: u64, hi: u64) -> Shown {
+        match self.value(kind, lo as u32, hi as u32) {
             Ok(answer) => answer.summary.shown(),
             Err(_) => unreachable!(),
         }
@@ -47,7 +42,7 @@ pub fn answer_asked(vector: &mut KindVector, only: Option<Kind>, question: &Quer
     if !may_ask(only, Some(question.kind)) {
         return not_reduced(BAD_KIND, 0);
     }
-    let value = vector.answer(question);
+    let value = plain_answer(vector, question);
     let live = vector.live();
     Reduced {
         refusal: 0,
@@ -57,4 +52,12 @@ pub fn answer_asked(vector: &mut KindVector, only: Option<Kind>, question: &Quer
         summaries: 0,
         values: shown_values(has_some(question, live.size()), value),
     }
+}
+
+// The plain value of what it asks.
+fn plain_answer(vector: &mut KindVector, question: &Query) -> Shown
+    ensures value { result ≡ answer_by vector.old question.now }
+    ensures same { vector.new ≡ vector.old }
+{
+    question.answer_by(vector)
 }

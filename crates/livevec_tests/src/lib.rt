@@ -45,6 +45,8 @@ mod runs;
 #[cfg(test)]
 mod same;
 #[cfg(test)]
+mod sample_queries;
+#[cfg(test)]
 mod samples;
 #[cfg(test)]
 mod saved;

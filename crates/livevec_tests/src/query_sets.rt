@@ -6,7 +6,7 @@ use lv_bodies::{Kind, Name, Shown, Six};
 use lv_edits::Edit;
 use lv_geometry::{Limits, Refusal};
 use lv_live::Live;
-use lv_standing::{Note, Query, QuerySet};
+use lv_standing::{Asks, Note, Query, QuerySet};
 use std::alloc::{AllocError, Global};
 use std::process::Abort;
 use std::test::Fail;
@@ -40,30 +40,29 @@ fn fill(live: &mut Live<Six>, set: &mut QuerySet<Query>, count: u32) -> Result<(
 }
 
 // How many notes there are, the first and the last of them.
-type Ends = (usize, Option<Note>, Option<Note>);
+pub(crate) type Ends = (usize, Option<Note>, Option<Note>);
 
 fn ends_of(notes: &[Note]) -> Ends {
     (notes.len(), notes.first().copied(), notes.last().copied())
 }
 
 // Asks all queries, and puts their notes into a list, which has room for them.
-fn tell_into(set: &mut QuerySet<Query>, live: &mut Live<Six>, notes: &mut Vec<Note>)
+fn tell_into<A, Q: Asks<A>>(set: &mut QuerySet<Q>, asked: &mut A, notes: &mut Vec<Note>)
     requires { vec_len notes.old + length set.old.queries ≤ vec_capacity notes.old }
 {
-    live.keeps();
-    set.ask(live);
+    set.ask(asked);
     set.put_due(notes);
     set.mark_told();
 }
 
 // What is told now.
-fn told_now(
+pub(crate) fn told_now<A, Q: Asks<A>>(
     alloc: Global,
-    set: &mut QuerySet<Query>,
-    live: &mut Live<Six>,
+    set: &mut QuerySet<Q>,
+    asked: &mut A,
 ) -> Result<Ends, AllocError> {
     let mut notes = Vec::with_capacity(alloc, set.queries().len())?;
-    tell_into(set, live, &mut notes);
+    tell_into(set, asked, &mut notes);
     let ends = ends_of(&notes);
     drop(notes);
     Ok(ends)

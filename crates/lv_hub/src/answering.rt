@@ -11,32 +11,30 @@ use crate::desks::Desk;
 use crate::hubs::Hub;
 use crate::naming::WithBody;
 use crate::shares::Share;
-use lv_bodies::{Shown, Six};
-use lv_standing::{Answers, Query, QuerySet, answer_beside};
+use lv_bodies::{Kind, Shown, Six};
+use lv_standing::{Askable, Query, QuerySet};
 use std::sync::Wait;
 
-impl<N: WithBody<Six>> Answers<Query> for Desk<Six, N> {
-    ghost use Rattle.std.specs.Prelude.{◌≡◌, ⊤, refl};
-    ghost use Rattle.std.proofs.Common.{◌∙◌, ap};
-    ghost use Rattle.lv_standing.specs.Queries.{watch_answer};
+impl<N: WithBody<Six>> Askable for Desk<Six, N> {
+    ghost use Rattle.lv_bodies.specs.Plain.{program_table};
+    ghost use Rattle.lv_standing.specs.Askable.{vector_after};
 
-    ghost may_ask = { λ _. ⊤ };
+    ghost state = { λ desk. vector_after program_table desk.live.history.journal };
 
-    ghost answer_of = { λ desk q. watch_answer desk.live.history.journal q };
+    fn size(&self) -> u64 {
+        u64::from(self.live.size())
+    }
 
-    ghost same = { λ old new. new ≡ old };
+    fn edit(&self) -> u64 {
+        u64::from(self.live.edit())
+    }
 
-    ghost same_at_once = { λ _. refl };
-
-    ghost same_after_both = { λ _ _ _ first second. second ∙ first };
-
-    ghost may_ask_on = { λ _ _ _ asked. asked };
-
-    ghost answers_alike = { λ _ _ q is. ap (λ desk. watch_answer desk.live.history.journal q) is };
-
-    // By the query's kind, whose tree follows what was edited since.
-    fn answer(&mut self, query: &Query) -> Shown {
-        answer_beside(&self.live, &mut self.kinds, query)
+    // By the kind, whose tree follows what was edited since.
+    fn value(&mut self, kind: Kind, lo: u64, hi: u64) -> Shown {
+        match self.value(kind, lo as u32, hi as u32) {
+            Ok(answered) => answered.value,
+            Err(_) => unreachable!(),
+        }
     }
 }
 

@@ -4,12 +4,11 @@ use Rattle.std.proofs.lemmas.Bool.{cond-false, cond-true}
 use Rattle.lv_bodies.specs.declared.kinds.Shown.{Shown}
 use Rattle.lv_lines.specs.Texts.{note_text}
 use Rattle.lv_script.specs.Script.{notes_text}
-use Rattle.lv_series.specs.Series.{Held, SeriesState}
+use Rattle.lv_series.specs.Series.{Held}
 use Rattle.lv_standing.specs.QuerySets.{AddsDue, AreDue, QuerySetState, with_answers}
 use Rattle.lv_standing.specs.declared.notes.Note.{Note}
 use Rattle.lv_standing.specs.declared.queries.Query.{Query}
 use Rattle.lv_script.specs.Inside.{AreNotesDue}
-use Rattle.lv_script.specs.Values.{ChangesTrees, without_trees}
 use Rattle.lv_standing.specs.Queries.{AreNotesOf, is_due}
 use Rattle.lv_script.specs.PlainScript.{note_of}
 use Rattle.lv_script.specs.PlainSeriesScript.{long_answer}
@@ -39,7 +38,3 @@ few_due before now (q ∷ qs) notes (inr due) = omega (arith, ap length due.2, f
 
 pub few_told : (old new : Held) (qs : List Query) (told : List Shown) (notes : List Note) → told ≡ map (long_answer old) qs → AreNotesDue new qs told notes → length notes ≤ length qs
 few_told old new qs told notes is due = few_due (long_answer old) (long_answer new) qs notes (subst (λ told. AreNotesDue new qs told notes) is due)
-
--- what was asked in its place has changed as the series that was lent
-pub asked_same : (old last owned : SeriesState) (name place : ℕ) → (name ≡ place → owned ≡ last) → (without_trees last ≡ without_trees old) × (place ≡ name) → ChangesTrees old owned
-asked_same old last owned name place is same = record { same = ap without_trees (is (sym same.1)) ∙ same.0 }

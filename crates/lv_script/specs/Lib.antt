@@ -15,5 +15,6 @@ pub mod LongGrammar
 pub mod QueryGrammar
 pub mod LongTexts
 pub mod Searched
+pub mod SampleQueries
 pub mod Values
 pub mod Inside

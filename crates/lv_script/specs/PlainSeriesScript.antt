@@ -1,7 +1,7 @@
 -- A plain interpreter of a series' scripts: what each command is answered, by the elements that are kept, how many edits were accepted, and
 -- the queries that stand alone. It keeps no trees and no values. Values are those of `plain_value`, texts those of the formats. Interpreter.antt
 -- reads the lines.
-use Rattle.std.specs.Prelude.{ℕ, ℤ, ◌+◌, ◌-◌, Bool, true, false, Option, None, List, [], ◌∷◌, ◌++◌, length, drop, option_map}
+use Rattle.std.specs.Prelude.{ℕ, ◌+◌, Bool, true, false, Option, None, List, [], ◌∷◌, ◌++◌, option_map}
 use Rattle.std.specs.List.{flat_map}
 use Rattle.std.specs.Option.{option_map_or}
 use Rattle.lv_geometry.specs.Numbers.{number_of as name_number}
@@ -17,8 +17,7 @@ use Rattle.lv_script.specs.declared.long_commands.LongCommand.{LongCommand}
 use Rattle.lv_script.specs.declared.long_commands.LongCommand.TheVariants.{Edit, First, Size, Get, Reduce, Scan, Find, BestRun, Watch, Unwatch, Answer}
 use Rattle.lv_script.specs.LongGrammar.{long_line_of}
 use Rattle.lv_standing.specs.declared.queries.Query.{Query}
-use Rattle.lv_standing.specs.declared.spans.Span.{Span}
-use Rattle.lv_standing.specs.declared.spans.Span.TheVariants.{Between, Last}
+use Rattle.lv_standing.specs.Askable.{span_from}
 use Rattle.lv_standing.specs.Queries.{query_of, span_refusal, without_query}
 use Rattle.lv_script.specs.LongTexts.{first_text, index_text, long_element_text, long_receipt_text, run_text}
 use Rattle.lv_script.specs.Searched.{best_run, index_of}
@@ -51,14 +50,9 @@ refusal_of k (Unwatch name) = option_map name_number (unknown (query_of k.querie
 refusal_of k (Answer name) = option_map name_number (unknown (query_of k.queries name))
 refusal_of k _ = None
 
--- the elements of a span, as many of them as are kept: those under the indices of a range, or the last so many
-abbrev pub span_of : Held → Span → List ℤ
-span_of h (Between lo hi) = slice_of h lo hi
-span_of h (Last n) = drop (length h.elements - n) h.elements
-
--- what a query answers: the plain value of the elements of its span
+-- what a query answers: the plain value of the elements that are kept of its span
 abbrev pub long_answer : Held → Query → Shown
-long_answer h q = plain_value q.kind (span_of h q.span)
+long_answer h q = plain_value q.kind (span_from h.first q.span h.elements)
 
 -- what a command that nothing refuses is answered; of an element that isn't kept, its refusal. Nothing is told
 abbrev pub reply_of : List ℕ → PlainSeries → LongCommand → List ℕ

@@ -11,10 +11,6 @@ use Rattle.lv_series.specs.declared.refusals.LongRefusal.{LongRefusal}
 abbrev pub without_trees : SeriesState → SeriesState
 without_trees s = record s { kinds = no_kinds }
 
--- nothing but trees has changed
-pub record ChangesTrees (old new : SeriesState) : Type 0 where
-  pub same : without_trees new ≡ without_trees old
-
 -- the plain value of a kind over a range, or why the range is refused
 abbrev pub ShowsValue : Held → Kind → ℕ → ℕ → Result Shown LongRefusal → Type 0
 ShowsValue h kind lo hi (Ok value) = (range_refused h lo hi ≡ None) × (value ≡ plain_value kind (slice_of h lo hi))

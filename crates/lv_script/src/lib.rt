@@ -7,6 +7,8 @@
 //! `run_series_script` does the same on a series, whose indices go up to 2^62 and whose front may expire. Both are answered as one plain
 //! interpreter answers them (`specs/Interpreter.antt`).
 //!
+//! A series and samples may be asked by queries: `AskedSeries`, `AskedSamples`. A `SampleQuery` may be about the last so much time.
+//!
 //! A schedule plays the lock-free machine, one event a line: `run_schedule` answers it in the same loop.
 //!
 //! What lines say, and the loop, are `lv_lines`'; transcripts and their auditor are `lv_transcript`'s. Their names are
@@ -14,6 +16,8 @@
 #![tactic(auto)]
 
 mod answers;
+mod asked_samples;
+mod asked_series;
 mod board_lines;
 pub mod devices;
 mod job_answers;
@@ -26,6 +30,7 @@ mod query_grammar;
 mod refresh_replies;
 mod restored;
 mod running_scans;
+mod sample_queries;
 mod scan_replies;
 mod scans;
 mod schedule_lines;
@@ -35,6 +40,8 @@ mod scripts;
 mod series_scripts;
 mod watch_replies;
 
+pub use asked_samples::AskedSamples;
+pub use asked_series::AskedSeries;
 pub use board_lines::read_board_line;
 pub use laws::{
     a_front_of_the_input_gives_a_front_of_the_text, a_front_of_the_input_has_its_first_lines,
@@ -54,6 +61,7 @@ pub use lv_transcript::{
 pub use query_grammar::read_query;
 pub use restored::{Unrestored, restore_script, resume_script};
 pub use running_scans::{Elements, Slice, put_running_scan};
+pub use sample_queries::{SampleQuery, SampleSpan};
 pub use scans::Asked;
 pub use schedule_replies::{put_said, said_shown};
 pub use schedules::run_schedule;

@@ -1,4 +1,5 @@
 -- Names the files of lemmas of `lv_standing`.
+pub mod AskableLaws
 pub mod BesideLaws
 pub mod EditLaws
 mod NameLaws

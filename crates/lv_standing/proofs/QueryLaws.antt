@@ -19,6 +19,7 @@ use Rattle.lv_bodies.specs.declared.kinds.Shown.TheVariants.{Sum, Least, Greates
 use Rattle.lv_tree.specs.declared.places.Bound.{Bound}
 use Rattle.lv_standing.specs.declared.queries.Query.{Query}
 use Rattle.lv_standing.specs.declared.spans.Span.{Span}
+use Rattle.lv_standing.specs.QuerySets.{refusal_by}
 use Rattle.lv_standing.specs.Queries.{holds, is_backwards, is_due, name_refusal, query_of, query_refusal, same_value, span_refusal, without_query}
 use Rattle.lv_standing.specs.Standings.{HaveOwnNames}
 
@@ -151,7 +152,7 @@ refused_by_place most qs name (Some i) at = ap (name_refusal most qs) (placed na
 
 -- so it is refused by its range, by whether its name is taken, and by how many there are
 pub why_refused : (most count : ℕ) (qs : List Query) (q : Query) (taken : Bool) → length qs ≡ count → is_some (position (has q.name) qs) ≡ taken
-    → query_refusal most qs q ≡ cond (is_backwards q.span) (Some BadRange) (cond taken (Some NameTaken) (cond (nat_lt count most) None (Some TooMany)))
+    → query_refusal most qs q ≡ refusal_by (is_backwards q.span) taken count most
 why_refused most count qs q taken many at =
     ap (cond (is_backwards q.span) (Some BadRange)) (
     refused_by_place most qs q.name (position (has q.name) qs) refl

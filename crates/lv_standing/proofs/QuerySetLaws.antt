@@ -10,15 +10,6 @@ next_of : {A : Type 0} (xs : List A) (i : ℕ) (x : A) → x ≡ get_or xs i x �
 next_of xs i x is inside = take_more xs i x inside ∙ ap (λ y. take i xs ++ y ∷ []) (sym is)
 
 module _ {Q : Type 0} where
-  -- the queries up to an index were answered, and then what stands there
-  pub next_answer : (answer_of : Q → Shown) (q : Q) (answer : Shown) (queries : List Q) (answers more : List Shown) (i : ℕ) → answer ≡ answer_of q → q ≡ get_or queries i q → i < length queries
-      → more ≡ answers ++ answer ∷ [] → answers ≡ map answer_of (take i queries) → more ≡ map answer_of (take (i + 1) queries)
-  next_answer answer_of q answer queries answers more i is q_is inside pushed so_far =
-      pushed
-      ∙ ap (λ vs. vs ++ answer ∷ []) so_far
-      ∙ ap (λ v. map answer_of (take i queries) ++ v ∷ []) is
-      ∙ sym (ap (map answer_of) (next_of queries i q q_is inside) ∙ map-append answer_of (take i queries) (q ∷ []))
-
   module _ (name_of : Q → List ℕ) (is_idle is_due : Q → Shown → Shown → Type 0) where
     -- the notes of some queries and those of one more are the notes of all
     due_more : (queries : List Q) (told answers : List Shown) (notes : List Note) (q : Q) (before answer : Shown) (more : List Note) → length told ≡ length queries → length answers ≡ length queries

@@ -1,4 +1,5 @@
 -- Names the files of definitions of `lv_standing`.
+pub mod Askable
 pub mod Inner
 pub mod Queries
 pub mod QuerySets

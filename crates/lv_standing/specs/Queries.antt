@@ -22,6 +22,7 @@ use Rattle.lv_standing.specs.declared.notes.Note.{Note}
 use Rattle.lv_standing.specs.declared.queries.Query.{Query}
 use Rattle.lv_standing.specs.declared.spans.Span.{Span}
 use Rattle.lv_standing.specs.declared.spans.Span.TheVariants.{Between, Last}
+use Rattle.lv_standing.specs.Askable.{AskableState, value_in_span}
 use Rattle.lv_standing.specs.QuerySets.{AddsDue, AreDue}
 
 -- what is shown of a range at the last edit, by what is shown of a list: nothing refuses the range
@@ -44,6 +45,10 @@ span_of (Last n) xs = drop (length xs - n) xs
 -- what a query answers after some edits: the plain value of the elements in its span
 abbrev pub watch_answer : List Edit → Query → Shown
 watch_answer edits q = plain_value q.kind (span_of q.span (list_of edits))
+
+-- what it answers by who is asked: the plain value of the elements in its span
+abbrev pub answer_in : AskableState → Query → Shown
+answer_in s q = value_in_span s q.kind q.span
 
 -- what a query counts as told before its first note: its answer of no elements
 abbrev pub untold : Query → Shown

@@ -1,7 +1,9 @@
 -- Sets of queries by name, whatever they ask: what a set has, and which notes are due.
-use Rattle.std.specs.Prelude.{◌≡◌, ◌⊎◌, ℕ, Option, List, [], ◌∷◌, ◌++◌, position, slice_set}
+use Rattle.std.specs.Prelude.{◌≡◌, ◌⊎◌, ℕ, Bool, Option, Some, None, List, [], ◌∷◌, ◌++◌, nat_lt, position, slice_set, if◌then◌else◌}
 use Rattle.std.specs.List.{remove}
 use Rattle.std.specs.Str.{bytes_eq}
+use Rattle.lv_geometry.specs.declared.refusals.Refusal.{Refusal}
+use Rattle.lv_geometry.specs.declared.refusals.Refusal.TheVariants.{BadRange, NameTaken, TooMany}
 use Rattle.lv_bodies.specs.declared.kinds.Shown.{Shown}
 use Rattle.lv_standing.specs.declared.notes.Note.{Note}
 
@@ -11,6 +13,10 @@ pub record QuerySetState (Q : Type 0) : Type 0 where
   pub told : List Shown
   pub answers : List Shown
   pub most : ℕ
+
+-- why a query is refused, out of memory apart: its range is backwards, or its name is taken, or there are as many as there may be
+abbrev pub refusal_by : Bool → Bool → ℕ → ℕ → Option Refusal
+refusal_by is_backwards is_taken count most = if is_backwards then Some BadRange else (if is_taken then Some NameTaken else (if nat_lt count most then None else Some TooMany))
 
 module _ {Q : Type 0} where
   -- a set with a query more, which counts as told this answer; nothing was answered since

@@ -2,16 +2,14 @@
 ghost use Rattle.std.specs.Prelude.{◌≡◌, ◌⊎◌, Some, IfOk, IfErr};
 ghost use Rattle.lv_bodies.specs.Plain.{program_table};
 ghost use Rattle.lv_edits.specs.History.{list_of};
-ghost use Rattle.lv_edits.specs.Kept.{IsLegalInLimits};
 ghost use Rattle.lv_edits.specs.Ranges.{range_refusal};
 ghost use Rattle.lv_tree.specs.Asked.{IsKindAnswer};
 ghost use Rattle.lv_tree.specs.Kinds.{AreReady, IsCaughtUp, IsNear, LeavesOthers};
 ghost use Rattle.lv_tree.specs.KindSummaries.{summary_of};
-ghost use Rattle.lv_standing.specs.Queries.{span_of, watch_answer};
+ghost use Rattle.lv_standing.specs.Queries.{span_of};
 
-use crate::queries::Query;
 use crate::spans::{Indices, Span};
-use lv_bodies::{Body, Kind, Shown};
+use lv_bodies::{Body, Kind};
 use lv_geometry::Refusal;
 use lv_live::Live;
 use lv_tree::{KindAnswer, KindSummary, Kinds};
@@ -43,20 +41,9 @@ pub fn ask_span<B: Body>(live: &Live<B>, kinds: &mut Kinds, kind: Kind, span: Sp
     ensures kept { AreReady program_table live.now.history.journal kinds.new }
     ensures others { LeavesOthers kind kinds.old kinds.new }
 {
-    let Indices { lo, hi } = span.indices_in(live.size());
-    match ask_by_kind(live, kinds, kind, lo, hi) {
+    let Indices { lo, hi } = span.indices_in(u64::from(live.size()));
+    match ask_by_kind(live, kinds, kind, lo as u32, hi as u32) {
         Ok(answer) => answer.summary,
         Err(_) => unreachable!(),
     }
-}
-
-/// What a query answers at the last edit. Takes no memory.
-pub fn answer_beside<B: Body>(live: &Live<B>, kinds: &mut Kinds, query: &Query) -> Shown
-    requires limits { IsLegalInLimits live.now.history }
-    requires kept { AreReady program_table live.now.history.journal kinds.old }
-    ensures value { result ≡ watch_answer live.now.history.journal query.now }
-    ensures kept { AreReady program_table live.now.history.journal kinds.new }
-    ensures others { LeavesOthers query.now.kind kinds.old kinds.new }
-{
-    ask_span(live, kinds, query.kind, query.span).shown()
 }

@@ -5,10 +5,12 @@
 //! answer it changed, or if a query has a bound, whose answer begins or ceases to be within it. The summary of each query's elements is
 //! kept by the query's own kind, so that a push costs a range that ends with it one join.
 //! What is kept by kind follows the edits at questions: an edit costs a kind something only where a query of that kind is asked after it.
-//! Who keeps kinds beside a live vector makes its edits by `apply_beside` and its like, and asks by `value_beside` and `answer_beside`.
+//! Who keeps kinds beside a live vector makes its edits by `apply_beside` and its like, and asks by `value_beside`. A set of queries may be
+//! asked of whatever is `Askable`.
 //! It parses no text and starts no thread.
 #![tactic(auto)]
 
+mod askable;
 mod asking;
 mod beside;
 mod changes;
@@ -23,13 +25,14 @@ mod thresholds;
 mod values;
 mod watches;
 
-pub use asking::answer_beside;
+pub use askable::{Askable, value_in_span};
 pub use beside::{apply_beside, make_beside, push_all_beside, write_all_beside, write_beside};
 pub use lv_bodies::Name;
 pub use notes::{Answered, Note};
 pub use queries::Query;
 pub use query_set::QuerySet;
-pub use questions::{Answers, Question};
+pub use questions::{Asks, Question, refusal_by};
 pub use spans::{Indices, Span};
 pub use standing::Standing;
+pub use thresholds::is_due;
 pub use values::value_beside;

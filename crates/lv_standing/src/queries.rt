@@ -2,7 +2,8 @@
 ghost use Rattle.std.specs.Prelude.{◌≡◌, []};
 ghost use Rattle.lv_standing.specs.Queries.{between, query_refusal, untold, watch_answer};
 
-use crate::questions::Question;
+use crate::askable::{Askable, value_in_span};
+use crate::questions::{Asks, Question, refusal_by};
 use crate::spans::Span;
 use crate::thresholds::is_due;
 use lv_bodies::{Body, Kind, Name, Shown, Six, face};
@@ -32,16 +33,7 @@ impl Question for Query {
 
     // `BadRange`, `NameTaken`, then `TooMany`.
     fn refusal_among(&self, is_taken: bool, count: usize, most: usize) -> Option<Refusal> {
-        if self.span.is_backwards() {
-            return Some(Refusal::BadRange);
-        }
-        if is_taken {
-            return Some(Refusal::NameTaken);
-        }
-        if count >= most {
-            return Some(Refusal::TooMany);
-        }
-        None
+        refusal_by(self.span.is_backwards(), is_taken, count, most)
     }
 
     fn name(&self) -> Name {
@@ -50,6 +42,16 @@ impl Question for Query {
 
     fn is_due(&self, before: &Shown, now: &Shown) -> bool {
         is_due(self.bound, *before, *now)
+    }
+}
+
+impl<A: Askable> Asks<A> for Query {
+    ghost use Rattle.lv_standing.specs.Queries.{answer_in};
+
+    ghost answer_of = { λ a q. answer_in (A.state a) q };
+
+    fn answer_by(&self, asked: &mut A) -> Shown {
+        value_in_span(asked, self.kind, self.span)
     }
 }
 

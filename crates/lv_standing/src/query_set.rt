@@ -5,7 +5,7 @@ ghost use Rattle.lv_edits.specs.Verdict.{IsRefusal};
 ghost use Rattle.lv_standing.specs.QuerySets.{AddsDue, place_of, told_at, with_answers, with_query, without_place, with_told};
 
 use crate::notes::Note;
-use crate::questions::{Answers, Question};
+use crate::questions::{Asks, Question};
 use indexmap::IndexSet;
 use lv_bodies::{Name, Shown};
 use lv_geometry::Refusal;
@@ -144,10 +144,11 @@ impl<Q: Question> QuerySet<Q> {
     }
 
     /// Asks all of them at once. Takes no memory, and nothing counts as told by it.
-    pub fn ask<A: Answers<Q>>(&mut self, asked: &mut A)
-        requires { A.may_ask asked.old }
-        ensures answers { self.new ≡ with_answers self.old (map (A.answer_of asked.old) self.old.queries) }
-        ensures same { A.same asked.old asked.new }
+    pub fn ask<A>(&mut self, asked: &mut A)
+    where
+        Q: Asks<A>,
+        ensures answers { self.new ≡ with_answers self.old (map (Q.answer_of asked.old) self.old.queries) }
+        ensures same { asked.new ≡ asked.old }
     {
         ask_each(&self.queries, asked, &mut self.answers);
     }
@@ -208,16 +209,15 @@ fn make_room<Q>(
 }
 
 // What each query is answered, in place of what they were answered. The room was made before.
-fn ask_each<Q, A: Answers<Q>>(queries: &[Q], asked: &mut A, answers: &mut Vec<Shown>)
-    requires may { A.may_ask asked.old }
-    requires room { length queries.now ≤ vec_capacity answers.old }
-    ensures answers { answers.new.items ≡ map (A.answer_of asked.old) queries.now }
+fn ask_each<A, Q: Asks<A>>(queries: &[Q], asked: &mut A, answers: &mut Vec<Shown>)
+    requires { length queries.now ≤ vec_capacity answers.old }
+    ensures answers { answers.new.items ≡ map (Q.answer_of asked.old) queries.now }
     ensures capacity { vec_capacity answers.new ≡ vec_capacity answers.old }
-    ensures same { A.same asked.old asked.new }
+    ensures same { asked.new ≡ asked.old }
 {
     answers.clear();
     for query in queries {
-        let answer = asked.answer(query);
+        let answer = query.answer_by(asked);
         answers.push_reserved(answer);
     }
 }

@@ -1,8 +1,9 @@
 //! Spans: which elements of a vector a standing query is about.
-ghost use Rattle.std.specs.Prelude.{◌≡◌, ◌≤◌, ℤ, List, length};
+ghost use Rattle.std.specs.Prelude.{◌≡◌, ◌+◌, ◌-◌, ◌≤◌, ℕ, ℤ, List, length};
 ghost use Rattle.std.specs.List.{slice_range};
+ghost use Rattle.lv_standing.specs.Askable.{span_from};
 ghost use Rattle.lv_standing.specs.Inner.{has_changed, has_index, has_written};
-ghost use Rattle.lv_standing.specs.Queries.{is_backwards, span_of};
+ghost use Rattle.lv_standing.specs.Queries.{is_backwards};
 
 use crate::changes::Changed;
 use lv_live::Touched;
@@ -16,32 +17,28 @@ pub enum Span {
     Last(u64),
 }
 
-/// The indices from `lo` up to `hi`, `hi` excluded, of a vector that has them all.
+/// The indices from `lo` up to `hi`, `hi` excluded.
 #[derive(Clone, Copy)]
 pub struct Indices {
-    pub lo: u32,
-    pub hi: u32,
+    pub lo: u64,
+    pub hi: u64,
 }
 
 impl Span {
-    /// The indices of its elements in a vector of this size.
+    /// The indices of its elements where the last one is before index `size`. Whichever index the first one has, those are the span's.
     #[inline(always)]
-    pub fn indices_in(&self, size: u32) -> Indices
+    pub fn indices_in(&self, size: u64) -> Indices
         ensures order { result.lo ≤ result.hi }
         ensures inside { result.hi ≤ size }
-        ensures same { (xs : List ℤ) → length xs ≡ size → slice_range xs result.lo result.hi ≡ span_of self.now xs }
+        ensures same { (first : ℕ) (xs : List ℤ) → first + length xs ≡ size → slice_range xs (result.lo - first) (result.hi - first) ≡ span_from first self.now xs }
     {
-        let end = u64::from(size);
         match *self {
             Span::Between { lo, hi } => {
-                let hi = hi.min(end);
-                Indices {
-                    lo: lo.min(hi) as u32,
-                    hi: hi as u32,
-                }
+                let hi = hi.min(size);
+                Indices { lo: lo.min(hi), hi }
             }
             Span::Last(count) => Indices {
-                lo: (end - count.min(end)) as u32,
+                lo: size - count.min(size),
                 hi: size,
             },
         }

@@ -6,45 +6,14 @@ ghost use Rattle.lv_standing.specs.QuerySets.{with_answers, with_query};
 ghost use Rattle.lv_script.specs.Inside.{AreNotesDue, brought_up};
 ghost use Rattle.lv_standing.specs.Queries.{query_refusal};
 ghost use Rattle.lv_script.specs.PlainSeriesScript.{long_answer};
-ghost use Rattle.lv_script.specs.Values.{ChangesTrees, without_trees};
+ghost use Rattle.lv_script.specs.Values.{without_trees};
 
-use crate::series_scripts::values::value_of;
+use crate::asked_series::AskedSeries;
+use crate::series_scripts::values::prepare;
 use lv_bodies::Shown;
 use lv_geometry::Refusal;
 use lv_series::Series;
-use lv_standing::{Answers, Note, Query, QuerySet};
-
-// A series that is asked by the queries of a set.
-#[derive(Drop)]
-struct AskedSeries<'s> {
-    series: &'s mut Series,
-}
-
-impl Answers<Query> for AskedSeries<'_> {
-    ghost use Rattle.std.proofs.Common.{◌≡◌, ◌∙◌, ap, refl};
-    ghost use Rattle.lv_bodies.specs.Plain.{program_table};
-    ghost use Rattle.lv_script.specs.PlainSeriesScript.{long_answer};
-    ghost use Rattle.lv_script.specs.Values.{without_trees};
-
-    ghost may_ask = { λ s. s.series.now.table ≡ program_table };
-
-    ghost answer_of = { λ s q. long_answer s.series.now.held q };
-
-    // Only trees have changed, and the series is in its place.
-    ghost same = { λ a b. (without_trees b.series.now ≡ without_trees a.series.now) × (b.series.ghost_name ≡ a.series.ghost_name) };
-
-    ghost same_at_once = { λ a. (refl, refl) };
-
-    ghost same_after_both = { λ a b c first second. (second.0 ∙ first.0, second.1 ∙ first.1) };
-
-    ghost may_ask_on = { λ a b same table. ap (λ s. s.table) same.0 ∙ table };
-
-    ghost answers_alike = { λ a b q same. ap (λ s. long_answer s.held q) same.0 };
-
-    fn answer(&mut self, query: &Query) -> Shown {
-        value_of(self.series, query.kind, query.span)
-    }
-}
+use lv_standing::{Asks, Note, Query, QuerySet};
 
 /// Registers a query, which counts as told what it answers now, and makes room for a note of it. Refused with `BadRange`, `NameTaken`,
 /// `TooMany`, then `NoMemory`.
@@ -73,8 +42,27 @@ pub fn register(
     let Ok(()) = notes.reserve(queries.queries().len() + 1) else {
         return Err(Refusal::NoMemory);
     };
-    let told = value_of(series, query.kind, query.span);
+    let told = prepared_answer(series, query);
     queries.watch(query, told)
+}
+
+// What a query answers. The kind's tree is made first, where there is memory for it.
+fn prepared_answer(series: &mut Series, query: &Query) -> Shown
+    requires table { series.old.table ≡ program_table }
+    ensures value { result ≡ long_answer series.old.held query.now }
+    ensures same { without_trees series.new ≡ without_trees series.old }
+{
+    prepare(series, query.kind);
+    answer(series, query)
+}
+
+// The same by the trees that there are.
+fn answer(series: &Series, query: &Query) -> Shown
+    requires { series.now.table ≡ program_table }
+    ensures { result ≡ long_answer series.now.held query.now }
+{
+    let mut asked = AskedSeries { series };
+    query.answer_by(&mut asked)
 }
 
 /// Asks all queries once, and lists the notes that are due. What they answer counts as told then.
@@ -92,11 +80,29 @@ pub fn tell(series: &mut Series, queries: &mut QuerySet<Query>, notes: &mut Vec<
     queries.mark_told();
 }
 
-// Asks all queries once.
+// Asks all queries once. The trees of their kinds are made first, where there is memory for them.
 fn ask_all(series: &mut Series, queries: &mut QuerySet<Query>)
     requires table { series.old.table ≡ program_table }
     ensures answers { queries.new ≡ with_answers queries.old (map (long_answer series.old.held) queries.old.queries) }
-    ensures same { ChangesTrees series.old series.new }
+    ensures same { without_trees series.new ≡ without_trees series.old }
+{
+    prepare_each(series, queries.queries());
+    ask_prepared(series, queries);
+}
+
+// Makes the trees of the queries' kinds.
+fn prepare_each(series: &mut Series, queries: &[Query])
+    ensures { without_trees series.new ≡ without_trees series.old }
+{
+    for query in queries {
+        prepare(series, query.kind);
+    }
+}
+
+// Asks all queries once, by the trees that there are.
+fn ask_prepared(series: &Series, queries: &mut QuerySet<Query>)
+    requires { series.now.table ≡ program_table }
+    ensures { queries.new ≡ with_answers queries.old (map (long_answer series.now.held) queries.old.queries) }
 {
     let mut asked = AskedSeries { series };
     queries.ask(&mut asked);

@@ -15,7 +15,7 @@ returns-then-inclusive g c b xs fits elements small before after =
     let front = take (i + 1) xs in
     let some : true ≡ nat_lt 0 (length front) = sym (lt-ltb 0 (length front) (omega (arith, small, length-take (i + 1) xs))) in
     rw c.if-inclusive.true
-    (c.shown.ensures ∙ ap shown_of (c.tell.ensures b program_table front fits (All-take IsElement (i + 1) xs elements) some after) ∙ shown_is_plain g.K.OfKind.told_kind front)
+    (c.shown.ensures ∙ ap shown_of (c.tell.ensures b program_table front fits (All-take IsElement (i + 1) xs elements) some after) ∙ shown_is_plain program_table g.K.OfKind.told_kind front)
 
 pub returns-else-inclusive : goal.returns-else-inclusive
 returns-else-inclusive g c b xs fits elements small before after =
@@ -24,4 +24,4 @@ returns-else-inclusive g c b xs fits elements small before after =
     let count : length front ≡ i = omega (arith, small, length-take i xs) in
     let some : nat_lt 0 i ≡ nat_lt 0 (length front) = ap (nat_lt 0) (sym count) in
     rw c.if-inclusive.false
-    (c.shown-else-inclusive.ensures ∙ ap shown_of (c.tell-else-inclusive.ensures b program_table front fits (All-take IsElement i xs elements) some before) ∙ shown_is_plain g.K.OfKind.told_kind front)
+    (c.shown-else-inclusive.ensures ∙ ap shown_of (c.tell-else-inclusive.ensures b program_table front fits (All-take IsElement i xs elements) some before) ∙ shown_is_plain program_table g.K.OfKind.told_kind front)

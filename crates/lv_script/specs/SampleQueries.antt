@@ -1,0 +1,42 @@
+-- What queries ask of a series and of samples, and what they are answered.
+use Rattle.std.specs.Prelude.{ℕ, ℤ, Bool, false, Option, List, is_some, length}
+use Rattle.lv_geometry.specs.declared.refusals.Refusal.{Refusal}
+use Rattle.lv_bodies.specs.declared.kinds.Shown.{Shown}
+use Rattle.lv_bodies.specs.Plain.{plain_value_with, program_table}
+use Rattle.lv_series.specs.Samples.{SamplesState, is_among_last, newest_of, plain_samples, values_in}
+use Rattle.lv_series.specs.Series.{SeriesState}
+use Rattle.lv_series.specs.declared.sample_edits.SampleEdit.{SampleEdit}
+use Rattle.lv_standing.specs.Askable.{AskableState, span_from}
+use Rattle.lv_standing.specs.Queries.{is_backwards as is_span_backwards}
+use Rattle.lv_standing.specs.QuerySets.{place_of, refusal_by}
+use Rattle.lv_script.specs.declared.sample_queries.SampleQuery.{SampleQuery}
+use Rattle.lv_script.specs.declared.sample_queries.SampleSpan.{SampleSpan}
+use Rattle.lv_script.specs.declared.sample_queries.SampleSpan.TheVariants.{Among, Within}
+
+-- what a series is asked about: what it keeps
+abbrev pub asked_series : SeriesState → AskableState
+asked_series s = record { table = s.table; first = s.held.first; elements = s.held.elements; edit = s.edits }
+
+-- the values of the samples in a span: those under the indices of a range, or the last so many, as many of them as are kept; or those
+-- whose times are above the newest one less so much time
+abbrev pub values_of : SamplesState → SampleSpan → List ℤ
+values_of s (Among span) = span_from s.series.held.first span s.series.held.elements
+values_of s (Within time) = values_in s (is_among_last (newest_of s.times) time)
+
+-- what a query answers by samples: the plain value of the values in its span
+abbrev pub sample_answer : SamplesState → SampleQuery → Shown
+sample_answer s q = plain_value_with s.series.table q.kind (values_of s q.span)
+
+-- so after some edits of no samples, by the program's automaton
+abbrev pub sample_answer_after : List SampleEdit → SampleQuery → Shown
+sample_answer_after edits q = sample_answer (plain_samples program_table edits) q
+
+-- whether a span is a range of indices whose end is before its start
+abbrev pub is_backwards : SampleSpan → Bool
+is_backwards (Among span) = is_span_backwards span
+is_backwards (Within time) = false
+
+-- why a query is refused among others, of which so many are allowed, out of memory apart: its range is backwards, or its name is taken, or
+-- there are as many as are allowed
+abbrev pub sample_query_refusal : ℕ → List SampleQuery → SampleQuery → Option Refusal
+sample_query_refusal most queries q = refusal_by (is_backwards q.span) (is_some (place_of (λ other. other.name) queries q.name)) (length queries) most
