@@ -3,7 +3,7 @@
 use crate::escaped::Escaped;
 use lv_script::Fault;
 use lv_server::{Clash, Failure, FaultPlace};
-use lv_watchers::Damage;
+use lv_hub::Damage;
 use std::fmt;
 
 /// A failure, with the files that the command line names.

@@ -1,15 +1,20 @@
 -- Names the files of lemmas of `lv_hub`.
 mod AcceptedLaws
 mod AsScriptsLaws
+mod AskingLaws
 mod LogLaws
+mod NoticeLaws
+pub mod Noticed
 mod OrderLaws
 mod PermitLaws
 pub mod PlainSessionLaws
 mod PrefixLaws
+mod RefusedQuestions
 mod SessionLaws
 mod StepLaws
 mod StretchLaws
 mod SubscriberLaws
 mod ToldLaws
 pub mod TruthLaws
+pub mod WatchedLaws
 mod WorkLaws

@@ -30,12 +30,8 @@ use Rattle.lv_hub.specs.Replying.{ListsAnswer, SessionCommandAnswer, SessionLine
 use Rattle.lv_hub.specs.Session.{IsWithin, Lists, SessionState, SessionStep, kept_by}
 use Rattle.lv_hub.specs.PlainSession.{FindsNoMemory, IsTrueReply, PlainSessionStep, Seen, TrueReply, known_of, refusal_after, reply_after, seen_after, session_line_of, session_reply}
 use Rattle.lv_hub.specs.Told.{EditTold, StretchTold, ValueTold}
-use Rattle.lv_hub.proofs.PrefixLaws.{prefix_length, prefix_self, prefix_trans}
+use Rattle.lv_hub.proofs.PrefixLaws.{prefix_length, prefix_self, prefix_take, prefix_trans}
 use Rattle.lv_hub.proofs.TruthLaws.{edit_lists_nothing}
-
--- a list has its beginning as its first elements
-prefix_take : (xs ys : List Edit) → IsPrefix xs ys → take (length xs) ys ≡ xs
-prefix_take xs ys more = ap (take (length xs)) (sym more.1) ∙ take-append-le (length xs) xs more.0 (omega arith) ∙ take_all (length xs) xs (omega arith)
 
 module _ (limits : Bounds) where
   -- one line, by what it says, where the hub had come to some edits

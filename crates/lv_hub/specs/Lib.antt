@@ -1,11 +1,15 @@
 -- Names the files of definitions of `lv_hub`.
 pub mod AsScripts
+pub mod Asking
 pub mod Counting
 pub mod Growing
 pub mod Logging
 pub mod Notes
+pub mod Noticing
 pub mod PlainSession
 pub mod Replying
 pub mod Session
 pub mod Told
+pub mod Watched
+pub mod Watchers
 pub mod Work

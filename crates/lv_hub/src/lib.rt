@@ -7,7 +7,9 @@
 //!
 //! Workers claim jobs and deliver their outcomes; they compute with no lock held. Those that attend sleep where no node wants a
 //! job, until an edit wakes them or they are dismissed. A session answers the lines of a script so, and a log takes up what comes of
-//! them, or nothing does. A subscriber is told of the edits that change the answers to its questions. It does not say that a thread gets on, nor in which order.
+//! them, or nothing does. A subscriber is told of the edits that change the answers to its questions. A watcher is
+//! a subscriber with what writes the lines of that: it runs until the workers are dismissed, and what it leaves tells the last by the vector
+//! of the hub that was closed. `read_questions` reads what the lines of its file ask. It does not say that a thread gets on, nor in which order.
 #![tactic(auto)]
 
 mod answering;
@@ -19,9 +21,12 @@ mod gates;
 mod histories;
 mod hubs;
 mod laws;
+mod leaving;
 mod log_entry;
 mod naming;
+mod notices;
 mod operation_log;
+mod questions;
 mod replying;
 mod session_logs;
 mod sessions;
@@ -30,6 +35,7 @@ mod sleeping;
 mod subscribers;
 mod tap;
 mod told;
+mod watchers;
 mod worked;
 mod workers;
 
@@ -39,16 +45,20 @@ pub use ended::Ended;
 pub use gates::{Gate, OpenGate};
 pub use histories::{HistoryPrefix, Opened};
 pub use hubs::Hub;
-pub use laws::replies_are_true_of_one_list;
+pub use laws::{lines_are_plain_answers_of_one_list, replies_are_true_of_one_list};
+pub use leaving::{Leaving, Left, Watched, leave_all};
 pub use log_entry::LogEntry;
 pub use lv_standing::Query;
 pub use naming::{Naming, WithBody};
+pub use notices::Notices;
 pub use operation_log::{Begun, OperationLog};
+pub use questions::{Damage, Unasked, read_questions};
 pub use replying::SessionPlace;
 pub use session_logs::{NoLog, SessionLog};
 pub use sessions::{in_order, run_session};
 pub use shares::Share;
 pub use subscribers::{MOST_QUERIES, Subscriber};
 pub use told::Told;
+pub use watchers::{Watch, Watcher, subscribe_all};
 pub use worked::Worked;
 pub use workers::work;

@@ -9,8 +9,8 @@ use Rattle.lv_lines.specs.declared.fault.Fault.{Fault}
 use Rattle.lv_transcript.specs.declared.claimed.Claimed.{Claimed}
 use Rattle.lv_hub.proofs.TruthLaws.{all_true_of_more}
 use Rattle.lv_hub.specs.Counting.{ShareState}
-use Rattle.lv_watchers.specs.Noticing.{NoticesState, WatcherState}
-use Rattle.lv_watchers.specs.Watchers.{AllTellLast, AreWatchedFrom, ClosesTelling, LeftState, TakesWatchers, left_by}
+use Rattle.lv_hub.specs.Noticing.{NoticesState, WatcherState}
+use Rattle.lv_hub.specs.Watchers.{AllTellLast, AreWatchedFrom, ClosesTelling, LeftState, TakesWatchers, left_by}
 use Rattle.lv_server.specs.Served.{Sides}
 use Rattle.lv_server.specs.Tasks.{AreAllHeld}
 use Rattle.lv_server.specs.Writing.{Writes}

@@ -8,9 +8,8 @@ use crate::files::{
 };
 use crate::names::{Names, REPLIES, first_clash};
 use lv_geometry::Refusal;
-use lv_hub::Query;
+use lv_hub::{Damage, Query, Unasked, read_questions};
 use lv_script::Fault;
-use lv_watchers::{Damage, Unasked, read_questions};
 use std::alloc::Global;
 use std::fs::{Files, OpenFile, remove_file};
 use std::io::Read;

@@ -2,19 +2,18 @@
 
 ghost use Rattle.std.specs.Prelude.{◌≡◌, ◌+◌, ◌<◌, ◌≤◌, ℕ, All, HoldsAt, IfErr, IfOk, List, OnOk, [], false, length, map, take, true, vec_capacity, vec_len};
 ghost use Rattle.lv_transcript.specs.Joined.{in_a_row};
-ghost use Rattle.lv_watchers.specs.Watched.{WatchState};
-ghost use Rattle.lv_watchers.specs.Watchers.{watcher_at};
+ghost use Rattle.lv_hub.specs.Watched.{WatchState};
+ghost use Rattle.lv_hub.specs.Watchers.{watcher_at};
 ghost use Rattle.lv_server.specs.Served.{Sides};
 ghost use Rattle.lv_server.specs.Tasks.{TakesBack, begun_at};
 ghost use Rattle.lv_transcript.specs.Transcribing.{IsUnused};
 
 use crate::failure::{Failure, FaultPlace};
 use lv_bodies::Six;
-use lv_hub::{Query, Share, WithBody};
+use lv_hub::{Leaving, Query, Share, Watch, Watched, Watcher, WithBody, subscribe_all};
 use lv_lines::HELD;
 use lv_script::Fault;
 use lv_transcript::{Queue, TranscriptWriter};
-use lv_watchers::{Leaving, Watch, Watched, Watcher, subscribe_all};
 use std::alloc::{AllocError, Global};
 use std::io::{Read, Write};
 use std::marker::Model;

@@ -4,7 +4,7 @@ ghost use Rattle.std.specs.Prelude.{◌≡◌, ◌≢◌};
 
 use lv_geometry::Refusal;
 use lv_script::Fault;
-use lv_watchers::Damage;
+use lv_hub::Damage;
 
 /// Why files can't be served together.
 #[derive(Clone, Copy)]

@@ -1,18 +1,15 @@
 //! The threads of a server: a session in each, with workers and subscribers beside them.
 
 ghost use Rattle.lv_server.specs.Tasks.{AreHeldFrom, IsHeldOnce};
-ghost use Rattle.lv_watchers.specs.Watchers.{AreWatchedFrom};
+ghost use Rattle.lv_hub.specs.Watchers.{AreWatchedFrom};
 
 use crate::clients::Task;
 use crate::failure::{Failure, FaultPlace};
 use crate::server::Plan;
 use lv_bodies::Six;
-use lv_hub::{
-    Begun, Hub, OpenGate, OperationLog, SessionLog, SessionPlace, WithBody, attend, run_session,
-};
+use lv_hub::{Begun, Hub, OpenGate, OperationLog, SessionLog, SessionPlace, Watcher, WithBody, attend, run_session};
 use lv_script::Fault;
 use lv_transcript::Queue;
-use lv_watchers::Watcher;
 use std::alloc::Global;
 use std::io::{Read, Write};
 use std::sync::{Mutex, Wait};

@@ -1,7 +1,7 @@
 -- Proof of `serve_all`: serves them on a hub, and gathers what they leave: the reductions in the order of the sessions, and what subscribers were told.
 use Rattle.std.proofs.Common.{◌∙◌, ap, arith, subst, sym, vec_capacity}
 use Rattle.lv_transcript.specs.Transcribing.{IsUnused}
-use Rattle.lv_watchers.proofs.WatchedLaws.{all_left, watched_as_many}
+use Rattle.lv_hub.proofs.WatchedLaws.{all_left, watched_as_many}
 use Rattle.lv_server.proofs.BesideLaws.{held_more, taken_as_many}
 use Rattle.lv_server.proofs.ServedLaws.{all_held_by, begun_as_many}
 use Rattle.lv_server.proofs.server.serve_all.Goals as goal

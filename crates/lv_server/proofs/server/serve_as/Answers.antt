@@ -1,6 +1,6 @@
 -- Proof of `serve_as`: serves them on a hub of this name.
 use Rattle.std.proofs.Common.{◌∙◌}
-use Rattle.lv_watchers.proofs.WatchedLaws.{served_watched}
+use Rattle.lv_hub.proofs.WatchedLaws.{served_watched}
 use Rattle.lv_server.proofs.RecordingLaws.{passes_all, passes_ill, passes_well}
 use Rattle.lv_server.proofs.ServedLaws.{failed_so, served_so}
 use Rattle.lv_server.proofs.server.serve_as.Goals as goal

@@ -1,0 +1,6 @@
+-- Proof of `lines_are_plain_answers_of_one_list`: subscribers that began with `subscribe_all`, ran, were taken back by `leave_all` and told the last, have lines of one list of edits.
+use Rattle.lv_hub.proofs.WatchedLaws.{watched_of_one_list}
+use Rattle.lv_hub.proofs.laws.lines_are_plain_answers_of_one_list.Goals as goal
+
+pub returns : goal.returns
+returns c = λ limits old new edits watches watchers left told. watched_of_one_list limits old new edits watches watchers left told

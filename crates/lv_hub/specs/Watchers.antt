@@ -1,0 +1,71 @@
+-- Subscribers beside sessions, before and after.
+use Rattle.std.specs.Prelude.{⊤, ◌≡◌, ℕ, ◌+◌, ◌<◌, false, Option, List, [], ◌∷◌, All, length, map, slice_index_or}
+use Rattle.std.specs.Io.KnownBytes.{Appends}
+use mathlib.Core.List.{IsPrefix}
+use Rattle.lv_geometry.specs.Bounds.{Bounds}
+use Rattle.lv_edits.specs.declared.edit.Edit.{Edit}
+use Rattle.lv_transcript.specs.declared.claimed.Claimed.{Claimed}
+use Rattle.lv_transcript.specs.Transcript.{transcript_text}
+use Rattle.lv_hub.specs.declared.told.Told.{Told}
+use Rattle.lv_hub.specs.Counting.{ShareState}
+use Rattle.lv_standing.specs.Queries.{AreNotesOf, watch_answer}
+use Rattle.lv_hub.specs.Notes.{EndedState}
+use Rattle.lv_hub.specs.Noticing.{NoticesState, WatcherState, Watches, WritesMore, told_text}
+use Rattle.lv_hub.specs.Watched.{ToldOf, WatchState}
+
+-- a subscriber that has one part of a hub, and has seen and told nothing
+abbrev pub watcher_at : WatchState → WatcherState
+watcher_at watch = record {
+  subscriber = record { share = record { parts = 1; count = 0; seen = [] }; questions = watch.questions; told = map (watch_answer []) watch.questions };
+  notices = record { contents = watch.contents; failed = false };
+}
+
+-- each of several was told of a hub with these limits
+pub record AreWatchedFrom (limits : Bounds) (old new : List WatcherState) : Type 0 where
+  pub len : length new ≡ length old
+  pub each : (i : ℕ) (o : WatcherState) (n : WatcherState) → i < length old → Watches limits (slice_index_or old i o) (slice_index_or new i n)
+
+-- one that has ended, and what writes its lines
+pub record LeftState : Type 0 where
+  pub ended : EndedState
+  pub notices : NoticesState
+
+-- what a subscriber leaves
+abbrev pub left_by : WatcherState → LeftState
+left_by w = record { ended = record { questions = w.subscriber.questions; told = w.subscriber.told }; notices = w.notices }
+
+-- a share took those of subscribers in. It has seen what each of them had, and counts what it did
+pub record TakesWatchers (old new : ShareState) (watchers : List WatcherState) (left : List LeftState) : Type 0 where
+  pub parts : new.parts ≡ old.parts + length watchers
+  pub count : new.count ≡ old.count
+  pub more : IsPrefix old.seen new.seen
+  pub seen : All (λ w. IsPrefix w.subscriber.share.seen new.seen) watchers
+  pub left_are : left ≡ map left_by watchers
+
+-- what each has left was told of every list of edits that goes on from what was seen
+abbrev pub AreLeft : List Edit → List WatchState → List LeftState → Type 0
+AreLeft seen [] [] = ⊤
+AreLeft seen (watch ∷ watches) (l ∷ left) =
+    (l.ended.questions ≡ watch.questions) × ((edits : List Edit) → IsPrefix seen edits → ToldOf edits watch l.ended.told l.notices) × AreLeft seen watches left
+AreLeft seen _ _ = ⊥
+
+-- one tells what there is to tell at the end of a list of edits, unless a write has failed
+pub record TellsLast (edits : List Edit) (old : LeftState) (new : NoticesState) : Type 0 where
+  pub told : Told
+  pub edit : told.edit ≡ length edits
+  pub notes : AreNotesOf old.ended.questions old.ended.told (map (watch_answer edits) old.ended.questions) told.notes.items
+  pub written : WritesMore (told_text told) old.notices new
+
+-- so does each of several
+abbrev pub AllTellLast : List Edit → List LeftState → List NoticesState → Type 0
+AllTellLast edits [] [] = ⊤
+AllTellLast edits (old ∷ olds) (new ∷ news) = TellsLast edits old new × AllTellLast edits olds news
+AllTellLast edits _ _ = ⊥
+
+-- a hub was closed by a share: its transcript was written, and the last was told
+pub record ClosesTelling (share : ShareState) (left : List LeftState) (told : List NoticesState) (contents_old contents_new : Option (List ℕ)) : Type 0 where
+  pub journal : List Edit
+  pub seen : IsPrefix share.seen journal
+  pub last : AllTellLast journal left told
+  pub answers : List Claimed
+  pub written : Appends contents_old contents_new (transcript_text journal answers)

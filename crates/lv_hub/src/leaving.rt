@@ -1,0 +1,126 @@
+//! Subscribers that have ended, and what they tell last.
+
+ghost use Rattle.std.specs.Prelude.{◌≡◌, ◌≤◌, IfOk, [], map, vec_capacity, vec_len};
+ghost use Rattle.lv_edits.specs.Kept.{IsLegalInLimits};
+ghost use Rattle.lv_live.specs.State.{SameLive};
+ghost use Rattle.lv_hub.specs.Watchers.{AllTellLast, TakesWatchers, TellsLast};
+
+use crate::ended::Ended;
+use crate::naming::WithBody;
+use crate::notices::Notices;
+use crate::shares::Share;
+use crate::watchers::Watcher;
+use lv_bodies::Six;
+use lv_live::Live;
+use std::alloc::{AllocError, Global};
+use std::io::Write;
+use std::marker::Model;
+
+/// A subscriber that has ended, and what writes its lines.
+#[derive(Drop)]
+pub struct Left<F: Write + Drop> {
+    number: usize,
+    ended: Ended,
+    notices: Notices<F>,
+}
+
+impl<F: Write + Drop> Model for Left<F> {
+    ghost use Rattle.lv_hub.specs.Watchers.{LeftState};
+
+    ghost Value = { LeftState };
+
+    ghost view = { λ l. record { ended = l.ended; notices = l.notices } };
+}
+
+/// A subscriber whose last notes were told, as far as they could be written.
+#[derive(Drop)]
+pub struct Watched<F: Write + Drop> {
+    /// The number that the caller knows it by.
+    pub number: usize,
+    /// What wrote its lines.
+    pub notices: Notices<F>,
+}
+
+impl<F: Write + Drop> Left<F> {
+    /// What a subscriber leaves.
+    pub fn new(number: usize, ended: Ended, notices: Notices<F>) -> Left<F>
+        ensures { result ≡ record { ended = ended; notices = notices } }
+    {
+        Left {
+            number,
+            ended,
+            notices,
+        }
+    }
+
+    /// Tells the last, by the vector of the hub that was closed, unless that isn't recorded. Takes no memory.
+    pub fn tell(self, live: &mut Live<Six>, is_recorded: bool) -> Watched<F>
+        requires { IsLegalInLimits live.old.history }
+        ensures last { TellsLast live.old.history.journal self result.notices }
+        ensures same { SameLive live.old live.new }
+    {
+        let Left {
+            number,
+            ended,
+            mut notices,
+        } = self;
+        notices.tell(&ended.tell(live), is_recorded);
+        Watched { number, notices }
+    }
+}
+
+/// Subscribers that have ended, and room for what they become.
+#[derive(Drop)]
+pub struct Leaving<F: Write + Drop> {
+    pub left: Vec<Left<F>>,
+    pub watched: Vec<Watched<F>>,
+}
+
+impl<F: Write + Drop> Leaving<F> {
+    /// None yet, and room for so many, so that their end needs no memory.
+    pub fn with_room(alloc: Global, watches: usize) -> Result<Leaving<F>, AllocError>
+        ensures none { IfOk result (λ all. (all.left.items ≡ []) × (all.watched.items ≡ [])) }
+        ensures left_room { IfOk result (λ all. watches ≤ vec_capacity all.left) }
+        ensures room { IfOk result (λ all. watches ≤ vec_capacity all.watched) }
+    {
+        Ok(Leaving {
+            left: Vec::with_capacity(alloc, watches)?,
+            watched: Vec::with_capacity(alloc, watches)?,
+        })
+    }
+
+    /// Has each tell the last, in order, by the vector of the hub that was closed, unless that isn't recorded. Takes no memory.
+    pub fn tell(self, live: &mut Live<Six>, is_recorded: bool) -> Vec<Watched<F>>
+        requires legal { IsLegalInLimits live.old.history }
+        requires none { self.watched.items ≡ [] }
+        requires room { vec_len self.left ≤ vec_capacity self.watched }
+        ensures last { AllTellLast live.old.history.journal self.left.items (map (λ w. w.notices) result.items) }
+        ensures same { SameLive live.old live.new }
+    {
+        let Leaving { left, mut watched } = self;
+        for one in left {
+            watched.push_reserved(one.tell(live, is_recorded));
+        }
+        watched
+    }
+}
+
+/// Takes the parts of subscribers back, and gathers what they leave, where nothing is gathered yet. Takes no memory.
+pub fn leave_all<N: WithBody<Six>, F: Write + Drop>(
+    room: Leaving<F>,
+    share: &mut Share<N>,
+    watchers: Vec<Watcher<N, F>>,
+) -> Leaving<F>
+    requires none { room.left.items ≡ [] }
+    requires room { vec_len watchers ≤ vec_capacity room.left }
+    ensures left { TakesWatchers share.old share.new watchers.items result.left.items }
+    ensures room { result.watched ≡ room.watched }
+{
+    let Leaving { mut left, watched } = room;
+    for watcher in watchers {
+        let (part, one) = watcher.end();
+        share.join(part);
+        left.push_reserved(one);
+    }
+    Leaving { left, watched }
+}

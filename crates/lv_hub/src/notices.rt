@@ -1,0 +1,122 @@
+//! The lines of what a subscriber is told.
+
+ghost use Rattle.std.specs.Prelude.{◌≡◌, [], false, true, IfErr, IfOk, OnOk, vec_capacity};
+ghost use Rattle.lv_lines.specs.Output.{Puts, PutsFront, SamePlaces};
+ghost use Rattle.lv_lines.specs.Texts.{named_text};
+ghost use Rattle.lv_hub.specs.Noticing.{WritesMore, notes_at, told_text};
+
+use crate::told::Told;
+use lv_lines::{Fault, HELD, LINE, ReplyBuffer, put_named};
+use lv_standing::Note;
+use std::alloc::{AllocError, Global};
+use std::io::Write;
+use std::marker::Model;
+
+/// What writes the lines of what a subscriber is told, `at E NAME VALUE`, as it comes and whole. A write that fails is its last: what
+/// it has written is a front of the lines then.
+#[derive(Drop)]
+pub struct Notices<F: Write + Drop> {
+    writer: F,
+    held: Vec<u8>,
+    failed: bool,
+}
+
+impl<F: Write + Drop> Model for Notices<F> {
+    ghost use Rattle.std.specs.Prelude.{◌≡◌, ◌≤◌, [], vec_capacity};
+    ghost use Rattle.lv_lines.specs.declared.output.TheConstants.{HELD};
+    ghost use Rattle.lv_hub.specs.Noticing.{NoticesState};
+
+    ghost Value = { NoticesState };
+
+    ghost view = { λ n. record { contents = F.contents n.writer; failed = n.failed } };
+
+    ghost invariant = { λ n. (n.held.items ≡ []) × (HELD ≤ vec_capacity n.held) };
+}
+
+impl<F: Write + Drop> Notices<F> {
+    /// What has written nothing yet. All memory that it needs is taken here.
+    pub fn new(alloc: Global, writer: F) -> Result<Notices<F>, AllocError>
+        ensures { IfOk result (λ n. n ≡ record { contents = F.contents writer; failed = false }) }
+    {
+        Ok(Notices {
+            held: Vec::with_capacity(alloc, HELD)?,
+            writer,
+            failed: false,
+        })
+    }
+
+    /// Writes the lines of what was told, unless a write has failed. Where it isn't recorded that it is so, it counts as such.
+    pub fn tell(&mut self, told: &Told, is_recorded: bool)
+        ensures { WritesMore (told_text told.now) self.old self.new }
+    {
+        if self.failed {
+            return;
+        }
+        if !is_recorded {
+            fail(&mut self.held, &mut self.failed);
+            return;
+        }
+        let mut buffer = ReplyBuffer {
+            writer: &mut self.writer,
+            held: &mut self.held,
+        };
+        match write_told(told, &mut buffer) {
+            Ok(()) => {}
+            Err(_) => fail(&mut self.held, &mut self.failed),
+        }
+    }
+
+    /// Whether a write has failed.
+    pub fn has_failed(&self) -> bool
+        ensures { result ≡ self.now.failed }
+    {
+        self.failed
+    }
+}
+
+// Drops what is held, and tells that a write has failed.
+fn fail(held: &mut Vec<u8>, failed: &mut bool)
+    ensures failed { failed.new ≡ true }
+    ensures empty { held.new.items ≡ [] }
+    ensures room { vec_capacity held.new ≡ vec_capacity held.old }
+{
+    held.clear();
+    *failed = true;
+}
+
+// Writes the lines of what was told.
+fn write_told<W: Write>(told: &Told, buffer: &mut ReplyBuffer<'_, W>) -> Result<(), Fault>
+    ensures places { SamePlaces buffer.old buffer.new }
+    ensures ok { OnOk result ((buffer.new.held.now.items ≡ []) × Puts W.contents buffer.old buffer.new (told_text told.now)) }
+    ensures fault { IfErr result (λ fault. PutsFront W.contents buffer.old buffer.new (told_text told.now)) }
+{
+    put_all(told.edit, &told.notes, buffer)?;
+    buffer.send()
+}
+
+// Puts the lines of notes at an edit.
+fn put_all<W: Write>(
+    edit: u32,
+    notes: &[Note],
+    buffer: &mut ReplyBuffer<'_, W>,
+) -> Result<(), Fault>
+    ensures places { SamePlaces buffer.old buffer.new }
+    ensures ok { OnOk result (Puts W.contents buffer.old buffer.new (notes_at edit notes.now)) }
+    ensures fault { IfErr result (λ fault. PutsFront W.contents buffer.old buffer.new (notes_at edit notes.now)) }
+{
+    for note in notes {
+        put_one(edit, note, buffer)?;
+    }
+    Ok(())
+}
+
+// Puts the line of a note at an edit.
+fn put_one<W: Write>(edit: u32, note: &Note, buffer: &mut ReplyBuffer<'_, W>) -> Result<(), Fault>
+    ensures places { SamePlaces buffer.old buffer.new }
+    ensures ok { OnOk result (Puts W.contents buffer.old buffer.new (named_text edit note.now.name note.now.value)) }
+    ensures fault { IfErr result (λ fault. PutsFront W.contents buffer.old buffer.new []) }
+{
+    buffer.make_room(LINE)?;
+    put_named(buffer.held, edit.into(), note.name, note.value);
+    Ok(())
+}

@@ -1,0 +1,161 @@
+//! The file of a subscriber: what its lines ask.
+
+ghost use Rattle.std.specs.Prelude.{◌≡◌, ◌∷◌, None, Some};
+ghost use Rattle.lv_lines.specs.Words.{words_of};
+ghost use Rattle.lv_hub.specs.Asking.{Asks, Finds, ReadsQuestions, TakesUnless, asked_in};
+
+use crate::subscribers::MOST_QUERIES;
+use lv_geometry::Refusal;
+use lv_lines::grammar::spells;
+use lv_lines::{Fault, Line, LineGrammar, LineHandler, ReplyBuffer, read_line_by, serve_lines};
+use lv_script::read_query;
+use lv_standing::{Query, QuerySet};
+use std::alloc::Global;
+use std::io;
+use std::io::{Read, Write};
+use std::marker::Model;
+
+/// What is wrong with a line of such a file.
+#[derive(Clone, Copy, Debug, PartialEq, Eq)]
+pub struct Damage {
+    /// The line's number, from 1.
+    pub line: u32,
+    /// Why its question is refused; none where the line asks no question.
+    pub refusal: Option<Refusal>,
+}
+
+/// Why it isn't known what a file asks.
+#[derive(Clone, Copy)]
+pub enum Unasked {
+    /// It can't be read, or memory was wanting.
+    Fault(Fault),
+    /// A line is wrong.
+    Damage(Damage),
+}
+
+/// Reads a file to its end: lines `watch NAME KIND LO HI`, or with `last N` for the range, and maybe with `at-least X` or `at-most X` behind it,
+/// blank ones and comments. Nothing else is kept. A fault of reading comes
+/// before a line that is wrong, of which the first is told: a question is refused with `BadRange`, `NameTaken`, `TooMany`, then
+/// `NoMemory`.
+pub fn read_questions<R: Read>(alloc: Global, reader: &mut R) -> Result<Vec<Query>, Unasked>
+    ensures { ReadsQuestions (R.remaining reader.old) (R.remaining reader.new) result }
+{
+    let mut asker = Asker {
+        queries: QuerySet::new(alloc, MOST_QUERIES),
+        damage: None,
+    };
+    match serve_lines(alloc, &mut asker, reader, &mut io::sink()) {
+        Ok(()) => found(asker),
+        Err(fault) => Err(Unasked::Fault(fault)),
+    }
+}
+
+// How the words of a line of such a file are read.
+#[derive(Clone, Copy)]
+struct WatchGrammar;
+
+impl LineGrammar for WatchGrammar {
+    type Command = Query;
+
+    ghost use Rattle.lv_hub.specs.Asking.{asked_in};
+
+    ghost command_in = { λ _. asked_in };
+
+    fn command(&self, verb: &[u8], words: &[u8]) -> Option<Query> {
+        asked(verb, words)
+    }
+}
+
+// The query that a first word and the words after it ask.
+#[tactic(auto, unfolding(crate::specs::Asking::asked_in))]
+fn asked(verb: &[u8], words: &[u8]) -> Option<Query>
+    ensures { result ≡ asked_in (verb.now ∷ words_of words.now) }
+{
+    if !spells(verb, "watch") {
+        return None;
+    }
+    read_query(words, u64::from(u32::MAX))
+}
+
+// What was read so far.
+#[derive(Drop)]
+struct Asker {
+    queries: QuerySet<Query>,
+    damage: Option<Damage>,
+}
+
+impl Model for Asker {
+    ghost use Rattle.std.specs.Prelude.{◌≡◌};
+    ghost use Rattle.lv_hub.specs.Asking.{Asked};
+
+    ghost Value = { Asked };
+
+    ghost view = { λ a. record { questions = a.queries.queries; damage = a.damage } };
+
+    ghost invariant = { λ a. a.queries.most ≡ 64 };
+}
+
+impl<W: Write> LineHandler<W> for Asker {
+    ghost use Rattle.lv_hub.specs.Asking.{AskStep, Asked};
+
+    ghost State = { Asked };
+
+    ghost state = { λ a. a };
+
+    ghost step = { AskStep };
+
+    fn handle(
+        &mut self,
+        number: u32,
+        line: &[u8],
+        _buffer: &mut ReplyBuffer<'_, W>,
+    ) -> Result<(), Fault> {
+        self.take(number, read_line_by(&WatchGrammar, line));
+        Ok(())
+    }
+}
+
+impl Asker {
+    // Takes a line, unless one before it is wrong.
+    fn take(&mut self, number: u32, line: Line<Query>)
+        ensures { TakesUnless self.old.damage self.old number line self.new }
+    {
+        if self.damage.is_some() {
+            return;
+        }
+        match line {
+            Line::Nothing => {}
+            Line::Bad => self.damage = damage_at(number, None),
+            Line::Do(query) => self.ask(number, &query),
+        }
+    }
+
+    // Takes a question.
+    fn ask(&mut self, number: u32, question: &Query)
+        requires { self.old.damage ≡ None }
+        ensures { Asks self.old.questions number question.now self.new }
+    {
+        match self.queries.watch(question, question.untold()) {
+            Ok(()) => {}
+            Err(refusal) => self.damage = damage_at(number, Some(refusal)),
+        }
+    }
+}
+
+// The questions, or what is wrong.
+fn found(asker: Asker) -> Result<Vec<Query>, Unasked>
+    ensures { Finds asker result }
+{
+    let Asker { queries, damage } = asker;
+    match damage {
+        Some(damage) => Err(Unasked::Damage(damage)),
+        None => Ok(queries.into_queries()),
+    }
+}
+
+// That a line is wrong.
+fn damage_at(line: u32, refusal: Option<Refusal>) -> Option<Damage>
+    ensures { result ≡ Some (record { line = line; refusal = refusal }) }
+{
+    Some(Damage { line, refusal })
+}

@@ -1,0 +1,211 @@
+//! Subscribers beside sessions: what each is told goes to its file.
+
+ghost use Rattle.std.specs.Prelude.{◌≡◌, ◌+◌, ◌≤◌, IfErr, IfOk, None, OnOk, [], map, vec_len};
+ghost use Rattle.lv_hub.specs.Asking.{IsRefusedFor, refusal_behind, refusal_of_all};
+ghost use Rattle.lv_hub.specs.Noticing.{Watches};
+ghost use Rattle.lv_standing.specs.Queries.{watch_answer};
+ghost use Rattle.lv_hub.specs.Watchers.{left_by, watcher_at};
+
+use crate::hubs::Hub;
+use crate::leaving::Left;
+use crate::naming::WithBody;
+use crate::notices::Notices;
+use crate::session_logs::SessionLog;
+use crate::shares::Share;
+use crate::subscribers::Subscriber;
+use lv_bodies::Six;
+use lv_geometry::Refusal;
+use lv_standing::Query;
+use std::alloc::Global;
+use std::io::Write;
+use std::marker::Model;
+use std::sync::Wait;
+
+/// A subscriber that is to be.
+#[derive(Drop)]
+pub struct Watch<F: Drop> {
+    /// A number that the caller knows it by.
+    pub number: usize,
+    /// What it asks.
+    pub questions: Vec<Query>,
+    /// Where its lines go.
+    pub notes: F,
+}
+
+/// A subscriber of a hub with one part of it, and what writes its lines.
+#[derive(Drop)]
+pub struct Watcher<N: WithBody<Six>, F: Write + Drop> {
+    number: usize,
+    subscriber: Subscriber<N>,
+    notices: Notices<F>,
+}
+
+impl<N: WithBody<Six>, F: Write + Drop> Model for Watcher<N, F> {
+    ghost use Rattle.std.specs.Prelude.{◌≡◌};
+    ghost use Rattle.lv_hub.specs.Noticing.{WatcherState};
+
+    ghost Value = { WatcherState };
+
+    ghost view = { λ w. record { subscriber = w.subscriber; notices = w.notices } };
+
+    ghost invariant = { λ w. (w.subscriber.share.parts ≡ 1) × (w.subscriber.share.count ≡ 0) };
+}
+
+impl<N: WithBody<Six>, F: Write + Drop> Watcher<N, F> {
+    /// Has its subscriber told of edits, until the hub's workers are dismissed or a write fails. Each is recorded before it is told. Where
+    /// memory is wanting it looks again after a pause. At the end it looks once more, without sleep.
+    pub fn run<L: SessionLog<N>, R: Wait>(
+        &mut self,
+        rt: &R,
+        alloc: Global,
+        hub: &Hub<Six, N>,
+        log: &L,
+    )
+        ensures { Watches N.limits self.old self.new }
+    {
+        self.turns(rt, alloc, hub, log);
+        self.look(rt, alloc, hub, log);
+    }
+
+    // Has its subscriber told so, turn by turn.
+    #[tactic(auto, using(crate::proofs::Noticed::watches_both))]
+    fn turns<L: SessionLog<N>, R: Wait>(
+        &mut self,
+        rt: &R,
+        alloc: Global,
+        hub: &Hub<Six, N>,
+        log: &L,
+    )
+        ensures { Watches N.limits self.old self.new }
+    {
+        for _ in 0..u64::MAX {
+            if !self.turn(rt, alloc, hub, log) {
+                return;
+            }
+        }
+    }
+
+    // Sleeps until there is an edit to tell of, and tells. Says whether there is another turn.
+    fn turn<L: SessionLog<N>, R: Wait>(
+        &mut self,
+        rt: &R,
+        alloc: Global,
+        hub: &Hub<Six, N>,
+        log: &L,
+    ) -> bool
+        ensures { Watches N.limits self.old self.new }
+    {
+        match self.subscriber.next(rt, alloc, hub) {
+            Ok(Some(told)) => {
+                self.notices.tell(&told, log.record(rt, hub).is_ok());
+                !self.notices.has_failed()
+            }
+            Ok(None) => false,
+            Err(_) => true,
+        }
+    }
+
+    // Tells what there is to tell, unless a write has failed.
+    fn look<L: SessionLog<N>, R: Wait>(&mut self, rt: &R, alloc: Global, hub: &Hub<Six, N>, log: &L)
+        ensures { Watches N.limits self.old self.new }
+    {
+        if self.notices.has_failed() {
+            return;
+        }
+        match self.subscriber.look(rt, alloc, hub) {
+            Ok(Some(told)) => self.notices.tell(&told, log.record(rt, hub).is_ok()),
+            Ok(None) | Err(_) => {}
+        }
+    }
+
+    /// Its part of the hub, and what it leaves.
+    pub fn end(self) -> (Share<N>, Left<F>)
+        ensures share { result.0 ≡ self.subscriber.share }
+        ensures part { result.0.parts ≡ 1 }
+        ensures count { result.0.count ≡ 0 }
+        ensures left { result.1 ≡ left_by self }
+    {
+        let Watcher {
+            number,
+            subscriber,
+            notices,
+        } = self;
+        let (share, ended) = subscriber.end();
+        (share, Left::new(number, ended, notices))
+    }
+}
+
+// A subscriber with a share, which asks its questions. Refused as they are, and with `NoMemory`.
+#[tactic(auto, using(crate::proofs::Noticed::subscribed))]
+fn subscribe<N: WithBody<Six>, F: Write + Drop>(
+    alloc: Global,
+    share: Share<N>,
+    watch: Watch<F>,
+) -> Result<Watcher<N, F>, Refusal>
+    requires parts { share.parts ≡ 1 }
+    requires count { share.count ≡ 0 }
+    requires seen { share.seen ≡ [] }
+    ensures begun { IfOk result (λ w. w ≡ watcher_at (record { questions = watch.questions.items; contents = F.contents watch.notes })) }
+    ensures fit { OnOk result (refusal_behind [] watch.questions.items ≡ None) }
+    ensures refused { IfErr result (λ refusal. IsRefusedFor (refusal_behind [] watch.questions.items) refusal) }
+{
+    let Watch {
+        number,
+        questions,
+        notes,
+    } = watch;
+    let Ok(notices) = Notices::new(alloc, notes) else {
+        return Err(Refusal::NoMemory);
+    };
+    let mut subscriber = Subscriber::new(alloc, share);
+    ask_all(&mut subscriber, &questions)?;
+    Ok(Watcher {
+        number,
+        subscriber,
+        notices,
+    })
+}
+
+// Has a subscriber without questions ask these. Refused as `Subscriber::watch` is.
+fn ask_all<N: WithBody<Six>>(
+    subscriber: &mut Subscriber<N>,
+    questions: &[Query],
+) -> Result<(), Refusal>
+    requires none { subscriber.old.questions ≡ [] }
+    requires untold { subscriber.old.told ≡ [] }
+    ensures asked { IfOk result (λ done. subscriber.new ≡ record subscriber.old { questions = questions.now; told = map (watch_answer []) questions.now }) }
+    ensures fit { OnOk result (refusal_behind [] questions.now ≡ None) }
+    ensures refused { IfErr result (λ refusal. IsRefusedFor (refusal_behind [] questions.now) refusal) }
+{
+    for question in questions {
+        subscriber.watch(question)?;
+    }
+    Ok(())
+}
+
+/// Gives each subscriber a part of the hub, of which nobody has seen an edit. The first question that is refused, as
+/// `Subscriber::watch` does, is the refusal; or else `NoMemory`.
+pub fn subscribe_all<N: WithBody<Six>, F: Write + Drop>(
+    alloc: Global,
+    share: &mut Share<N>,
+    watches: Vec<Watch<F>>,
+) -> Result<Vec<Watcher<N, F>>, Refusal>
+    requires parts { vec_len watches + 1 ≤ share.old.parts }
+    requires unseen { share.old.seen ≡ [] }
+    ensures parts { IfOk result (λ watchers. share.new.parts + vec_len watches ≡ share.old.parts) }
+    ensures count { IfOk result (λ watchers. share.new.count ≡ share.old.count) }
+    ensures seen { IfOk result (λ watchers. share.new.seen ≡ []) }
+    ensures begun { IfOk result (λ watchers. watchers.items ≡ map (λ w. watcher_at (record { questions = w.questions.items; contents = F.contents w.notes })) watches.items) }
+    ensures fit { OnOk result (refusal_of_all (map (λ w. w.questions.items) watches.items) ≡ None) }
+    // The first question that is refused tells why; or memory was wanting.
+    ensures refused { IfErr result (λ refusal. IsRefusedFor (refusal_of_all (map (λ w. w.questions.items) watches.items)) refusal) }
+{
+    let mut watchers = Vec::new(alloc);
+    for watch in watches {
+        let watcher = subscribe(alloc, share.split(), watch)?;
+        if watchers.push(watcher).is_err() {
+            return Err(Refusal::NoMemory);
+        }
+    }
+    Ok(watchers)
+}

@@ -1,6 +1,0 @@
--- Proof of `Watcher::run`: has its subscriber told of edits, until the hub's workers are dismissed or a write fails.
-use Rattle.lv_watchers.proofs.Noticed.{watches_both}
-use Rattle.lv_watchers.proofs.watchers.Watcher.run.Goals as goal
-
-pub returns : goal.returns
-returns g c = watches_both g.N.Naming.limits c.args.self.now c.turns.new.self c.look.new.self c.turns.ensures c.look.ensures

@@ -1,6 +1,0 @@
--- What the loop keeps in `Watcher::turns`: has its subscriber told so, turn by turn.
-use Rattle.lv_watchers.specs.Noticing.{Watches}
-use Rattle.lv_watchers.proofs.watchers.Watcher.turns.Given as goal
-
-abbrev pub invariant-loop : goal.invariant-loop
-invariant-loop g l = Watches g.N.Naming.limits l.initial.self l.self
