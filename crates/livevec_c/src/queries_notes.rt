@@ -1,5 +1,6 @@
 //! Notes of standing queries, as C has them.
-ghost use Rattle.std.specs.Prelude.{◌≡◌, ◌≤◌, length};
+ghost use Rattle.std.specs.Prelude.{◌≡◌, ◌≤◌, false, true, length, IfNone, IfSome};
+ghost use Rattle.lv_standing.specs.Queries.{is_due};
 ghost use Rattle.livevec_c.specs.Queried.{NotesInto, NotesOne, PutsNote, has_some, name_for, note_of, unnoted};
 
 use crate::only::number_of;
@@ -81,6 +82,18 @@ fn put_note(notes: &mut [Note], place: usize, note: Note)
     }
 }
 
+// The note of a question that was told a value before and has another now, if one is due.
+fn due_note(question: &Query, before: &Shown, value: &Shown, size: u32, edit: u32) -> Option<Note>
+    ensures due { IfSome result (λ note. is_due question.now.bound before.now value.now ≡ true) }
+    ensures note { IfSome result (λ note. note ≡ note_of edit size question.now value.now) }
+    ensures idle { IfNone result (is_due question.now.bound before.now value.now ≡ false) }
+{
+    if !question.is_due(before, value) {
+        return None;
+    }
+    Some(note_of(question, *value, size, edit))
+}
+
 // Notes a question if a note of its value is due, behind so many notes, and tells how many there are then. If there is no room for it, it
 // is counted only.
 fn note_one(
@@ -95,11 +108,13 @@ fn note_one(
     requires { count ≤ 64 }
     ensures { NotesOne edit size question.now before.now value.now count notes.old result notes.new }
 {
-    if !question.is_due(before, value) {
-        return count;
+    match due_note(question, before, value, size, edit) {
+        None => count,
+        Some(note) => {
+            put_note(notes, count, note);
+            count + 1
+        }
     }
-    put_note(notes, count, note_of(question, *value, size, edit));
-    count + 1
 }
 
 /// Notes each question of whose value a note is due, at the front of the notes' places, and tells how many these are. If there are more

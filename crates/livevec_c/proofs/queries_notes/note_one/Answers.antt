@@ -4,10 +4,10 @@ use Rattle.std.proofs.lemmas.List.{take-append-drop}
 use Rattle.livevec_c.proofs.NotingLaws.{noted_one}
 use Rattle.livevec_c.proofs.queries_notes.note_one.Goals as goal
 
-pub returns-then-not-is_due : goal.returns-then-not-is_due
-returns-then-not-is_due c =
-    record { added = []; are = inl (c.is_due.ensures.idle c.if-not-is_due.true, refl); count_is = omega arith; few = omega arith; places = refl; written = λ fits. sym (take-append-drop c.args.count c.args.notes.now) }
+pub returns-in-None : goal.returns-in-None
+returns-in-None c =
+    record { added = []; are = inl (c.in-None.ensures.idle, refl); count_is = omega arith; few = omega arith; places = refl; written = λ fits. sym (take-append-drop c.args.count c.args.notes.now) }
 
-pub returns : goal.returns
-returns c =
-    noted_one c.args.edit c.args.size c.args.question.now c.args.before.now c.args.value.now c.args.count c.args.notes.now c.put_note.new.notes c.note_of.result (c.is_due.ensures.due c.if-not-is_due.false) c.note_of.ensures c.put_note.ensures
+pub returns-in-Some : goal.returns-in-Some
+returns-in-Some c =
+    noted_one c.args.edit c.args.size c.args.question.now c.args.before.now c.args.value.now c.args.count c.args.notes.now c.put_note.new.notes c.in-Some.note c.in-Some.ensures.due c.in-Some.ensures.note c.put_note.ensures
