@@ -159,7 +159,8 @@ uint32_t livevec_shared_renew(livevec_shared *slot, livevec_vector *fresh)
     if (why)
         return why;
     at->vector = fresh;
-    at->base = edit - livevec_edits(fresh).value;
+    at->edits = livevec_edits(fresh).value;
+    at->base = edit - at->edits;
     // nothing has changed, but that all summaries are wanted
     if (call_worker(at))
         ring(&at->work, 1);
