@@ -1,9 +1,9 @@
 //! What a failure tells: in words what failed, or which files clash.
 
 use crate::escaped::Escaped;
+use lv_hub::Damage;
 use lv_script::Fault;
 use lv_server::{Clash, Failure, FaultPlace};
-use lv_hub::Damage;
 use std::fmt;
 
 /// A failure, with the files that the command line names.

@@ -3,8 +3,8 @@
 ghost use Rattle.std.specs.Prelude.{◌≡◌, ◌≢◌};
 
 use lv_geometry::Refusal;
-use lv_script::Fault;
 use lv_hub::Damage;
+use lv_script::Fault;
 
 /// Why files can't be served together.
 #[derive(Clone, Copy)]

@@ -16,7 +16,9 @@ use crate::threads::hold_all;
 use crate::transcript::{all_or_failure, begin_log, unlocked, write_closed};
 use lv_bodies::Six;
 use lv_geometry::Limits;
-use lv_hub::{Begun, Hub, Leaving, Opened, OperationLog, Share, Watch, Watched, WithBody, leave_all};
+use lv_hub::{
+    Begun, Hub, Leaving, Opened, OperationLog, Share, Watch, Watched, WithBody, leave_all,
+};
 use std::alloc::Global;
 use std::io::{Read, Write};
 use std::marker::Brand;

@@ -7,7 +7,10 @@ use crate::clients::Task;
 use crate::failure::{Failure, FaultPlace};
 use crate::server::Plan;
 use lv_bodies::Six;
-use lv_hub::{Begun, Hub, OpenGate, OperationLog, SessionLog, SessionPlace, Watcher, WithBody, attend, run_session};
+use lv_hub::{
+    Begun, Hub, OpenGate, OperationLog, SessionLog, SessionPlace, Watcher, WithBody, attend,
+    run_session,
+};
 use lv_script::Fault;
 use lv_transcript::Queue;
 use std::alloc::Global;
