@@ -27,6 +27,7 @@ impl Askable for KindVector {
 
     // It is cheap until an edit touches the range.
     fn value(&mut self, kind: Kind, lo: u64, hi: u64) -> Shown {
+        self.live().keeps();
         match self.value(kind, lo as u32, hi as u32) {
             Ok(answer) => answer.summary.shown(),
             Err(_) => unreachable!(),

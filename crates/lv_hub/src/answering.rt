@@ -31,6 +31,7 @@ impl<N: WithBody<Six>> Askable for Desk<Six, N> {
 
     // By the kind, whose tree follows what was edited since.
     fn value(&mut self, kind: Kind, lo: u64, hi: u64) -> Shown {
+        self.live.keeps();
         match self.value(kind, lo as u32, hi as u32) {
             Ok(answered) => answered.value,
             Err(_) => unreachable!(),

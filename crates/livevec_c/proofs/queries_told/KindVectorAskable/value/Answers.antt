@@ -1,5 +1,5 @@
 -- Proof of `value` of a vector for C: a range that it has.
-use Rattle.std.proofs.Common.{◌∙◌, ap, arith, sym}
+use Rattle.std.proofs.Common.{◌∙◌, ap, arith, length, sym}
 use Rattle.std.proofs.lemmas.Option.{none-some}
 use Rattle.lv_bodies.specs.Automata.{table_of}
 use Rattle.lv_bodies.specs.Plain.{plain_value_with}
@@ -10,6 +10,13 @@ use Rattle.lv_standing.proofs.AskableLaws.{from_start}
 use Rattle.lv_standing.proofs.RangeLaws.{range_granted}
 use Rattle.livevec_c.specs.SpreadLaws.{shown-plain}
 use Rattle.livevec_c.proofs.queries_told.KindVectorAskable.value.Goals as goal
+
+pub overflow_cast-lo : goal.overflow_cast-lo
+overflow_cast-lo c =
+    omega (arith, c.requires.inside, c.requires.order, c.keeps.ensures.limits.few, ap (λ s. length (list_of s.history.journal)) c.live.ensures)
+
+pub overflow_cast-hi : goal.overflow_cast-hi
+overflow_cast-hi c = omega (arith, c.requires.inside, c.keeps.ensures.limits.few, ap (λ s. length (list_of s.history.journal)) c.live.ensures)
 
 pub unreachable-requires : goal.unreachable-requires
 unreachable-requires c =

@@ -1,11 +1,21 @@
 -- Proof of `value` of a desk: a range that its vector has.
-use Rattle.std.proofs.Common.{◌∙◌, ap, arith, sym}
+use Rattle.std.proofs.Common.{◌∙◌, ◌+◌, ◌≤◌, ap, arith, length, subst, sym}
 use Rattle.std.proofs.lemmas.Option.{none-some}
 use Rattle.lv_bodies.specs.Plain.{plain_value}
 use Rattle.lv_edits.specs.History.{list_of}
 use Rattle.lv_standing.proofs.AskableLaws.{from_start}
 use Rattle.lv_standing.proofs.RangeLaws.{range_granted}
-use Rattle.lv_hub.proofs.answering.Desk+Six+N+Askable.value.Goals as goal
+use Rattle.lv_hub.proofs.answering.DeskSixAskable.value.Goals as goal
+
+pub overflow_cast-lo : goal.overflow_cast-lo
+overflow_cast-lo g c =
+    let inside = subst (λ d. c.args.hi ≤ 0 + length (list_of d.live.history.journal)) (sym c.self.view_is) c.requires.inside in
+    omega (arith, inside, c.requires.order, c.keeps.ensures.limits.few)
+
+pub overflow_cast-hi : goal.overflow_cast-hi
+overflow_cast-hi g c =
+    let inside = subst (λ d. c.args.hi ≤ 0 + length (list_of d.live.history.journal)) (sym c.self.view_is) c.requires.inside in
+    omega (arith, inside, c.keeps.ensures.limits.few)
 
 pub unreachable-requires : goal.unreachable-requires
 unreachable-requires g c =
