@@ -19,7 +19,9 @@ pub use lv_live::{
 };
 pub use lv_reduce::{Answer, Reads, Scan};
 pub use lv_refresh::{Job, Outcome, SubtreeJob, SubtreeOutcome};
-pub use lv_standing::{Answered, Name, Note, Query, QuerySet, Question, Span, Standing};
+pub use lv_standing::{
+    Answered, Askable, Asks, Name, Note, Query, QuerySet, Question, Span, Standing,
+};
 pub use lv_summary::Accepted;
 pub use lv_tree::{
     Bound, KindAnswer, Kinds, Placed, Run, best_run, first_greatest, first_index, first_least,
