@@ -3,7 +3,6 @@
 ghost use Rattle.std.specs.Prelude.{◌≡◌};
 ghost use Rattle.lv_geometry.specs.Bounds.{AreAllowed};
 
-use crate::failure_text::FailureText;
 use crate::help;
 use crate::modes::{AUDIT, Argument, BOARD, KINDS, Mode, Number, RESTORE, RUN, SCHEDULE, SERVE};
 use clap::builder::ValueParser;
@@ -11,7 +10,7 @@ use clap::error::ErrorKind;
 use clap::{Arg, ArgAction, ArgMatches, Command, Error};
 use lv_bodies::Kind;
 use lv_geometry::Limits;
-use lv_server::{Names, Plan};
+use lv_server::{ErrorText, Names, Plan};
 use std::alloc::{AllocError, Global};
 
 /// The command line of the program.
@@ -164,7 +163,7 @@ pub fn kind(matches: &ArgMatches<'_>) -> Kind {
 }
 
 /// That the files of a command can't be served together, told under the command's whole name.
-pub fn clash_error(alloc: Global, mode: &Mode, text: FailureText<'_>) -> Result<Error, AllocError> {
+pub fn clash_error(alloc: Global, mode: &Mode, text: ErrorText<'_>) -> Result<Error, AllocError> {
     let mut command = named(alloc, mode)?;
     let error = error_of(alloc, &mut command, text);
     drop(command);
@@ -180,7 +179,7 @@ fn named<'a>(alloc: Global, mode: &Mode) -> Result<Command<'a>, AllocError> {
 fn error_of(
     alloc: Global,
     command: &mut Command<'_>,
-    text: FailureText<'_>,
+    text: ErrorText<'_>,
 ) -> Result<Error, AllocError> {
     let text = text.to_string(alloc)?;
     command.error(ErrorKind::ValueValidation, text.as_str())

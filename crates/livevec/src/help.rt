@@ -101,8 +101,9 @@ The transcript goes to standard output: the updates, then each answered reductio
 updates. `livevec audit` accepts it. If a session ends with a fault, no transcript is written.
 
 With --transcript FILE each accepted update and each answered reduction is also written to FILE, before
-its reply is written, in real order and in complete lines. FILE is opened after the others and emptied
-last. If `serve` is killed, `livevec audit --front` says how much is there, and `livevec restore`
+its reply is written, in real order and in complete lines. FILE is opened after the others, locked, and
+emptied last. It is a usage error if it is a link, has a second name, or is locked, as by another
+server. If `serve` is killed, `livevec audit --front` says how much is there, and `livevec restore`
 continues from it. At a good end its last line is `end`. With --sync it is on the disk before the
 reply. If FILE can't be written, that is a fault at the end.
 

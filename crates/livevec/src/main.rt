@@ -3,8 +3,6 @@
 #![tactic(auto)]
 
 mod command_line;
-mod escaped;
-mod failure_text;
 mod help;
 mod misuse;
 mod modes;
@@ -17,9 +15,9 @@ use clap::{ArgMatches, Error};
 use lv_bodies::Sum;
 use lv_machine::Machine;
 use lv_script::{Fault, audit, audit_front, run_schedule, run_script_within, run_series_script};
-use lv_server::{Failure, Names, Piped, Waited, hold_files, null_files, restore_file, serve_files};
+use lv_server::{Piped, ProgramError, Waited, hold_files, null_files, restore_file, serve_files};
 use std::alloc::{AllocError, Global};
-use std::fs::Files;
+use std::fs::{File, Files};
 use std::io::{Read, Write};
 use std::process::ExitCode;
 use std::rt::Env;
@@ -35,17 +33,23 @@ fn main(rt: HostRuntime) -> ExitCode {
     let _kept = null_files(&rt);
     match run(&rt) {
         Ok(status) => ExitCode::from(status),
-        Err(fault) => ExitCode::from(tell(&rt, Failure::standard(fault), &[])),
+        Err(fault) => ExitCode::from(tell(&rt, ProgramError::standard(fault), &[])),
     }
 }
 
 // Reads the command line and does what it asks.
-fn run<R: AllocGlobal + Clock + Env + Eprint + Files + Input + Print + Sync + Threads + Wait>(
-    rt: &R,
-) -> Result<u8, Fault>
-where
-    R::File: Send,
-{
+fn run<
+    R: AllocGlobal
+        + Clock
+        + Env
+        + Eprint
+        + Files<File = File>
+        + Input
+        + Print
+        + Sync
+        + Threads
+        + Wait,
+>(rt: &R) -> Result<u8, Fault> {
     let words = match words_of(rt) {
         Ok(words) => words,
         Err(error) if error.kind() == io::ErrorKind::OutOfMemory => return Err(Fault::NoMemory),
@@ -79,7 +83,7 @@ fn show_unreadable<R: Env + Eprint>(rt: &R) -> u8 {
 }
 
 // Standard input, which is waited for.
-fn lines_of<R: Clock + Input>(rt: &R) -> Waited<'_, R, R::Reader> {
+fn lines_of<R: Clock + Input>(rt: &R) -> Waited<&R, R::Reader> {
     Waited::new(rt, rt.reader())
 }
 
@@ -89,13 +93,9 @@ fn words_of<R: AllocGlobal + Env>(rt: &R) -> io::Result<Vec<String>> {
 }
 
 // Does what a command line asks. With --quiet-pipe nothing is told where what reads standard output has ended.
-fn obey<R: AllocGlobal + Clock + Eprint + Files + Input + Print + Sync + Threads + Wait>(
-    rt: &R,
-    matches: &ArgMatches<'_>,
-) -> Result<u8, Fault>
-where
-    R::File: Send,
-{
+fn obey<
+    R: AllocGlobal + Clock + Eprint + Files<File = File> + Input + Print + Sync + Threads + Wait,
+>(rt: &R, matches: &ArgMatches<'_>) -> Result<u8, Fault> {
     let mut writer = Piped::new(
         Waited::new(rt, io::writer(rt)),
         command_line::is_quiet(matches),
@@ -110,12 +110,9 @@ where
 
 // Does it, writing to what stands for standard output.
 fn answer<
-    R: AllocGlobal + Clock + Eprint + Files + Input + Print + Sync + Threads + Wait,
+    R: AllocGlobal + Clock + Eprint + Files<File = File> + Input + Print + Sync + Threads + Wait,
     W: Write,
->(rt: &R, matches: &ArgMatches<'_>, writer: &mut Piped<W>) -> Result<u8, Fault>
-where
-    R::File: Send,
-{
+>(rt: &R, matches: &ArgMatches<'_>, writer: &mut Piped<W>) -> Result<u8, Fault> {
     let alloc = rt.alloc();
     let Some((name, asked)) = matches.subcommand() else {
         return Ok(0);
@@ -181,20 +178,16 @@ fn schedule<R: Read, W: Write>(
 }
 
 // Serves the sessions and the subscribers that a command line names.
-fn serve<R: AllocGlobal + Clock + Eprint + Files + Print + Sync + Threads + Wait, W: Write>(
-    rt: &R,
-    asked: &ArgMatches<'_>,
-    writer: &mut Piped<W>,
-) -> Result<u8, Fault>
-where
-    R::File: Send,
-{
+fn serve<
+    R: AllocGlobal + Clock + Eprint + Files<File = File> + Print + Sync + Threads + Wait,
+    W: Write,
+>(rt: &R, asked: &ArgMatches<'_>, writer: &mut Piped<W>) -> Result<u8, Fault> {
     let alloc = rt.alloc();
     let Ok(all) = files_of(alloc, asked) else {
         return Err(Fault::NoMemory);
     };
     let names = command_line::names(asked, all.as_slice());
-    let ended = serve_files(rt, alloc, command_line::plan(asked), names, writer);
+    let ended = serve_files(rt, rt, alloc, command_line::plan(asked), names, writer);
     status_told(rt, &SERVE, all.as_slice(), writer.ends_quietly(), ended)
 }
 
@@ -210,7 +203,7 @@ fn files_of<'a>(alloc: Global, asked: &ArgMatches<'a>) -> Result<Vec<&'a str>, A
 }
 
 // Restores a vector from the file that a command line names, and answers a script.
-fn restore<R: AllocGlobal + Clock + Eprint + Files + Input + Print, W: Write>(
+fn restore<R: AllocGlobal + Clock + Eprint + Files<File = File> + Input + Print, W: Write>(
     rt: &R,
     asked: &ArgMatches<'_>,
     writer: &mut Piped<W>,
@@ -221,17 +214,15 @@ fn restore<R: AllocGlobal + Clock + Eprint + Files + Input + Print, W: Write>(
 }
 
 // Holds the sessions that a command line names at a board.
-fn board<R: AllocGlobal + Clock + Eprint + Files + Print + Sync + Threads>(
+fn board<R: AllocGlobal + Clock + Eprint + Files<File = File> + Print + Sync + Threads>(
     rt: &R,
     asked: &ArgMatches<'_>,
-) -> Result<u8, Fault>
-where
-    R::File: Send,
-{
+) -> Result<u8, Fault> {
     let all = asked.get_strs("files").unwrap_or(&[]);
     let limits = command_line::limits(asked);
     let kind = command_line::kind(asked);
     let ended = hold_files(
+        rt,
         rt,
         rt.alloc(),
         limits,

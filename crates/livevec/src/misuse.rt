@@ -2,8 +2,8 @@
 
 ghost use Rattle.std.specs.Prelude.{◌≤◌, length};
 
-use crate::escaped::{Escaped, EscapedBytes};
 use clap::ArgMatches;
+use lv_server::{Escaped, EscapedBytes, is_shown};
 use std::env::{Env, FillError};
 use std::{fmt, str};
 
@@ -105,7 +105,7 @@ fn is_text(name: &[u8], count: usize) -> bool
 /// The first word that can't be shown as it is, if there is one.
 pub fn unshown_in(words: &[String]) -> Option<Misuse<'_>> {
     for word in words {
-        if word.as_str().chars().any(|letter| letter.is_control()) {
+        if !word.as_str().chars().all(is_shown) {
             return Some(Misuse::Unshown(word.as_str()));
         }
     }

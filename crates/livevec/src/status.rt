@@ -3,13 +3,12 @@
 ghost use Rattle.std.specs.Prelude.{◌≡◌, ◌≢◌};
 
 use crate::command_line::clash_error;
-use crate::failure_text::FailureText;
 use crate::misuse::Misuse;
 use crate::modes::Mode;
 use clap::Error;
 use clap::error::ErrorKind;
 use lv_script::{Fault, FrontVerdict, Verdict};
-use lv_server::{Failure, FaultPlace, Waited};
+use lv_server::{ErrorText, ProgramError, Waited};
 use std::io;
 use std::io::Write;
 use std::time::Clock;
@@ -17,13 +16,12 @@ use std::time::Clock;
 /// The status with --quiet-pipe where what reads standard output has ended.
 pub const CUT: u8 = 3;
 
-/// Tells of a failure on standard error, and gives the status that it ends with.
-pub fn tell<R: Eprint>(rt: &R, failure: Failure, files: &[&str]) -> u8
+/// Tells of an error on standard error, and gives the status that it ends with.
+pub fn tell<R: Eprint>(rt: &R, error: ProgramError, files: &[&str]) -> u8
     ensures { result ≡ 1 }
 {
-    let told = FailureText { failure, files };
-    let _ = eprintln!(rt; "livevec: {}", failure.fault);
-    let _ = eprintln!(rt; "{told}");
+    let _ = eprintln!(rt; "{error}");
+    let _ = eprintln!(rt; "{}", error.in_words(files));
     1
 }
 
@@ -34,25 +32,25 @@ pub fn status_told<R: AllocGlobal + Clock + Eprint + Print>(
     mode: &Mode,
     files: &[&str],
     is_quiet: bool,
-    ended: Result<(), Failure>,
+    ended: Result<(), ProgramError>,
 ) -> Result<u8, Fault> {
-    let Err(failure) = ended else {
+    let Err(error) = ended else {
         return Ok(0);
     };
-    if let FaultPlace::Clashing(..) = failure.place {
-        return show_clash(rt, mode, FailureText { failure, files });
+    if error.reason.is_clash() {
+        return show_clash(rt, mode, error.in_words(files));
     }
     if is_quiet {
         return Ok(CUT);
     }
-    Ok(tell(rt, failure, files))
+    Ok(tell(rt, error, files))
 }
 
 // Shows that files can't be served together.
 fn show_clash<R: AllocGlobal + Clock + Eprint + Print>(
     rt: &R,
     mode: &Mode,
-    text: FailureText<'_>,
+    text: ErrorText<'_>,
 ) -> Result<u8, Fault> {
     let Ok(error) = clash_error(rt.alloc(), mode, text) else {
         return Err(Fault::NoMemory);

@@ -3,23 +3,26 @@
 ghost use Rattle.std.specs.Prelude.{All};
 ghost use Rattle.lv_board.specs.Tells.{IsAt};
 
-use crate::clients::Client;
-use crate::failure::Failure;
+use crate::opened_client::OpenedClient;
+use crate::program_error::ProgramError;
 use lv_board::{Board, BoardBody, Seat, run_board_session};
 use lv_bodies::{Affine, Automaton, Best, Greatest, Kind, Least, Sum};
 use lv_geometry::Limits;
+use lv_script::Fault;
 use std::alloc::Global;
 use std::io::{Read, Write};
 use std::thread;
 use std::thread::Threads;
 
-// A session at a board, with its seat, and how it ended; it hasn't yet at first.
+// A session at a board, with its seat, the number of its file and its streams, and how it ended; it hasn't yet at first.
 #[derive(Drop)]
 struct Task<'a, B: BoardBody, F: Drop> {
     board: &'a Board<B>,
     seat: Seat<B>,
-    streams: Client<F>,
-    ended: Result<(), Failure>,
+    number: usize,
+    lines: F,
+    replies: F,
+    ended: Result<(), Fault>,
     ghost here: { IsAt board.now.table.shared.table_id board.now.terms seat },
 }
 
@@ -30,8 +33,8 @@ pub fn hold_sessions<F: Read + Write + Send + Drop, R: Threads + Sync>(
     alloc: Global,
     limits: Limits,
     kind: Kind,
-    streams: Vec<Client<F>>,
-) -> Result<(), Failure> {
+    streams: Vec<OpenedClient<F>>,
+) -> Result<(), ProgramError> {
     match kind {
         Kind::Sum => hold_at(rt, alloc, limits, Sum, streams),
         Kind::Least => hold_at(rt, alloc, limits, Least, streams),
@@ -48,13 +51,13 @@ fn hold_at<B: BoardBody, F: Read + Write + Send + Drop, R: Threads + Sync>(
     alloc: Global,
     limits: Limits,
     body: B,
-    streams: Vec<Client<F>>,
-) -> Result<(), Failure> {
+    streams: Vec<OpenedClient<F>>,
+) -> Result<(), ProgramError> {
     let Ok(count) = u32::try_from(streams.len()) else {
-        return Err(Failure::memory());
+        return Err(ProgramError::memory());
     };
     let Ok((board, seats)) = Board::new(alloc, limits, count, body) else {
-        return Err(Failure::memory());
+        return Err(ProgramError::memory());
     };
     let ended = hold_all(rt, alloc, &board, seats, streams);
     drop(board);
@@ -67,16 +70,23 @@ fn hold_all<B: BoardBody, F: Read + Write + Send + Drop, R: Threads + Sync>(
     alloc: Global,
     board: &Board<B>,
     seats: Vec<Seat<B>>,
-    streams: Vec<Client<F>>,
-) -> Result<(), Failure>
+    streams: Vec<OpenedClient<F>>,
+) -> Result<(), ProgramError>
     requires here { All (IsAt board.now.table.shared.table_id board.now.terms) seats.items }
 {
     let mut tasks = seat_each(alloc, board, seats, streams)?;
     let threads = tasks.len().max(1);
     let held = |_: usize, task: &mut Task<'_, B, F>| { hold(alloc, task) };
     thread::for_each_mut(rt, tasks.as_mut_slice(), threads, &held);
-    for task in &tasks {
-        task.ended?;
+    first_fault(&tasks)
+}
+
+// What the first session that ended with a fault ended with.
+fn first_fault<B: BoardBody, F: Drop>(tasks: &[Task<'_, B, F>]) -> Result<(), ProgramError> {
+    for task in tasks {
+        if let Err(fault) = task.ended {
+            return Err(ProgramError::session(task.number, fault));
+        }
     }
     Ok(())
 }
@@ -86,8 +96,8 @@ fn seat_each<'a, B: BoardBody, F: Drop>(
     alloc: Global,
     board: &'a Board<B>,
     seats: Vec<Seat<B>>,
-    streams: Vec<Client<F>>,
-) -> Result<Vec<Task<'a, B, F>>, Failure>
+    streams: Vec<OpenedClient<F>>,
+) -> Result<Vec<Task<'a, B, F>>, ProgramError>
     requires here { All (IsAt board.now.table.shared.table_id board.now.terms) seats.items }
 {
     let mut seats = seats;
@@ -96,14 +106,22 @@ fn seat_each<'a, B: BoardBody, F: Drop>(
         let Some(seat) = seats.pop() else {
             return Ok(tasks);
         };
+        let OpenedClient {
+            number,
+            lines,
+            replies,
+            ..
+        } = streams;
         let task = Task {
             board,
             seat,
-            streams,
+            number,
+            lines,
+            replies,
             ended: Ok(()),
         };
         if tasks.push(task).is_err() {
-            return Err(Failure::memory());
+            return Err(ProgramError::memory());
         }
     }
     Ok(tasks)
@@ -111,13 +129,11 @@ fn seat_each<'a, B: BoardBody, F: Drop>(
 
 // Holds a session.
 fn hold<B: BoardBody, F: Read + Write + Drop>(alloc: Global, task: &mut Task<'_, B, F>) {
-    let number = task.streams.number;
-    let ended = run_board_session(
+    task.ended = run_board_session(
         alloc,
         task.board,
         &mut task.seat,
-        &mut task.streams.lines,
-        &mut task.streams.replies,
+        &mut task.lines,
+        &mut task.replies,
     );
-    task.ended = ended.map_err(|fault| Failure::session(number, fault));
 }

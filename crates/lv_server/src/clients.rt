@@ -8,9 +8,10 @@ ghost use Rattle.lv_server.specs.Served.{Sides};
 ghost use Rattle.lv_server.specs.Tasks.{TakesBack, begun_at};
 ghost use Rattle.lv_transcript.specs.Transcribing.{IsUnused};
 
-use crate::failure::{Failure, FaultPlace};
+use crate::opened_client::OpenedClient;
+use crate::program_error::{ProgramError, Reason};
 use lv_bodies::Six;
-use lv_hub::{Leaving, Query, Share, Watch, Watched, Watcher, WithBody, subscribe_all};
+use lv_hub::{Leaving, Share, Watch, Watched, Watcher, WithBody, subscribe_all};
 use lv_lines::HELD;
 use lv_script::Fault;
 use lv_transcript::{Queue, TranscriptWriter};
@@ -18,19 +19,10 @@ use std::alloc::{AllocError, Global};
 use std::io::{Read, Write};
 use std::marker::Model;
 
-/// A session's file, and that of its replies; or a subscriber's, and that of its notes.
-#[derive(Drop)]
-pub struct Client<F: Drop> {
-    /// Which of the files it is, counted from 0.
-    pub number: usize,
-    pub lines: F,
-    pub replies: F,
-}
-
 /// The sessions that are to be held, and the subscribers that are to be told beside them.
 #[derive(Drop)]
 pub struct Clients<F: Drop> {
-    pub streams: Vec<Client<F>>,
+    pub streams: Vec<OpenedClient<F>>,
     pub watches: Vec<Watch<F>>,
 }
 
@@ -47,24 +39,23 @@ impl<F: Drop> Clients<F> {
         })
     }
 
-    /// Adds a session; or a subscriber, where it is known what its file asks. Says whether there was memory for it.
-    pub fn add(&mut self, streams: Client<F>, asked: Option<Vec<Query>>) -> bool {
-        match asked {
-            None => self.streams.push(streams).is_ok(),
-            Some(questions) => {
-                let Client {
-                    number,
-                    replies,
-                    ..
-                } = streams;
-                let watch = Watch {
-                    number,
-                    questions,
-                    notes: replies,
-                };
-                self.watches.push(watch).is_ok()
-            }
+    /// Adds a session, or else a subscriber. Says whether there was memory for it.
+    pub fn add(&mut self, client: OpenedClient<F>, is_session: bool) -> bool {
+        if is_session {
+            return self.streams.push(client).is_ok();
         }
+        let OpenedClient {
+            number,
+            replies,
+            questions,
+            ..
+        } = client;
+        let watch = Watch {
+            number,
+            questions,
+            notes: replies,
+        };
+        self.watches.push(watch).is_ok()
     }
 }
 
@@ -90,9 +81,9 @@ impl Spare {
 #[derive(Drop)]
 pub struct Task<N: WithBody<Six>, F: Read + Write + Drop> {
     pub share: Share<N>,
-    pub streams: Client<F>,
+    pub streams: OpenedClient<F>,
     pub spare: Option<Spare>,
-    pub ended: Option<Result<Queue, Failure>>,
+    pub ended: Option<Result<Queue, ProgramError>>,
 }
 
 impl<N: WithBody<Six>, F: Read + Write + Drop> Model for Task<N, F> {
@@ -111,14 +102,14 @@ impl<N: WithBody<Six>, F: Read + Write + Drop> Model for Task<N, F> {
 #[derive(Drop)]
 pub struct Gathered<F: Drop> {
     pub answers: Vec<Queue>,
-    pub streams: Vec<Client<F>>,
+    pub streams: Vec<OpenedClient<F>>,
     /// What their transcript is written by.
     pub transcript: TranscriptWriter,
 }
 
 impl<F: Drop> Gathered<F> {
     /// Room for what so many sessions leave, so that their end needs no memory.
-    pub fn with_room(alloc: Global, sessions: usize) -> Result<Gathered<F>, Failure>
+    pub fn with_room(alloc: Global, sessions: usize) -> Result<Gathered<F>, ProgramError>
         ensures answers { IfOk result (λ all. all.answers.items ≡ []) }
         ensures streams { IfOk result (λ all. all.streams.items ≡ []) }
         ensures unused { IfOk result (λ all. IsUnused all.transcript) }
@@ -128,7 +119,7 @@ impl<F: Drop> Gathered<F> {
             Vec::with_capacity(alloc, sessions),
             TranscriptWriter::new(alloc),
         ) else {
-            return Err(Failure::memory());
+            return Err(ProgramError::memory());
         };
         Ok(Gathered {
             answers,
@@ -142,8 +133,8 @@ impl<F: Drop> Gathered<F> {
 pub fn share_out<N: WithBody<Six>, F: Read + Write + Drop>(
     alloc: Global,
     share: &mut Share<N>,
-    streams: Vec<Client<F>>,
-) -> Result<Vec<Task<N, F>>, Failure>
+    streams: Vec<OpenedClient<F>>,
+) -> Result<Vec<Task<N, F>>, ProgramError>
     requires parts { share.old.parts ≡ vec_len streams + 1 }
     requires unseen { share.old.seen ≡ [] }
     ensures parts { IfOk result (λ tasks. share.new.parts ≡ 1) }
@@ -154,7 +145,7 @@ pub fn share_out<N: WithBody<Six>, F: Read + Write + Drop>(
     let mut tasks = Vec::new(alloc);
     for streams in streams {
         let Ok(spare) = Spare::new(alloc) else {
-            return Err(Failure::memory());
+            return Err(ProgramError::memory());
         };
         let task = Task {
             share: share.split(),
@@ -163,7 +154,7 @@ pub fn share_out<N: WithBody<Six>, F: Read + Write + Drop>(
             ended: None,
         };
         if tasks.push(task).is_err() {
-            return Err(Failure::memory());
+            return Err(ProgramError::memory());
         }
     }
     Ok(tasks)
@@ -175,7 +166,7 @@ pub fn take_back<N: WithBody<Six>, F: Read + Write + Drop>(
     room: Gathered<F>,
     share: &mut Share<N>,
     done: Vec<Task<N, F>>,
-) -> Result<Gathered<F>, Failure>
+) -> Result<Gathered<F>, ProgramError>
     requires answers { room.answers.items ≡ [] }
     requires streams { room.streams.items ≡ [] }
     ensures transcript { IfOk result (λ all. all.transcript ≡ room.transcript) }
@@ -196,14 +187,14 @@ pub fn take_back<N: WithBody<Six>, F: Read + Write + Drop>(
         drop(spare);
         share.join(part);
         let Some(listed) = ended else {
-            return Err(Failure::memory());
+            return Err(ProgramError::memory());
         };
         let listed = listed?;
         if answers.push(listed).is_err() {
-            return Err(Failure::memory());
+            return Err(ProgramError::memory());
         }
         if streams.push(its).is_err() {
-            return Err(Failure::memory());
+            return Err(ProgramError::memory());
         }
     }
     Ok(Gathered {
@@ -227,7 +218,7 @@ pub fn begin_all<N: WithBody<Six>, F: Read + Write + Drop>(
     alloc: Global,
     share: &mut Share<N>,
     clients: Clients<F>,
-) -> Result<Present<N, F>, Failure>
+) -> Result<Present<N, F>, ProgramError>
     requires parts { share.old.parts ≡ vec_len clients.streams + vec_len clients.watches + 1 }
     requires unseen { share.old.seen ≡ [] }
     ensures parts { IfOk result (λ present. share.new.parts ≡ 1) }
@@ -240,7 +231,7 @@ pub fn begin_all<N: WithBody<Six>, F: Read + Write + Drop>(
 {
     let Clients { streams, watches } = clients;
     let Ok(leaving) = Leaving::with_room(alloc, watches.len()) else {
-        return Err(Failure::memory());
+        return Err(ProgramError::memory());
     };
     let watchers = subscribe(alloc, share, watches)?;
     let tasks = share_out(alloc, share, streams)?;
@@ -256,7 +247,7 @@ fn subscribe<N: WithBody<Six>, F: Read + Write + Drop>(
     alloc: Global,
     share: &mut Share<N>,
     watches: Vec<Watch<F>>,
-) -> Result<Vec<Watcher<N, F>>, Failure>
+) -> Result<Vec<Watcher<N, F>>, ProgramError>
     requires parts { vec_len watches + 1 ≤ share.old.parts }
     requires unseen { share.old.seen ≡ [] }
     ensures parts { IfOk result (λ watchers. share.new.parts + vec_len watches ≡ share.old.parts) }
@@ -266,20 +257,20 @@ fn subscribe<N: WithBody<Six>, F: Read + Write + Drop>(
 {
     match subscribe_all(alloc, share, watches) {
         Ok(watchers) => Ok(watchers),
-        Err(refusal) => Err(Failure::unwatched(refusal)),
+        Err(refusal) => Err(ProgramError::unwatched(refusal)),
     }
 }
 
 /// That all that subscribers were told was written; or else the first whose output failed is the fault.
-pub fn first_unwritten<F: Write + Drop>(watched: &[Watched<F>]) -> Result<(), Failure>
+pub fn first_unwritten<F: Write + Drop>(watched: &[Watched<F>]) -> Result<(), ProgramError>
     ensures written { OnOk result (All (λ w. w.notices.failed ≡ false) watched.now) }
-    ensures fault { IfErr result (λ failure. failure.fault ≡ Fault.WriteFault) }
+    ensures fault { IfErr result (λ error. error.fault ≡ Fault.WriteFault) }
     // It names one whose output failed, and none before that one did.
-    ensures first { IfErr result (λ failure. (i : ℕ) × (i < length watched.now) × HoldsAt (λ w. (w.notices.failed ≡ true) × (failure.place ≡ FaultPlace.Session w.number)) watched.now i × All (λ w. w.notices.failed ≡ false) (take i watched.now)) }
+    ensures first { IfErr result (λ error. (i : ℕ) × (i < length watched.now) × HoldsAt (λ w. (w.notices.failed ≡ true) × (error.reason ≡ Reason.Unwritten) × (error.file ≡ w.number)) watched.now i × All (λ w. w.notices.failed ≡ false) (take i watched.now)) }
 {
     for one in watched {
         if one.notices.has_failed() {
-            return Err(Failure::session(one.number, Fault::WriteFault));
+            return Err(ProgramError::new(Fault::WriteFault, Reason::Unwritten, one.number));
         }
     }
     Ok(())

@@ -1,25 +1,32 @@
 //! A server of sessions, and what else a program does with named files.
 //!
 //! `serve` holds sessions and subscribers on streams of any kind, and its clauses say what they were told. `serve_files`, `hold_files` and
-//! `restore_file` open the files that are named and pass them on. Why any of them failed is a `Failure`; how it is told is the program's.
+//! `restore_file` open the files that are named and pass them on. Why any of them failed is a `ProgramError`.
 #![tactic(auto)]
 
 mod board_sessions;
-mod client_files;
 mod clients;
 mod commands;
-mod failure;
-mod files;
+mod escaped;
+mod identity;
+mod log_file;
 mod names;
+mod opened_client;
+mod output_file;
+mod piped;
+mod program_error;
 mod server;
-mod standard_streams;
 mod threads;
 mod transcript;
+mod waited;
 
 pub use board_sessions::hold_sessions;
-pub use clients::Client;
 pub use commands::{hold_files, restore_file, serve_files};
-pub use failure::{Clash, Failure, FaultPlace};
+pub use escaped::{Escaped, EscapedBytes, is_shown};
+pub use identity::null_files;
 pub use names::Names;
+pub use opened_client::OpenedClient;
+pub use piped::Piped;
+pub use program_error::{ErrorText, ProgramError, Reason};
 pub use server::{Plan, serve};
-pub use standard_streams::{Piped, Waited, null_files};
+pub use waited::Waited;

@@ -1,6 +1,7 @@
 //! The names of files, and which of them clash.
 
-use crate::failure::{Clash, Failure};
+use crate::program_error::{ProgramError, Reason};
+use lv_script::Fault;
 
 /// What ends the name of a file of replies.
 pub const REPLIES: &str = ".out";
@@ -31,29 +32,34 @@ impl<'a> Names<'a> {
 }
 
 /// The first clash among the names of files, if there is one.
-pub fn first_clash(files: &[&str]) -> Option<Failure> {
+pub fn first_clash(files: &[&str]) -> Option<ProgramError> {
     for (number, file) in files.iter().enumerate() {
-        if let Some(failure) = clash_between(&files[..number], number, file) {
-            return Some(failure);
+        if let Some(error) = clash_between(&files[..number], number, file) {
+            return Some(error);
         }
     }
     None
 }
 
 // How the file of a number clashes with one before it, if it does.
-fn clash_between(before: &[&str], number: usize, file: &str) -> Option<Failure> {
+fn clash_between(before: &[&str], number: usize, file: &str) -> Option<ProgramError> {
     for (other, name) in before.iter().enumerate() {
         if *name == file {
-            return Some(Failure::clashing(number, Clash::Twice));
+            return Some(clash(Reason::Twice, number));
         }
         if is_reply_of(file, name) {
-            return Some(Failure::clashing(number, Clash::Replies));
+            return Some(clash(Reason::Replies, number));
         }
         if is_reply_of(name, file) {
-            return Some(Failure::clashing(other, Clash::Replies));
+            return Some(clash(Reason::Replies, other));
         }
     }
     None
+}
+
+// That the file of a number clashes with another.
+fn clash(reason: Reason, number: usize) -> ProgramError {
+    ProgramError::new(Fault::WriteFault, reason, number)
 }
 
 // Whether a name is that of the replies to another.

@@ -10,8 +10,9 @@ ghost use Rattle.lv_server.specs.Tasks.{AreAllHeld};
 ghost use Rattle.lv_hub.specs.Watched.{ServedWatched, WatchState};
 ghost use Rattle.lv_hub.specs.Watchers.{AreLeft};
 
-use crate::clients::{Client, Clients, Gathered, Present, begin_all, take_back};
-use crate::failure::Failure;
+use crate::clients::{Clients, Gathered, Present, begin_all, take_back};
+use crate::opened_client::OpenedClient;
+use crate::program_error::ProgramError;
 use crate::threads::hold_all;
 use crate::transcript::{all_or_failure, begin_log, unlocked, write_closed};
 use lv_bodies::Six;
@@ -60,11 +61,11 @@ pub fn serve<
     rt: &R,
     alloc: Global,
     plan: Plan,
-    streams: Vec<Client<F>>,
+    streams: Vec<OpenedClient<F>>,
     watches: Vec<Watch<F>>,
     file: Option<V>,
     writer: &mut W,
-) -> Result<(Vec<Client<F>>, Option<V>, Vec<Watched<F>>), Failure>
+) -> Result<(Vec<OpenedClient<F>>, Option<V>, Vec<Watched<F>>), ProgramError>
     ensures served { IfOk result (λ done. Served plan.limits (map (λ s. record { lines = F.remaining s.lines; replies = F.contents s.replies }) streams.items) (map (λ s. record { lines = F.remaining s.lines; replies = F.contents s.replies }) done.0.items) (W.contents writer.old) (W.contents writer.new)) }
     // Each reply is the plain interpreter's, at a beginning of one list of edits.
     ensures plain { IfOk result (λ done. ServedPlainly plan.limits (map (λ s. record { lines = F.remaining s.lines; replies = F.contents s.replies }) streams.items) (map (λ s. record { lines = F.remaining s.lines; replies = F.contents s.replies }) done.0.items) (W.contents writer.old) (W.contents writer.new)) }
@@ -109,7 +110,7 @@ fn serve_as<
     parts: u64,
     opened: Opened,
     body: Six,
-) -> Result<(Vec<Client<F>>, Option<V>, Vec<Watched<F>>), Failure>
+) -> Result<(Vec<OpenedClient<F>>, Option<V>, Vec<Watched<F>>), ProgramError>
     requires name { blank.name ≡ N.name }
     requires all { blank.parts ≡ N.parts }
     requires parts { blank.parts ≡ parts }
@@ -166,7 +167,7 @@ fn serve_all<
     share: &mut Share<N>,
     clients: Clients<F>,
     file: Option<V>,
-) -> Result<(Gathered<F>, Option<OperationLog<N, V, K>>, Leaving<F>), Failure>
+) -> Result<(Gathered<F>, Option<OperationLog<N, V, K>>, Leaving<F>), ProgramError>
     requires start { IfSome file (λ file. K.start ≡ V.contents file) }
     requires parts { share.old.parts ≡ vec_len clients.streams + vec_len clients.watches + 1 }
     requires count { share.old.count ≡ 0 }

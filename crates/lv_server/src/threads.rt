@@ -4,7 +4,7 @@ ghost use Rattle.lv_server.specs.Tasks.{AreHeldFrom, IsHeldOnce};
 ghost use Rattle.lv_hub.specs.Watchers.{AreWatchedFrom};
 
 use crate::clients::Task;
-use crate::failure::{Failure, FaultPlace};
+use crate::program_error::{ProgramError, Reason};
 use crate::server::Plan;
 use lv_bodies::Six;
 use lv_hub::{
@@ -263,12 +263,12 @@ fn hold<N: WithBody<Six>, K: Begun, F: Read + Write + Drop, V: Write + Drop, R: 
         Ok(answers) => task.ended = Some(Ok(Queue::new(answers))),
         Err(Fault::NoMemory) => {}
         Err(fault) => {
-            let place = if log.record(rt, hub).is_ok() {
-                FaultPlace::Session(task.streams.number)
+            let error = if fault == Fault::WriteFault && log.record(rt, hub).is_err() {
+                ProgramError::new(fault, Reason::Transcript, 0)
             } else {
-                FaultPlace::Transcript
+                ProgramError::session(task.streams.number, fault)
             };
-            task.ended = Some(Err(Failure { fault, place }));
+            task.ended = Some(Err(error));
         }
     }
 }

@@ -11,8 +11,8 @@ ghost use Rattle.lv_hub.specs.Watchers.{ClosesTelling};
 ghost use Rattle.lv_server.specs.Starting.{Records};
 ghost use Rattle.lv_server.specs.Writing.{FailsToClose, Writes, WritesClosed};
 
-use crate::clients::Client;
-use crate::failure::{Failure, FaultPlace};
+use crate::opened_client::OpenedClient;
+use crate::program_error::{ProgramError, Reason};
 use lv_bodies::Six;
 use lv_edits::Edit;
 use lv_hub::{Begun, Hub, Leaving, OperationLog, SessionLog, Share, Watched, WithBody};
@@ -29,7 +29,7 @@ pub fn begin_log<N: WithBody<Six>, K: Begun, V: Write + Drop, R: Wait>(
     file: Option<V>,
     hub: &Hub<Six, N>,
     share: &Share<N>,
-) -> Result<Option<Mutex<OperationLog<N, V, K>>>, Failure>
+) -> Result<Option<Mutex<OperationLog<N, V, K>>>, ProgramError>
     requires start { IfSome file (λ file. K.start ≡ V.contents file) }
     requires unseen { share.now.seen ≡ [] }
     ensures { IfOk result (λ log. is_some log ≡ is_some file) }
@@ -39,7 +39,7 @@ pub fn begin_log<N: WithBody<Six>, K: Begun, V: Write + Drop, R: Wait>(
     };
     match OperationLog::begin(rt, alloc, file, hub, share) {
         Ok(log) => Ok(Some(Mutex::new(log))),
-        Err(_) => Err(Failure::memory()),
+        Err(_) => Err(ProgramError::memory()),
     }
 }
 
@@ -69,7 +69,7 @@ pub fn write_closed<N: WithBody<Six>, K: Begun, F: Write + Drop, V: Write + Drop
     leaving: Leaving<F>,
     transcript: TranscriptWriter,
     writer: &mut W,
-) -> (Option<V>, Result<(), Failure>, Vec<Watched<F>>)
+) -> (Option<V>, Result<(), ProgramError>, Vec<Watched<F>>)
     requires parts { share.parts ≡ N.parts }
     requires all_true { All (IsTrueAnswer share.seen) (in_a_row queues.old.items) }
     requires unused { IsUnused transcript }
@@ -142,7 +142,7 @@ fn write_in_order<W: Write>(
 }
 
 // What failed first: the transcript on standard output, or else its file.
-fn first_failure(written: Result<(), Fault>, ended: Result<(), Fault>) -> Result<(), Failure>
+fn first_failure(written: Result<(), Fault>, ended: Result<(), Fault>) -> Result<(), ProgramError>
     requires late { IfErr ended (λ fault. fault ≡ Fault.WriteFault) }
     ensures well { IfOk result (λ done. written ≡ Ok done) }
     ensures both { IfOk result (λ done. ended ≡ Ok done) }
@@ -151,19 +151,19 @@ fn first_failure(written: Result<(), Fault>, ended: Result<(), Fault>) -> Result
     match written {
         Ok(()) => match ended {
             Ok(()) => Ok(()),
-            Err(fault) => Err(Failure::transcript(fault)),
+            Err(fault) => Err(ProgramError::new(fault, Reason::Transcript, 0)),
         },
-        Err(fault) => Err(Failure::standard(fault)),
+        Err(fault) => Err(ProgramError::standard(fault)),
     }
 }
 
 /// The streams and the file, and what was told, where nothing failed.
 pub fn all_or_failure<F: Write + Drop, V: Drop>(
-    written: Result<(), Failure>,
-    streams: Vec<Client<F>>,
+    written: Result<(), ProgramError>,
+    streams: Vec<OpenedClient<F>>,
     file: Option<V>,
     watched: Vec<Watched<F>>,
-) -> Result<(Vec<Client<F>>, Option<V>, Vec<Watched<F>>), Failure>
+) -> Result<(Vec<OpenedClient<F>>, Option<V>, Vec<Watched<F>>), ProgramError>
     ensures { MatchResult written (λ done. result ≡ Ok (streams, file, watched)) (λ failure. result ≡ Err failure) }
 {
     match written {

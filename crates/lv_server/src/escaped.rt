@@ -2,7 +2,7 @@
 
 use std::fmt;
 
-/// A name from the command line. What would end a line or speak to a terminal is shown by its code, so that no name forges a message.
+/// A name from the command line. What would end a line, speak to a terminal, or turn the order of what stands beside it is shown by its code, so that no name forges a message.
 #[derive(Clone, Copy)]
 pub struct Escaped<'a>(pub &'a str);
 
@@ -15,15 +15,24 @@ impl fmt::Display for Escaped<'_> {
     }
 }
 
-// One letter of a name: those of ASCII that can be seen stand for themselves, quotes and backslashes too.
+// One letter of a name.
 fn put<W: fmt::Write>(f: &mut fmt::Formatter<W>, letter: char) -> fmt::Result {
-    if letter == ' ' || letter.is_ascii_graphic() {
+    if is_shown(letter) {
         return f.write_char(letter);
     }
     for shown in letter.escape_debug() {
         f.write_char(shown)?;
     }
     Ok(())
+}
+
+/// Whether a letter is shown as it is: of ASCII those that can be seen, quotes and backslashes too; of the others those that stand by
+/// themselves, and neither are unseen nor turn the order of others.
+pub fn is_shown(letter: char) -> bool {
+    if letter.is_ascii() {
+        return letter == ' ' || letter.is_ascii_graphic();
+    }
+    letter.escape_debug().count() == 1
 }
 
 /// Bytes from the command line that are no text: those of ASCII that can be seen stand for themselves, any other by its code.

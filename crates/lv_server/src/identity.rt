@@ -1,0 +1,58 @@
+//! Which file a name leads to, or an open file is.
+
+use std::fs::{Files, Metadata, OpenOptions, metadata};
+use std::io;
+use std::os::unix::fs::MetadataExt;
+
+/// A file by its device and its number there: two names lead to one file exactly where these are the same.
+#[derive(Clone, Copy, PartialEq)]
+pub struct Identity {
+    device: u64,
+    inode: u64,
+}
+
+impl Identity {
+    /// The file that some metadata are of.
+    pub fn of(metadata: &Metadata) -> Identity {
+        Identity {
+            device: metadata.dev(),
+            inode: metadata.ino(),
+        }
+    }
+}
+
+/// The regular files behind standard input, output and error, in this order; none where a stream leads elsewhere.
+pub fn standard_files<R: Files>(rt: &R) -> [Option<Identity>; 3] {
+    [
+        behind(rt, "/dev/stdin"),
+        behind(rt, "/dev/stdout"),
+        behind(rt, "/dev/stderr"),
+    ]
+}
+
+// The regular file behind a name, if there is one.
+fn behind<R: Files>(rt: &R, name: &str) -> Option<Identity> {
+    match metadata(rt, name) {
+        Ok(found) if found.is_file() => Some(Identity::of(&found)),
+        _ => None,
+    }
+}
+
+/// Whether standard output or standard error goes into a file that is read.
+pub fn is_written(standard: &[Option<Identity>; 3], input: Identity) -> bool {
+    standard[1] == Some(input) || standard[2] == Some(input)
+}
+
+/// Opens the null device as often as there are standard streams. So a standard stream that was closed at the start leads there, and
+/// no file that is opened later is taken for it. The files are kept until the program ends.
+pub fn null_files<R: Files>(rt: &R) -> [io::Result<R::File>; 3] {
+    [null_file(rt), null_file(rt), null_file(rt)]
+}
+
+// The null device, to be read and written.
+fn null_file<R: Files>(rt: &R) -> io::Result<R::File> {
+    OpenOptions::new()
+        .read(true)
+        .write(true)
+        .open(rt, "/dev/null")
+}

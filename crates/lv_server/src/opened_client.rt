@@ -1,0 +1,299 @@
+//! The files of clients and of the transcript, and how they are opened: none is changed before all are found fit.
+
+use crate::clients::Clients;
+use crate::identity::{Identity, is_written, standard_files};
+use crate::log_file::{LogFile, lock_log, open_log};
+use crate::names::{Names, REPLIES, first_clash};
+use crate::output_file::OutputFile;
+use crate::program_error::{ProgramError, Reason};
+use crate::waited::Waited;
+use lv_hub::{Query, Unasked, read_questions};
+use lv_script::Fault;
+use std::alloc::Global;
+use std::fs::{File, Files, OpenFile};
+use std::io::Read;
+use std::mem;
+use std::time::Clock;
+
+/// A session's file, and that of its replies; or a subscriber's, what it asks, and the file of its notes.
+#[derive(Drop)]
+pub struct OpenedClient<F: Drop> {
+    /// Which of the files it is, counted from 0.
+    pub number: usize,
+    pub lines: F,
+    pub replies: F,
+    /// What a subscriber asks; a session asks nothing.
+    pub questions: Vec<Query>,
+    input: Identity,
+    output: OutputFile,
+    // The name of the file of replies.
+    name: String,
+}
+
+impl<F: Drop> OpenedClient<F> {
+    // The same, where its streams are waited for.
+    fn waited<C: Clock + Copy>(self, clock: C) -> OpenedClient<Waited<C, F>> {
+        let OpenedClient {
+            number,
+            lines,
+            replies,
+            questions,
+            input,
+            output,
+            name,
+        } = self;
+        OpenedClient {
+            number,
+            lines: Waited::new(clock, lines),
+            replies: Waited::new(clock, replies),
+            questions,
+            input,
+            output,
+            name,
+        }
+    }
+}
+
+/// Opens the file of a number, which is read. A directory is none.
+pub fn open_input<R: Files>(
+    rt: &R,
+    number: usize,
+    name: &str,
+) -> Result<(R::File, Identity), ProgramError> {
+    let unopened = ProgramError::new(Fault::ReadFault, Reason::Unopened, number);
+    let Ok(lines) = File::open(rt, name) else {
+        return Err(unopened);
+    };
+    match lines.metadata() {
+        Ok(found) if !found.is_dir() => Ok((lines, Identity::of(&found))),
+        _ => Err(unopened),
+    }
+}
+
+/// Opens each file and that of its replies, in order: those of sessions, and then those of subscribers. Files of replies are emptied once
+/// all are open, each is found to be a regular file that nothing else here reads or writes, under whatever name, where standard streams
+/// count, and it is known what subscribers ask. All are waited for by a clock.
+///
+/// The first that fails is the fault: `ReadFault` where a file can't be opened or is a directory, `WriteFault` where that of its
+/// replies can't be made, or is there and no regular file. Those that were made here are taken away then. So it is with what a
+/// subscriber's file asks, which is read next, and with the file of a transcript, which comes last, and is locked. Names that clash are
+/// told before any file is opened.
+pub fn open_all<C: Clock + Copy, R: Files<File = File>>(
+    clock: C,
+    rt: &R,
+    alloc: Global,
+    names: Names<'_>,
+) -> Result<(Clients<Waited<C, File>>, Option<Waited<C, LogFile<File>>>), ProgramError> {
+    let files = names.of_clients();
+    if let Some(error) = first_clash(files) {
+        return Err(error);
+    }
+    let watches = files.len().saturating_sub(names.sessions);
+    let (Ok(clients), Ok(mut all)) = (
+        Clients::with_room(alloc, names.sessions, watches),
+        Vec::with_capacity(alloc, files.len()),
+    ) else {
+        return Err(ProgramError::memory());
+    };
+    match open_and_ask(rt, alloc, names, &mut all) {
+        Ok(last) => empty_with(clock, all, clients, last, names),
+        Err(error) => Err(without_new(rt, &all, error)),
+    }
+}
+
+// Opens them, reads what subscribers ask, and opens the file of a transcript if there is to be one.
+fn open_and_ask<R: Files<File = File>>(
+    rt: &R,
+    alloc: Global,
+    names: Names<'_>,
+    all: &mut Vec<OpenedClient<File>>,
+) -> Result<Option<(File, OutputFile)>, ProgramError> {
+    open_each(rt, alloc, names.of_clients(), all)?;
+    ask_each(alloc, all.as_mut_slice(), names.sessions)?;
+    match names.of_transcript() {
+        Some(name) => match open_unshared(rt, name, all) {
+            Ok(opened) => Ok(Some(opened)),
+            Err(reason) => Err(ProgramError::new(Fault::WriteFault, reason, names.clients)),
+        },
+        None => Ok(None),
+    }
+}
+
+// Opens them in order, and sees that none is written that is read or written otherwise.
+fn open_each<R: Files<File = File>>(
+    rt: &R,
+    alloc: Global,
+    files: &[&str],
+    all: &mut Vec<OpenedClient<File>>,
+) -> Result<(), ProgramError> {
+    for (number, file) in files.iter().enumerate() {
+        let opened = open(rt, alloc, number, file)?;
+        if all.push(opened).is_err() {
+            return Err(ProgramError::memory());
+        }
+    }
+    let standard = standard_files(rt);
+    for opened in all.as_slice() {
+        if let Some(reason) = clash_of(all, opened, &standard) {
+            return Err(ProgramError::new(Fault::WriteFault, reason, opened.number));
+        }
+    }
+    Ok(())
+}
+
+// Opens the file of a number and that of its replies.
+fn open<R: Files<File = File>>(
+    rt: &R,
+    alloc: Global,
+    number: usize,
+    file: &str,
+) -> Result<OpenedClient<File>, ProgramError> {
+    let (lines, input) = open_input(rt, number, file)?;
+    let Ok(name) = format!(in alloc; "{file}{REPLIES}") else {
+        return Err(ProgramError::memory());
+    };
+    match OutputFile::open(rt, name.as_str()) {
+        Ok((replies, output)) => Ok(OpenedClient {
+            number,
+            lines,
+            replies,
+            questions: Vec::new(alloc),
+            input,
+            output,
+            name,
+        }),
+        Err(reason) => Err(ProgramError::new(Fault::WriteFault, reason, number)),
+    }
+}
+
+// How the files of a client clash with those of the others and with the standard streams, if they do.
+fn clash_of<F: Drop>(
+    all: &[OpenedClient<F>],
+    one: &OpenedClient<F>,
+    standard: &[Option<Identity>; 3],
+) -> Option<Reason> {
+    let output = one.output.identity;
+    if standard.contains(&Some(output)) || is_used(all, one.number, output) {
+        return Some(Reason::Shared);
+    }
+    if is_written(standard, one.input) {
+        return Some(Reason::Standard);
+    }
+    None
+}
+
+// Whether a file is read by a client, or written by one of another number.
+fn is_used<F: Drop>(all: &[OpenedClient<F>], number: usize, output: Identity) -> bool {
+    for opened in all {
+        if opened.input == output || (opened.number != number && opened.output.identity == output) {
+            return true;
+        }
+    }
+    false
+}
+
+// Opens the file of a transcript. No client reads or writes it, no standard stream leads there, and nobody else has locked it.
+fn open_unshared<R: Files<File = File>>(
+    rt: &R,
+    name: &str,
+    all: &[OpenedClient<File>],
+) -> Result<(File, OutputFile), Reason> {
+    let (file, output) = open_log(rt, name)?;
+    if is_used(all, usize::MAX, output.identity)
+        || standard_files(rt).contains(&Some(output.identity))
+    {
+        return Err(Reason::TranscriptTaken);
+    }
+    match lock_log(&file) {
+        Ok(()) => Ok((file, output)),
+        Err(Reason::Transcript) => {
+            let _ = output.is_removed(rt, name);
+            Err(Reason::Transcript)
+        }
+        Err(reason) => Err(reason),
+    }
+}
+
+// Reads what each file asks that comes behind those of so many sessions. The first file that can't be read, or has a line that is wrong, is
+// the fault: `ReadFault`, and which line it is.
+fn ask_each<F: Read + Drop>(
+    alloc: Global,
+    all: &mut [OpenedClient<F>],
+    sessions: usize,
+) -> Result<(), ProgramError> {
+    for opened in all {
+        if opened.number >= sessions {
+            ask(alloc, opened)?;
+        }
+    }
+    Ok(())
+}
+
+// Reads what a file asks, and keeps it.
+fn ask<F: Read + Drop>(alloc: Global, opened: &mut OpenedClient<F>) -> Result<(), ProgramError> {
+    let number = opened.number;
+    match read_questions(alloc, &mut opened.lines) {
+        Ok(questions) => {
+            drop(mem::replace(&mut opened.questions, questions));
+            Ok(())
+        }
+        Err(Unasked::Fault(fault)) => Err(ProgramError::session(number, fault)),
+        Err(Unasked::Damage(damage)) => Err(ProgramError::damaged(number, damage)),
+    }
+}
+
+// Empties the files of replies that were there before, and then that of the transcript.
+fn empty_with<C: Clock + Copy, F: OpenFile + Drop>(
+    clock: C,
+    all: Vec<OpenedClient<F>>,
+    clients: Clients<Waited<C, F>>,
+    last: Option<(F, OutputFile)>,
+    names: Names<'_>,
+) -> Result<(Clients<Waited<C, F>>, Option<Waited<C, LogFile<F>>>), ProgramError> {
+    let clients = empty_all(clock, all, clients, names.sessions)?;
+    match last {
+        None => Ok((clients, None)),
+        Some((file, output)) if output.is_emptied(&file) => {
+            let file = LogFile {
+                file,
+                syncs: names.syncs,
+            };
+            Ok((clients, Some(Waited::new(clock, file))))
+        }
+        Some(_) => Err(ProgramError::new(Fault::WriteFault, Reason::Transcript, 0)),
+    }
+}
+
+// Empties the files of replies that were there before.
+fn empty_all<C: Clock + Copy, F: OpenFile + Drop>(
+    clock: C,
+    all: Vec<OpenedClient<F>>,
+    mut clients: Clients<Waited<C, F>>,
+    sessions: usize,
+) -> Result<Clients<Waited<C, F>>, ProgramError> {
+    for opened in all {
+        let number = opened.number;
+        if !opened.output.is_emptied(&opened.replies) {
+            return Err(ProgramError::new(Fault::WriteFault, Reason::Unmade, number));
+        }
+        if !clients.add(opened.waited(clock), number < sessions) {
+            return Err(ProgramError::memory());
+        }
+    }
+    Ok(clients)
+}
+
+// Takes away the files of replies that were made here, and adds to an error which is the first that is left.
+fn without_new<R: Files, F: Drop>(
+    rt: &R,
+    all: &[OpenedClient<F>],
+    error: ProgramError,
+) -> ProgramError {
+    let mut error = error;
+    for opened in all {
+        if !opened.output.is_removed(rt, opened.name.as_str()) && error.left.is_none() {
+            error.left = Some(opened.number);
+        }
+    }
+    error
+}

@@ -1,0 +1,216 @@
+//! Why the program fails: a fault, and what it is about.
+
+ghost use Rattle.std.specs.Prelude.{◌≡◌, ◌≢◌};
+
+use crate::escaped::Escaped;
+use lv_geometry::Refusal;
+use lv_hub::Damage;
+use lv_script::Fault;
+use std::fmt;
+use thiserror::Error;
+
+/// What failed, in words: as they stand, or behind the name of a file where it is about one.
+#[derive(Clone, Copy, Debug, Error)]
+pub enum Reason {
+    #[error("memory was wanting")]
+    Memory,
+    #[error("standard input can't be read")]
+    Input,
+    #[error("standard input has more than 2^30 bytes")]
+    LongInput,
+    #[error("standard output can't be written")]
+    Output,
+    #[error("the file of --transcript can't be made or written")]
+    Transcript,
+    /// A question that no `watch` would take, though no file brings one.
+    #[error("what a subscriber asks can't be watched: {0}")]
+    Watching(Refusal),
+    #[error("' can't be opened")]
+    Unopened,
+    #[error("' can't be read")]
+    Unread,
+    #[error("' has more than 2^30 bytes")]
+    Long,
+    #[error(".out' can't be made")]
+    Unmade,
+    #[error(".out' can't be written")]
+    Unwritten,
+    /// A line of a transcript, by its number.
+    #[error("' is no front of a transcript: line {0} is false")]
+    False(u32),
+    #[error("' is no front of a transcript: line {0} is not of a form that may stand there")]
+    Misspelt(u32),
+    /// A line of a subscriber's file, by its number, whose question is refused.
+    #[error("' can't be watched: {1}")]
+    Refused(u32, Refusal),
+    #[error("' is not of the form 'watch NAME KIND LO HI'")]
+    NoQuery(u32),
+    /// The files can't be served together: nothing was opened for good, and none has changed. So it is with all that follow.
+    #[error("' is named twice: name each file once")]
+    Twice,
+    #[error("' would be overwritten by another file's replies: rename one of the two")]
+    Replies,
+    #[error(".out' is another name of a file that is read or written here: remove it, or rename one of the two")]
+    Shared,
+    #[error("', which is read here: send it elsewhere")]
+    Standard,
+    #[error(".out' is a link, and replies don't go through one: remove it")]
+    Link,
+    #[error("' is read or written here otherwise, perhaps under another name: write the transcript elsewhere")]
+    TranscriptTaken,
+    #[error("' is a link, and the transcript doesn't go through one: remove it")]
+    TranscriptLink,
+    #[error("' has a second name (a hard link), and the transcript doesn't go under two: write it elsewhere")]
+    TranscriptNames,
+    #[error("' is locked, as by a server that writes it: write the transcript elsewhere")]
+    TranscriptLocked,
+}
+
+impl Reason {
+    /// Whether the files that a command line names can't be served together: that is a wrong use of the command.
+    pub fn is_clash(self) -> bool {
+        match self {
+            Reason::Twice | Reason::Replies | Reason::Shared | Reason::Standard | Reason::Link => {
+                true
+            }
+            Reason::TranscriptTaken | Reason::TranscriptLink => true,
+            Reason::TranscriptNames | Reason::TranscriptLocked => true,
+            _ => false,
+        }
+    }
+}
+
+/// Why the program fails. Files are counted from 0: those of sessions, those of subscribers, and that of the transcript.
+#[derive(Clone, Copy, Debug, Error)]
+#[error("livevec: {fault}")]
+pub struct ProgramError {
+    pub fault: Fault,
+    pub reason: Reason,
+    /// The number of the file that it is about, if it is about one.
+    pub file: usize,
+    /// The number of a file whose replies were to be written: their file was made for it, and couldn't be taken away.
+    pub left: Option<usize>,
+}
+
+impl ProgramError {
+    /// A fault, the reason for it, and the number of the file that this is about.
+    pub fn new(fault: Fault, reason: Reason, file: usize) -> ProgramError
+        ensures fault { result.fault ≡ fault }
+        ensures reason { result.reason ≡ reason }
+        ensures file { result.file ≡ file }
+    {
+        ProgramError {
+            fault,
+            reason,
+            file,
+            left: None,
+        }
+    }
+
+    /// Memory was wanting.
+    pub fn memory() -> ProgramError
+        ensures { result.fault ≡ Fault.NoMemory }
+    {
+        ProgramError::new(Fault::NoMemory, Reason::Memory, 0)
+    }
+
+    /// A fault on standard input or standard output.
+    pub fn standard(fault: Fault) -> ProgramError
+        ensures { result.fault ≡ fault }
+    {
+        let reason = match fault {
+            Fault::NoMemory => Reason::Memory,
+            Fault::ReadFault => Reason::Input,
+            Fault::TooLong => Reason::LongInput,
+            Fault::WriteFault => Reason::Output,
+        };
+        ProgramError::new(fault, reason, 0)
+    }
+
+    /// A fault in the session of the file of a number.
+    pub fn session(file: usize, fault: Fault) -> ProgramError
+        ensures { result.fault ≡ fault }
+    {
+        let reason = match fault {
+            Fault::NoMemory => Reason::Memory,
+            Fault::ReadFault => Reason::Unread,
+            Fault::TooLong => Reason::Long,
+            Fault::WriteFault => Reason::Unwritten,
+        };
+        ProgramError::new(fault, reason, file)
+    }
+
+    /// A line of a subscriber's file is wrong, or memory was wanting for its question.
+    pub fn damaged(file: usize, damage: Damage) -> ProgramError {
+        let reason = match damage.refusal {
+            Some(Refusal::NoMemory) => return ProgramError::memory(),
+            Some(refusal) => Reason::Refused(damage.line, refusal),
+            None => Reason::NoQuery(damage.line),
+        };
+        ProgramError::new(Fault::ReadFault, reason, file)
+    }
+
+    /// A question of a subscriber is refused, or memory was wanting for it.
+    pub fn unwatched(refusal: Refusal) -> ProgramError
+        ensures memory { refusal ≡ Refusal.NoMemory → result.fault ≡ Fault.NoMemory }
+        ensures refused { refusal ≢ Refusal.NoMemory → (result.fault ≡ Fault.ReadFault) × (result.reason ≡ Reason.Watching refusal) }
+    {
+        match refusal {
+            Refusal::NoMemory => ProgramError::memory(),
+            _ => ProgramError::new(Fault::ReadFault, Reason::Watching(refusal), 0),
+        }
+    }
+
+    /// The same in words, where these are the files' names.
+    pub fn in_words<'a>(self, files: &'a [&'a str]) -> ErrorText<'a> {
+        ErrorText { error: self, files }
+    }
+}
+
+/// What failed, in words that name files.
+#[derive(Clone, Copy)]
+pub struct ErrorText<'a> {
+    error: ProgramError,
+    files: &'a [&'a str],
+}
+
+impl<'a> ErrorText<'a> {
+    // The name of the file of a number.
+    fn name(&self, number: usize) -> Escaped<'a> {
+        match self.files.get(number) {
+            Some(file) => Escaped(file),
+            None => Escaped("a file"),
+        }
+    }
+}
+
+impl fmt::Display for ErrorText<'_> {
+    fn fmt<W: fmt::Write>(&self, f: &mut fmt::Formatter<W>) -> fmt::Result {
+        let ProgramError {
+            reason,
+            file,
+            left,
+            ..
+        } = self.error;
+        let name = self.name(file);
+        match reason {
+            Reason::Memory | Reason::Input | Reason::LongInput | Reason::Output => {}
+            Reason::Transcript | Reason::Watching(_) => {}
+            Reason::Refused(line, _) => write!(f, "line {line} of '{name}")?,
+            Reason::NoQuery(line) => write!(f, "line {line} of '{name}")?,
+            Reason::Standard => {
+                write!(f, "standard output or standard error goes into '{name}")?
+            }
+            _ => write!(f, "'{name}")?,
+        }
+        write!(f, "{reason}")?;
+        match left {
+            Some(number) => write!(
+                f,
+                "\n'{}.out' was made here and isn't taken away: another file may have its name by now",
+                self.name(number)
+            ),
+            None => Ok(()),
+        }
+    }
+}
