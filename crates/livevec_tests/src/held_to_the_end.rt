@@ -3,7 +3,7 @@ use crate::same::assert_same;
 use lv_bodies::{Affine, AffineMap};
 use lv_edits::{Edit, Receipt};
 use lv_geometry::{Limits, Refusal};
-use lv_live::{Event, Reply, World, run};
+use lv_live::{Event, ReplyOf, World, run};
 use lv_reduce::Answer;
 use lv_summary::Accepted;
 use std::alloc::{AllocError, Global};
@@ -48,7 +48,7 @@ fn events(alloc: Global, refreshes: bool) -> Result<Vec<Event>, AllocError> {
 }
 
 // The replies to these events, in a new world.
-fn play(alloc: Global, events: &[Event]) -> Result<Vec<Reply<AffineMap>>, Refusal> {
+fn play(alloc: Global, events: &[Event]) -> Result<Vec<ReplyOf<AffineMap>>, Refusal> {
     let mut world = World::new(alloc, Limits::greatest(), Affine);
     let replies = run(alloc, &mut world, events);
     drop(world);
@@ -63,12 +63,12 @@ enum Plain {
 }
 
 // The replies to edits and reductions.
-fn answers_of(alloc: Global, replies: &[Reply<AffineMap>]) -> Result<Vec<Plain>, AllocError> {
+fn answers_of(alloc: Global, replies: &[ReplyOf<AffineMap>]) -> Result<Vec<Plain>, AllocError> {
     let mut all = Vec::new(alloc);
     for reply in replies {
         match reply {
-            Reply::Did(receipt) => all.push(Plain::Did(*receipt))?,
-            Reply::Answered(answer) => all.push(Plain::Answered(answer.edit, answer.value))?,
+            ReplyOf::Did(receipt) => all.push(Plain::Did(*receipt))?,
+            ReplyOf::Answered(answer) => all.push(Plain::Answered(answer.edit, answer.value))?,
             _ => {}
         }
     }
@@ -76,10 +76,10 @@ fn answers_of(alloc: Global, replies: &[Reply<AffineMap>]) -> Result<Vec<Plain>,
 }
 
 // What became of what was delivered.
-fn given(alloc: Global, replies: &[Reply<AffineMap>]) -> Result<Vec<Accepted>, AllocError> {
+fn given(alloc: Global, replies: &[ReplyOf<AffineMap>]) -> Result<Vec<Accepted>, AllocError> {
     let mut all = Vec::new(alloc);
     for reply in replies {
-        if let Reply::Gave(accepted) = reply {
+        if let ReplyOf::Gave(accepted) = reply {
             all.push(*accepted)?;
         }
     }
@@ -87,9 +87,9 @@ fn given(alloc: Global, replies: &[Reply<AffineMap>]) -> Result<Vec<Accepted>, A
 }
 
 // The last reply, where it is an answer.
-fn last(replies: &[Reply<AffineMap>]) -> Option<Answer<AffineMap>> {
+fn last(replies: &[ReplyOf<AffineMap>]) -> Option<Answer<AffineMap>> {
     match replies.last() {
-        Some(Reply::Answered(answer)) => Some(*answer),
+        Some(ReplyOf::Answered(answer)) => Some(*answer),
         _ => None,
     }
 }

@@ -3,7 +3,7 @@ use crate::same::assert_same;
 use lv_bodies::Sum;
 use lv_edits::{Edit, Receipt};
 use lv_geometry::{Limits, Refusal};
-use lv_live::{Event, Live, Reply, World, run};
+use lv_live::{Event, Live, ReplyOf, World, run};
 use std::alloc::Global;
 use std::process::Abort;
 
@@ -62,7 +62,7 @@ fn run_or_again(
         replies = run(alloc, world, &events);
     }
     Ok(match replies?.as_slice() {
-        [Reply::Did(receipt), Reply::Settled] => Some(*receipt),
+        [ReplyOf::Did(receipt), ReplyOf::Settled] => Some(*receipt),
         _ => None,
     })
 }

@@ -5,7 +5,7 @@ use lv_bodies::{Body, Sum};
 use lv_edits::{Edit, Receipt};
 use lv_geometry::{Limits, Refusal};
 use lv_live::{
-    Event, Live, Reply, World, answers_are_plain, refresh_changes_no_answer,
+    Event, Live, ReplyOf, World, answers_are_plain, refresh_changes_no_answer,
     refusals_change_nothing, run,
 };
 use lv_reduce::{Answer, Scan, reduce};
@@ -220,19 +220,19 @@ enum Told {
     Refused(Refusal),
 }
 
-fn tell(reply: &Reply<u64>) -> Told {
+fn tell(reply: &ReplyOf<u64>) -> Told {
     match reply {
-        Reply::Did(receipt) => Told::Did(*receipt),
-        Reply::Settled => Told::Settled,
-        Reply::Claimed { job, node, version } => {
-            Told::Job(*job, node.level, node.number, *version)
+        ReplyOf::Did(receipt) => Told::Did(*receipt),
+        ReplyOf::Settled => Told::Settled,
+        ReplyOf::Claimed { k, node, version } => {
+            Told::Job(*k, node.level, node.number, *version)
         }
-        Reply::Idle => Told::Idle,
-        Reply::Gave(accepted) => Told::Gave(*accepted),
-        Reply::Forgotten => Told::Forgotten,
-        Reply::Answered(answer) => Told::Answered(*answer),
-        Reply::Scanned(scan) => Told::Scanned(scan.edit, is_1_3_6(scan)),
-        Reply::Refused(refusal) => Told::Refused(*refusal),
+        ReplyOf::Idle => Told::Idle,
+        ReplyOf::Gave(accepted) => Told::Gave(*accepted),
+        ReplyOf::Forgotten => Told::Forgotten,
+        ReplyOf::Answered(answer) => Told::Answered(*answer),
+        ReplyOf::Scanned(scan) => Told::Scanned(scan.edit, is_1_3_6(scan)),
+        ReplyOf::Refused(refusal) => Told::Refused(*refusal),
     }
 }
 
@@ -303,7 +303,7 @@ fn events_of(table: &[(Event, Told); 16]) -> [Event; 24] {
 }
 
 // Sees what each of such events was answered.
-fn check_replies(rt: &impl Abort, replies: &[Reply<u64>], table: &[(Event, Told); 16]) {
+fn check_replies(rt: &impl Abort, replies: &[ReplyOf<u64>], table: &[(Event, Told); 16]) {
     assert_same(rt, &replies.len(), &24);
     for index in 0..8_u32 {
         let pushed = Receipt::Pushed {

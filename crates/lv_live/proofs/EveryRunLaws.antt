@@ -19,7 +19,7 @@ use Rattle.lv_reduce.specs.declared.scans.Scan.{Scan}
 use Rattle.lv_reduce.specs.Answer.{IsAnswer, IsScan, scan_of}
 use Rattle.lv_live.specs.declared.events.Event.{Event}
 use Rattle.lv_live.specs.declared.events.Event.TheVariants as event
-use Rattle.lv_live.specs.declared.replies.Reply.{Reply}
+use Rattle.lv_live.specs.declared.replies.ReplyOf.{ReplyOf}
 use Rattle.lv_live.specs.Step.{EditStep, Reduces, Run, Scans, Step, edit_reply, job_of, reduction_reply, scan_reply}
 use Rattle.lv_live.specs.EveryRun.{AreTrueOf, IsReceiptAt, IsTrueOf, accepted_in, made_by}
 use Rattle.lv_live.proofs.HonestSteps.{honest_after_step}
@@ -49,7 +49,7 @@ module _ {S : Type 0} (o : Operations S) (limits : Bounds) where
   edit_made r next edit (Err refusal) step = step.1.edits ∙ sym (append-nil r.edits)
 
   -- a step adds the edit that it made
-  step_edits : (r next : Record) (event : Event) (answered : Reply S) → Step o limits r event answered next → next.edits ≡ r.edits ++ made_by event answered
+  step_edits : (r next : Record) (event : Event) (answered : ReplyOf S) → Step o limits r event answered next → next.edits ≡ r.edits ++ made_by event answered
   step_edits r next (event.Edit edit) answered (answer, is, step) =
       edit_made r next edit answer step ∙ ap (λ answered. r.edits ++ made_by (event.Edit edit) answered) (sym is)
   step_edits r next event.Settle answered step = step.1.edits ∙ sym (append-nil r.edits)
@@ -60,7 +60,7 @@ module _ {S : Type 0} (o : Operations S) (limits : Bounds) where
   step_edits r next (event.Scan lo hi inclusive) answered (answer, is, scans, same) = same.edits ∙ sym (append-nil r.edits)
 
   -- a run adds the edits that it accepted
-  pub run_edits : (r next : Record) (events : List Event) (replies : List (Reply S)) → Run o limits r events replies next → next.edits ≡ r.edits ++ accepted_in events replies
+  pub run_edits : (r next : Record) (events : List Event) (replies : List (ReplyOf S)) → Run o limits r events replies next → next.edits ≡ r.edits ++ accepted_in events replies
   run_edits r next [] [] run = ap (λ (r : Record). r.edits) run ∙ sym (append-nil r.edits)
   run_edits r next [] (answered ∷ replies) run = absurd run
   run_edits r next (event ∷ events) [] run = absurd run
@@ -88,7 +88,7 @@ module _ {S : Type 0} (o : Operations S) (limits : Bounds) where
   scan_true r next rest lo hi inclusive (Err refusal) is same = (Err refusal, refl, tt)
 
   -- what a step is answered is true of the edits after it, and of any that go on from there
-  step_true : (r next : Record) (rest : List Edit) (event : Event) (answered : Reply S) → Step o limits r event answered next → IsTrueOf o (next.edits ++ rest) (length r.edits) event answered
+  step_true : (r next : Record) (rest : List Edit) (event : Event) (answered : ReplyOf S) → Step o limits r event answered next → IsTrueOf o (next.edits ++ rest) (length r.edits) event answered
   step_true r next rest (event.Edit edit) answered (answer, is, step) =
       subst (IsTrueOf o (next.edits ++ rest) (length r.edits) (event.Edit edit)) (sym is) (edit_true r next rest edit answer step)
   step_true r next rest event.Settle answered step = tt
@@ -101,11 +101,11 @@ module _ {S : Type 0} (o : Operations S) (limits : Bounds) where
       subst (IsTrueOf o (next.edits ++ rest) (length r.edits) (event.Scan lo hi inclusive)) (sym is) (scan_true r next rest lo hi inclusive answer scans same.edits)
 
   -- a step has so many edits before it and those that it made after it
-  step_counts : (r next : Record) (event : Event) (answered : Reply S) → Step o limits r event answered next → length next.edits ≡ length r.edits + length (made_by event answered)
+  step_counts : (r next : Record) (event : Event) (answered : ReplyOf S) → Step o limits r event answered next → length next.edits ≡ length r.edits + length (made_by event answered)
   step_counts r next event answered step = ap length (step_edits r next event answered step) ∙ length-append r.edits (made_by event answered)
 
   -- each answer of a run is true of the edits at its end, at those that were accepted before it
-  pub run_true : (r next : Record) (events : List Event) (replies : List (Reply S)) → Run o limits r events replies next → AreTrueOf o next.edits (length r.edits) events replies
+  pub run_true : (r next : Record) (events : List Event) (replies : List (ReplyOf S)) → Run o limits r events replies next → AreTrueOf o next.edits (length r.edits) events replies
   run_true r next [] [] run = tt
   run_true r next [] (answered ∷ replies) run = absurd run
   run_true r next (event ∷ events) [] run = absurd run
@@ -126,7 +126,7 @@ module _ {S : Type 0} (o : Operations S) (limits : Bounds) where
   edit_legal r next edit (Err refusal) step legal = same_legal r.edits next.edits step.1.edits legal
 
   -- so does every step
-  step_legal : (r next : Record) (event : Event) (answered : Reply S) → Step o limits r event answered next → replayed r.edits ≡ Some (list_of r.edits) → replayed next.edits ≡ Some (list_of next.edits)
+  step_legal : (r next : Record) (event : Event) (answered : ReplyOf S) → Step o limits r event answered next → replayed r.edits ≡ Some (list_of r.edits) → replayed next.edits ≡ Some (list_of next.edits)
   step_legal r next (event.Edit edit) answered step = edit_legal r next edit step.0 step.2
   step_legal r next event.Settle answered step = same_legal r.edits next.edits step.1.edits
   step_legal r next event.Claim answered step = same_legal r.edits next.edits (step.3.edits ∙ claimed_edits r step.0)
@@ -136,7 +136,7 @@ module _ {S : Type 0} (o : Operations S) (limits : Bounds) where
   step_legal r next (event.Scan lo hi inclusive) answered step = same_legal r.edits next.edits step.3.edits
 
   -- edits stay legal, and what was honest honest, to the end of every run
-  pub run_honest : (n : Node) (v : ℕ) (contents : Contents S) (r next : Record) (events : List Event) (replies : List (Reply S)) → Run o limits r events replies next
+  pub run_honest : (n : Node) (v : ℕ) (contents : Contents S) (r next : Record) (events : List Event) (replies : List (ReplyOf S)) → Run o limits r events replies next
       → replayed r.edits ≡ Some (list_of r.edits) → IsHonest o r n v contents → (replayed next.edits ≡ Some (list_of next.edits)) × IsHonest o next n v contents
   run_honest n v contents r next [] [] run legal honest =
       (same_legal r.edits next.edits (ap (λ (r : Record). r.edits) run) legal, subst (λ r. IsHonest o r n v contents) (sym run) honest)

@@ -19,7 +19,7 @@ use Rattle.lv_refresh.specs.Record.{Record, SameRecord}
 use Rattle.lv_refresh.proofs.HonestyLaws.{honest_after_edit, honest_after_install, honest_same}
 use Rattle.lv_live.specs.declared.events.Event.{Event}
 use Rattle.lv_live.specs.declared.events.Event.TheVariants as event
-use Rattle.lv_live.specs.declared.replies.Reply.{Reply}
+use Rattle.lv_live.specs.declared.replies.ReplyOf.{ReplyOf}
 use Rattle.lv_live.specs.Step.{EditStep, Step, after_accepted, after_claim, after_delivery, after_edit, job_of}
 use Rattle.lv_live.proofs.WorldLaws.{installed_test}
 
@@ -54,7 +54,7 @@ module _ {S : Type 0} (o : Operations S) (n : Node) (v : ℕ) (c : Contents S) w
   honest_after_delivery r next (Some job) legal same honest = honest_after_accepted r next job.0 job.1 (delivery_of r job.0 job.1) legal refl same honest
 
   -- honesty lasts through every event
-  pub honest_after_step : (limits : Bounds) (r next : Record) (e : Event) (answered : Reply S) → replayed r.edits ≡ Some (list_of r.edits) → Step o limits r e answered next → IsHonest o r n v c → IsHonest o next n v c
+  pub honest_after_step : (limits : Bounds) (r next : Record) (e : Event) (answered : ReplyOf S) → replayed r.edits ≡ Some (list_of r.edits) → Step o limits r e answered next → IsHonest o r n v c → IsHonest o next n v c
   honest_after_step limits r next (event.Edit e) answered legal step honest = honest_after_edit_step limits r next e step.0 step.2 honest
   honest_after_step limits r next event.Settle answered legal step honest = honest_in r next step.1 honest
   honest_after_step limits r next event.Claim answered legal step honest = honest_after_claim r next step.0 step.3 honest

@@ -18,8 +18,8 @@ use Rattle.lv_reduce.specs.declared.reductions.Answer.{Answer}
 use Rattle.lv_reduce.specs.declared.scans.Scan.{Scan}
 use Rattle.lv_live.specs.declared.events.Event.{Event}
 use Rattle.lv_live.specs.declared.events.Event.TheVariants as event
-use Rattle.lv_live.specs.declared.replies.Reply.{Reply}
-use Rattle.lv_live.specs.declared.replies.Reply.TheVariants as reply
+use Rattle.lv_live.specs.declared.replies.ReplyOf.{ReplyOf}
+use Rattle.lv_live.specs.declared.replies.ReplyOf.TheVariants as reply
 use Rattle.lv_live.specs.Step.{EditStep, Reduces, Run, Scans, Step, after_claim, after_edit, claim_reply, edit_reply, reduction_reply, scan_reply}
 use Rattle.lv_live.specs.PlainAnswers.{AllHadRoom}
 
@@ -130,7 +130,7 @@ module _ {S : Type 0} (o : Operations S) (limits : Bounds) where
       ap Err (one_refusal (range_refusal r.edits lo hi) refusal other first second (λ want. room (ap reply.Refused want)) (λ want. had (ap reply.Refused want)))
 
   -- an event that memory was there for has one reply, and one record after it
-  pub one_step : (r next after : Record) (event : Event) (answered other : Reply S) → Step o limits r event answered next → Step o limits r event other after
+  pub one_step : (r next after : Record) (event : Event) (answered other : ReplyOf S) → Step o limits r event answered next → Step o limits r event other after
       → answered ≢ reply.Refused NoMemory → other ≢ reply.Refused NoMemory → (answered ≡ other) × (next ≡ after)
   one_step r next after (event.Edit edit) answered other (a, is, first) (b, was, second) room had =
       let one = one_edit r next after edit a b first second (λ want. room (is ∙ want)) (λ want. had (was ∙ want)) in
@@ -149,7 +149,7 @@ module _ {S : Type 0} (o : Operations S) (limits : Bounds) where
       (is ∙ ap scan_reply (one_scan r lo hi inclusive a b first second (λ want. room (is ∙ want)) (λ want. had (was ∙ want))) ∙ sym was, both_records r next after same same_too)
 
   -- a run that meets no want of memory has one list of replies, and one record at its end
-  pub one_outcome : (r next after : Record) (events : List Event) (replies answers : List (Reply S)) → Run o limits r events replies next → AllHadRoom replies
+  pub one_outcome : (r next after : Record) (events : List Event) (replies answers : List (ReplyOf S)) → Run o limits r events replies next → AllHadRoom replies
       → Run o limits r events answers after → AllHadRoom answers → (replies ≡ answers) × (next ≡ after)
   one_outcome r next after [] [] [] first room second had = (refl, first ∙ sym second)
   one_outcome r next after [] [] (other ∷ answers) first room second had = absurd second

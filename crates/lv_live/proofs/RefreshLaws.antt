@@ -16,7 +16,7 @@ use Rattle.lv_refresh.specs.Claim.{IsNextJob, wants_job}
 use Rattle.lv_refresh.specs.Delivery.{delivery_of}
 use Rattle.lv_refresh.specs.Record.{Record, is_fresh, is_version}
 use Rattle.lv_live.specs.declared.events.Event.TheVariants as event
-use Rattle.lv_live.specs.declared.replies.Reply.TheVariants as reply
+use Rattle.lv_live.specs.declared.replies.ReplyOf.TheVariants as reply
 use Rattle.lv_live.specs.State.{HasClaim, HasDelivery, LiveState, job_at, node_and_version, recorded, with_issued}
 use Rattle.lv_live.specs.Step.{Run, Step}
 use Rattle.lv_live.specs.Turns.{TakesTurn, TakesTurns, turn_replies, turns}

@@ -19,8 +19,8 @@ use Rattle.lv_reduce.specs.declared.reductions.Answer.{Answer}
 use Rattle.lv_reduce.specs.declared.scans.Scan.{Scan}
 use Rattle.lv_live.specs.declared.events.Event.{Event}
 use Rattle.lv_live.specs.declared.events.Event.TheVariants as event
-use Rattle.lv_live.specs.declared.replies.Reply.{Reply}
-use Rattle.lv_live.specs.declared.replies.Reply.TheVariants as reply
+use Rattle.lv_live.specs.declared.replies.ReplyOf.{ReplyOf}
+use Rattle.lv_live.specs.declared.replies.ReplyOf.TheVariants as reply
 use Rattle.lv_live.specs.Step.{EditStep, Reduces, Run, Scans, Step, after_accepted, after_claim, after_delivery, edit_reply, job_of, reduction_reply, scan_reply}
 use Rattle.lv_live.specs.PlainAnswers.{AllHadRoom, answers_in, edits_after, edits_with, is_refresh, plain_answer, plain_answers, plain_edit_reply, plain_reduction_reply, plain_scan_reply, without_counts, without_refresh}
 
@@ -41,7 +41,7 @@ claimed_edits r (Some job) = refl
 
 module _ {S : Type 0} (o : Operations S) (limits : Bounds) where
   -- an event met want of memory
-  abbrev refused_for_want : Reply S
+  abbrev refused_for_want : ReplyOf S
   refused_for_want = reply.Refused NoMemory
 
   -- an edit that did not meet want of memory: its reply, and the edits after it
@@ -79,7 +79,7 @@ module _ {S : Type 0} (o : Operations S) (limits : Bounds) where
       ]
 
   -- one step: what is answered to an edit or a query, and the edits after it
-  plain_step : (r next : Record) (event : Event) (answered : Reply S) → Step o limits r event answered next → answered ≢ reply.Refused NoMemory
+  plain_step : (r next : Record) (event : Event) (answered : ReplyOf S) → Step o limits r event answered next → answered ≢ reply.Refused NoMemory
       → (is_refresh event ≡ false → without_counts answered ≡ plain_answer o limits r.edits event) × (next.edits ≡ edits_after limits r.edits event)
   plain_step r next (event.Edit edit) answered (answer, is, step) room =
       let plain = plain_edit r next edit answer step (λ want. room (is ∙ want)) in
@@ -104,7 +104,7 @@ module _ {S : Type 0} (o : Operations S) (limits : Bounds) where
   refresh_edits edits (event.Scan lo hi inclusive) is = refl
 
   -- every run answers edits and queries by the edits alone
-  pub run_is_plain : (r next : Record) (events : List Event) (replies : List (Reply S)) → Run o limits r events replies next → AllHadRoom replies
+  pub run_is_plain : (r next : Record) (events : List Event) (replies : List (ReplyOf S)) → Run o limits r events replies next → AllHadRoom replies
       → answers_in events replies ≡ plain_answers o limits r.edits (without_refresh events)
   run_is_plain r next [] [] run room = refl
   run_is_plain r next [] (answered ∷ replies) run room = absurd run

@@ -30,9 +30,9 @@ use Rattle.lv_refresh.specs.Honesty.{IsHonest, Stands}
 use Rattle.lv_refresh.specs.Record.{Record, SameRecord}
 use Rattle.lv_refresh.proofs.HonestyLaws.{honest_after_edit, honest_after_install, honest_same, vouched_of_honest}
 use Rattle.lv_live.specs.declared.events.Event.{Event}
-use Rattle.lv_live.specs.declared.replies.Reply.{Reply}
+use Rattle.lv_live.specs.declared.replies.ReplyOf.{ReplyOf}
 use Rattle.lv_live.specs.declared.events.Event.TheVariants as event
-use Rattle.lv_live.specs.declared.replies.Reply.TheVariants as reply
+use Rattle.lv_live.specs.declared.replies.ReplyOf.TheVariants as reply
 use Rattle.lv_live.specs.Kept.{AllOwn, IsOwn, IsWorld}
 use Rattle.lv_live.specs.State.{CanRemake, HasClaim, HasDelivery, HasNoClaims, LiveState, SameLive, SameRefresh, SameSetting, job_at, jobs_with, node_and_version, recorded, with_issued}
 use Rattle.lv_live.specs.Step.{Reduces, Run, Scans, Step, after_accepted, after_delivery, after_edit, claim_reply, delivery_reply, edit_reply, job_of, reduction_reply, scan_reply}
@@ -43,7 +43,7 @@ all_mono P Q xs each all = λ k d inside. each _ (all k d inside)
 
 module _ {S : Type 0} (o : Operations S) (limits : Bounds) where
   -- a run goes on with one more step
-  pub run_goes_on : (r mid next : Record) (events : List Event) (replies : List (Reply S)) (event : Event) (reply : Reply S) → Run o limits r events replies mid → Step o limits mid event reply next → Run o limits r (events ++ event ∷ []) (replies ++ reply ∷ []) next
+  pub run_goes_on : (r mid next : Record) (events : List Event) (replies : List (ReplyOf S)) (event : Event) (reply : ReplyOf S) → Run o limits r events replies mid → Step o limits mid event reply next → Run o limits r (events ++ event ∷ []) (replies ++ reply ∷ []) next
   run_goes_on r mid next [] [] event reply run step = (next, rw (← run) step, refl)
   run_goes_on r mid next [] (_ ∷ _) event reply run step = absurd run
   run_goes_on r mid next (_ ∷ _) [] event reply run step = absurd run

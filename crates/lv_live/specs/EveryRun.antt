@@ -12,8 +12,8 @@ use Rattle.lv_reduce.specs.declared.scans.Scan.{Scan}
 use Rattle.lv_reduce.specs.Answer.{IsAnswer, IsScan, scan_of}
 use Rattle.lv_live.specs.declared.events.Event.{Event}
 use Rattle.lv_live.specs.declared.events.Event.TheVariants as event
-use Rattle.lv_live.specs.declared.replies.Reply.{Reply}
-use Rattle.lv_live.specs.declared.replies.Reply.TheVariants as reply
+use Rattle.lv_live.specs.declared.replies.ReplyOf.{ReplyOf}
+use Rattle.lv_live.specs.declared.replies.ReplyOf.TheVariants as reply
 use Rattle.lv_live.specs.Step.{edit_reply, reduction_reply, scan_reply}
 
 -- an edit is the next of a list of edits behind the first e, and its receipt is that of the edit after these
@@ -33,7 +33,7 @@ pub record IsScanAt {S : Type 0} (o : Operations S) (edits : List Edit) (e lo hi
 
 module _ {S : Type 0} where
   -- whether an edit was accepted
-  abbrev pub is_receipt : Reply S → Bool
+  abbrev pub is_receipt : ReplyOf S → Bool
   is_receipt (reply.Did receipt) = true
   is_receipt reply.Settled = false
   is_receipt (reply.Claimed job node version) = false
@@ -45,7 +45,7 @@ module _ {S : Type 0} where
   is_receipt (reply.Refused refusal) = false
 
   -- the edit that an event made: its own, if it was accepted
-  abbrev pub made_by : Event → Reply S → List Edit
+  abbrev pub made_by : Event → ReplyOf S → List Edit
   made_by (event.Edit edit) answered = if is_receipt answered then edit ∷ [] else []
   made_by event.Settle answered = []
   made_by event.Claim answered = []
@@ -55,14 +55,14 @@ module _ {S : Type 0} where
   made_by (event.Scan lo hi inclusive) answered = []
 
   -- the edits that were accepted, in order
-  abbrev pub accepted_in : List Event → List (Reply S) → List Edit
+  abbrev pub accepted_in : List Event → List (ReplyOf S) → List Edit
   accepted_in [] replies = []
   accepted_in (event ∷ events) [] = []
   accepted_in (event ∷ events) (answered ∷ replies) = made_by event answered ++ accepted_in events replies
 
   -- what an event is answered is true of a list of edits, of which the first e were accepted before it: an accepted edit is the next
   -- of them, with its receipt there; a reduction and a scan are answered at edit e. What is refused tells nothing of them.
-  abbrev pub IsTrueOf : Operations S → List Edit → ℕ → Event → Reply S → Type 0
+  abbrev pub IsTrueOf : Operations S → List Edit → ℕ → Event → ReplyOf S → Type 0
   IsTrueOf o edits e (event.Edit edit) answered =
       (answer : Result Receipt Refusal) × (answered ≡ edit_reply answer) × IfOk answer (IsReceiptAt edits e edit)
   IsTrueOf o edits e event.Settle answered = ⊤
@@ -75,7 +75,7 @@ module _ {S : Type 0} where
       (answer : Result (Scan S) Refusal) × (answered ≡ scan_reply answer) × IfOk answer (IsScanAt o edits e lo hi inclusive)
 
   -- so is each answer of a run, before which the first e were accepted: behind an edit that was accepted it is one more
-  abbrev pub AreTrueOf : Operations S → List Edit → ℕ → List Event → List (Reply S) → Type 0
+  abbrev pub AreTrueOf : Operations S → List Edit → ℕ → List Event → List (ReplyOf S) → Type 0
   AreTrueOf o edits e [] [] = ⊤
   AreTrueOf o edits e [] (answered ∷ replies) = ⊥
   AreTrueOf o edits e (event ∷ events) [] = ⊥

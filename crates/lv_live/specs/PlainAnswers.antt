@@ -10,8 +10,8 @@ use Rattle.lv_edits.specs.Ranges.{range_refusal, slice_of}
 use Rattle.lv_reduce.specs.Answer.{scan_of}
 use Rattle.lv_live.specs.declared.events.Event.{Event}
 use Rattle.lv_live.specs.declared.events.Event.TheVariants as event
-use Rattle.lv_live.specs.declared.replies.Reply.{Reply}
-use Rattle.lv_live.specs.declared.replies.Reply.TheVariants as reply
+use Rattle.lv_live.specs.declared.replies.ReplyOf.{ReplyOf}
+use Rattle.lv_live.specs.declared.replies.ReplyOf.TheVariants as reply
 
 -- whether an event is of refresh alone: a claim, a delivery, or that claims are forgotten
 abbrev pub is_refresh : Event → Bool
@@ -44,7 +44,7 @@ edits_after limits edits (event.Scan lo hi inclusive) = edits
 
 module _ {S : Type 0} where
   -- a reply, without the counts of what was read for it
-  abbrev pub without_counts : Reply S → Reply S
+  abbrev pub without_counts : ReplyOf S → ReplyOf S
   without_counts (reply.Answered answer) = reply.Answered (record answer { cells_read = 0; summaries_read = 0 })
   without_counts (reply.Did receipt) = reply.Did receipt
   without_counts reply.Settled = reply.Settled
@@ -56,36 +56,36 @@ module _ {S : Type 0} where
   without_counts (reply.Refused refusal) = reply.Refused refusal
 
   -- the replies to events that are not of refresh, without counts, in order
-  abbrev pub answers_in : List Event → List (Reply S) → List (Reply S)
+  abbrev pub answers_in : List Event → List (ReplyOf S) → List (ReplyOf S)
   answers_in [] replies = []
   answers_in (event ∷ events) [] = []
   answers_in (event ∷ events) (answered ∷ replies) =
       if is_refresh event then answers_in events replies else without_counts answered ∷ answers_in events replies
 
   -- no event met want of memory
-  abbrev pub AllHadRoom : List (Reply S) → Type 0
+  abbrev pub AllHadRoom : List (ReplyOf S) → Type 0
   AllHadRoom replies = All (λ answered. answered ≢ reply.Refused NoMemory) replies
 
   -- an edit's receipt where nothing refuses it, else its refusal
-  abbrev pub plain_edit_reply : List Edit → Edit → Option Refusal → Reply S
+  abbrev pub plain_edit_reply : List Edit → Edit → Option Refusal → ReplyOf S
   plain_edit_reply edits edit None = reply.Did (receipt_of edits edit)
   plain_edit_reply edits edit (Some refusal) = reply.Refused refusal
 
   -- the plain left fold of a range, where nothing refuses it
-  abbrev pub plain_reduction_reply : Operations S → List Edit → ℕ → ℕ → Option Refusal → Reply S
+  abbrev pub plain_reduction_reply : Operations S → List Edit → ℕ → ℕ → Option Refusal → ReplyOf S
   plain_reduction_reply o edits lo hi None =
       reply.Answered record { edit = length edits; value = fold_of o (slice_of edits lo hi); cells_read = 0; summaries_read = 0 }
   plain_reduction_reply o edits lo hi (Some refusal) = reply.Refused refusal
 
   -- the running folds of a range, where nothing refuses it
-  abbrev pub plain_scan_reply : Operations S → List Edit → ℕ → ℕ → Bool → Option Refusal → Reply S
+  abbrev pub plain_scan_reply : Operations S → List Edit → ℕ → ℕ → Bool → Option Refusal → ReplyOf S
   plain_scan_reply o edits lo hi inclusive None =
       reply.Scanned record { edit = length edits; values = scan_of inclusive o (slice_of edits lo hi) }
   plain_scan_reply o edits lo hi inclusive (Some refusal) = reply.Refused refusal
 
   -- what an edit or a query is answered after some edits; of claims, deliveries and forgetting nothing is said here, and
   -- `Settled` stands in their places
-  abbrev pub plain_answer : Operations S → Bounds → List Edit → Event → Reply S
+  abbrev pub plain_answer : Operations S → Bounds → List Edit → Event → ReplyOf S
   plain_answer o limits edits (event.Edit edit) = plain_edit_reply edits edit (verdict_of limits edits edit)
   plain_answer o limits edits event.Settle = reply.Settled
   plain_answer o limits edits event.Claim = reply.Settled
@@ -95,6 +95,6 @@ module _ {S : Type 0} where
   plain_answer o limits edits (event.Scan lo hi inclusive) = plain_scan_reply o edits lo hi inclusive (range_refusal edits lo hi)
 
   -- what edits and queries are answered, each after the edits accepted before it
-  abbrev pub plain_answers : Operations S → Bounds → List Edit → List Event → List (Reply S)
+  abbrev pub plain_answers : Operations S → Bounds → List Edit → List Event → List (ReplyOf S)
   plain_answers o limits edits [] = []
   plain_answers o limits edits (event ∷ events) = plain_answer o limits edits event ∷ plain_answers o limits (edits_after limits edits event) events

@@ -22,8 +22,8 @@ use Rattle.lv_reduce.specs.Answer.{IsAnswer, IsScan, IsScanRefusal, scan_of}
 use Rattle.lv_reduce.specs.Cost.{IsCost}
 use Rattle.lv_live.specs.declared.events.Event.{Event}
 use Rattle.lv_live.specs.declared.events.Event.TheVariants as event
-use Rattle.lv_live.specs.declared.replies.Reply.{Reply}
-use Rattle.lv_live.specs.declared.replies.Reply.TheVariants as reply
+use Rattle.lv_live.specs.declared.replies.ReplyOf.{ReplyOf}
+use Rattle.lv_live.specs.declared.replies.ReplyOf.TheVariants as reply
 
 -- a map from nodes to versions, with another version for one node
 abbrev pub with_version : (Node → Option ℕ) → Node → ℕ → Node → Option ℕ
@@ -54,37 +54,37 @@ job_of r k = if nat_eq k 0 then None else slice_get r.issued (k - 1)
 
 module _ {S : Type 0} where
   -- an edit is answered by its receipt, or by a refusal
-  abbrev pub edit_reply : Result Receipt Refusal → Reply S
+  abbrev pub edit_reply : Result Receipt Refusal → ReplyOf S
   edit_reply (Ok receipt) = reply.Did receipt
   edit_reply (Err refusal) = reply.Refused refusal
 
   -- a claim is answered by the job with its number, or by none
-  abbrev pub claim_reply : ℕ → Option (Node × ℕ) → Reply S
+  abbrev pub claim_reply : ℕ → Option (Node × ℕ) → ReplyOf S
   claim_reply k None = reply.Idle
   claim_reply k (Some job) = reply.Claimed k job.0 job.1
 
   -- the same, by number, node and version together
-  abbrev pub numbered_reply : Option (ℕ × Node × ℕ) → Reply S
+  abbrev pub numbered_reply : Option (ℕ × Node × ℕ) → ReplyOf S
   numbered_reply None = reply.Idle
   numbered_reply (Some (k, n, v)) = reply.Claimed k n v
 
   -- a delivery is answered by what became of it, or refused where no such job was issued
-  abbrev pub delivery_reply : Record → Option (Node × ℕ) → Reply S
+  abbrev pub delivery_reply : Record → Option (Node × ℕ) → ReplyOf S
   delivery_reply r None = reply.Refused NoJob
   delivery_reply r (Some job) = reply.Gave (delivery_of r job.0 job.1)
 
   -- by what became of it, or by a refusal
-  abbrev pub accepted_reply : Result Accepted Refusal → Reply S
+  abbrev pub accepted_reply : Result Accepted Refusal → ReplyOf S
   accepted_reply (Ok accepted) = reply.Gave accepted
   accepted_reply (Err refusal) = reply.Refused refusal
 
   -- a reduction is answered by its value, or by a refusal
-  abbrev pub reduction_reply : Result (Answer S) Refusal → Reply S
+  abbrev pub reduction_reply : Result (Answer S) Refusal → ReplyOf S
   reduction_reply (Ok answer) = reply.Answered answer
   reduction_reply (Err refusal) = reply.Refused refusal
 
   -- a scan is answered by its values, or by a refusal
-  abbrev pub scan_reply : Result (Scan S) Refusal → Reply S
+  abbrev pub scan_reply : Result (Scan S) Refusal → ReplyOf S
   scan_reply (Ok scan) = reply.Scanned scan
   scan_reply (Err refusal) = reply.Refused refusal
 
@@ -117,7 +117,7 @@ Scans o r lo hi inclusive (Ok scan) = IsScan r.edits lo hi (scan_of inclusive o 
 Scans o r lo hi inclusive (Err refusal) = IsScanRefusal r.edits lo hi refusal
 
 -- one event on a record, its reply, and the record after it
-abbrev pub Step : {S : Type 0} → Operations S → Bounds → Record → Event → Reply S → Record → Type 0
+abbrev pub Step : {S : Type 0} → Operations S → Bounds → Record → Event → ReplyOf S → Record → Type 0
 Step o limits r (event.Edit edit) answered next = (answer : Result Receipt Refusal) × (answered ≡ edit_reply answer) × EditStep limits r edit answer next
 Step o limits r event.Settle answered next = (answered ≡ reply.Settled) × SameRecord r next
 Step o limits r event.Claim answered next =
@@ -130,7 +130,7 @@ Step o limits r (event.Scan lo hi inclusive) answered next =
     (answer : Result (Scan _) Refusal) × (answered ≡ scan_reply answer) × Scans o r lo hi inclusive answer × SameRecord r next
 
 -- a list of events, the reply to each, and the record after all
-abbrev pub Run : {S : Type 0} → Operations S → Bounds → Record → List Event → List (Reply S) → Record → Type 0
+abbrev pub Run : {S : Type 0} → Operations S → Bounds → Record → List Event → List (ReplyOf S) → Record → Type 0
 Run o limits r [] [] next = next ≡ r
 Run o limits r [] (_ ∷ _) next = ⊥
 Run o limits r (_ ∷ _) [] next = ⊥

@@ -7,8 +7,8 @@ use Rattle.lv_refresh.specs.Carried.{Carried}
 use Rattle.lv_refresh.specs.Claim.{IsNextJob}
 use Rattle.lv_live.specs.declared.events.Event.{Event}
 use Rattle.lv_live.specs.declared.events.Event.TheVariants as event
-use Rattle.lv_live.specs.declared.replies.Reply.{Reply}
-use Rattle.lv_live.specs.declared.replies.Reply.TheVariants as reply
+use Rattle.lv_live.specs.declared.replies.ReplyOf.{ReplyOf}
+use Rattle.lv_live.specs.declared.replies.ReplyOf.TheVariants as reply
 use Rattle.lv_live.specs.State.{HasClaim, HasDelivery, LiveState, node_and_version, recorded, with_issued}
 use Rattle.lv_live.specs.Step.{Run}
 
@@ -18,7 +18,7 @@ turns k zero = []
 turns k (suc n) = event.Claim ∷ event.Deliver k ∷ turns (k + 1) n
 
 -- the replies to turns with these jobs: each outcome is installed
-abbrev pub turn_replies : {S : Type 0} → ℕ → List (Node × ℕ) → List (Reply S)
+abbrev pub turn_replies : {S : Type 0} → ℕ → List (Node × ℕ) → List (ReplyOf S)
 turn_replies k [] = []
 turn_replies k (job ∷ jobs) = reply.Claimed k job.0 job.1 ∷ reply.Gave Installed ∷ turn_replies (k + 1) jobs
 

@@ -27,7 +27,7 @@ pub use following::{Touched, touched_indices};
 pub use issued::Issued;
 pub use live::Live;
 pub use playing::{claim, deliver};
-pub use replies::Reply;
+pub use replies::{Reply, ReplyOf};
 pub use theorems::{
     answers_are_plain, every_run_is_true_of_its_edits, honest_outcomes_are_vouched_for,
     honesty_lasts, honesty_lasts_through_batches, jobs_stay_vouched_for, refresh_changes_no_answer,

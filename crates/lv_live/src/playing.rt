@@ -9,7 +9,7 @@ ghost use Rattle.lv_live.specs.declared.events.Event.TheVariants as event;
 use crate::events::Event;
 use crate::issued::Issued;
 use crate::live::Live;
-use crate::replies::Reply;
+use crate::replies::{Reply, ReplyOf};
 use lv_bodies::Body;
 use lv_edits::Edit;
 use lv_geometry::{Node, Refusal};
@@ -23,12 +23,12 @@ pub fn play<B: Body>(
     live: &mut Live<B>,
     issued: &mut Issued<B>,
     events: &[Event],
-    replies: &mut Vec<Reply<B::S>>,
+    replies: &mut Vec<Reply<B>>,
 )
     requires world { IsWorld (B.operations live.old.body) live.old issued.old.jobs }
     requires issued { length events.now ≤ issued.old.room }
     requires replies { vec_len replies.old + length events.now ≤ vec_capacity replies.old }
-    ensures run { (said : List (Reply B.S)) × (replies.new.items ≡ replies.old.items ++ said)
+    ensures run { (said : List (ReplyOf B.S)) × (replies.new.items ≡ replies.old.items ++ said)
         × Run (B.operations live.old.body) live.old.history.limits (with_issued live.old issued.old.jobs) events.now said (with_issued live.new issued.new.jobs) }
     ensures world { IsWorld (B.operations live.old.body) live.new issued.new.jobs }
     ensures setting { SameSetting live.old live.new }
@@ -45,7 +45,7 @@ fn play_one<B: Body>(
     live: &mut Live<B>,
     issued: &mut Issued<B>,
     event: Event,
-) -> Reply<B::S>
+) -> Reply<B>
     requires world { IsWorld (B.operations live.old.body) live.old issued.old.jobs }
     requires room { 0 < issued.old.room }
     ensures step { Step (B.operations live.old.body) live.old.history.limits (with_issued live.old issued.old.jobs) event result (with_issued live.new issued.new.jobs) }
@@ -65,29 +65,29 @@ fn play_one<B: Body>(
 }
 
 // Makes an edit.
-fn play_edit<B: Body>(live: &mut Live<B>, edit: Edit) -> Reply<B::S>
+fn play_edit<B: Body>(live: &mut Live<B>, edit: Edit) -> Reply<B>
     ensures step { (jobs : List (Carried B B.S)) → Step (B.operations live.old.body) live.old.history.limits (with_issued live.old jobs) (event.Edit edit) result (with_issued live.new jobs) }
     ensures world { (jobs : List (Carried B B.S)) → IsWorld (B.operations live.old.body) live.old jobs → IsWorld (B.operations live.old.body) live.new jobs }
     ensures setting { SameSetting live.old live.new }
 {
     match live.apply(edit) {
-        Ok(receipt) => Reply::Did(receipt),
-        Err(refusal) => Reply::Refused(refusal),
+        Ok(receipt) => ReplyOf::Did(receipt),
+        Err(refusal) => ReplyOf::Refused(refusal),
     }
 }
 
 // Completes what is pending.
-fn play_settle<B: Body>(live: &mut Live<B>) -> Reply<B::S>
+fn play_settle<B: Body>(live: &mut Live<B>) -> Reply<B>
     ensures step { (jobs : List (Carried B B.S)) → Step (B.operations live.old.body) live.old.history.limits (with_issued live.old jobs) event.Settle result (with_issued live.new jobs) }
     ensures world { (jobs : List (Carried B B.S)) → IsWorld (B.operations live.old.body) live.old jobs → IsWorld (B.operations live.old.body) live.new jobs }
     ensures setting { SameSetting live.old live.new }
 {
     live.settle();
-    Reply::Settled
+    ReplyOf::Settled
 }
 
 // Answers a claim.
-fn play_claim<B: Body>(live: &mut Live<B>, issued: &mut Issued<B>) -> Reply<B::S>
+fn play_claim<B: Body>(live: &mut Live<B>, issued: &mut Issued<B>) -> Reply<B>
     requires room { 0 < issued.old.room }
     ensures step { Step (B.operations live.old.body) live.old.history.limits (with_issued live.old issued.old.jobs) event.Claim result (with_issued live.new issued.new.jobs) }
     ensures world { IsWorld (B.operations live.old.body) live.old issued.old.jobs → IsWorld (B.operations live.old.body) live.new issued.new.jobs }
@@ -95,8 +95,12 @@ fn play_claim<B: Body>(live: &mut Live<B>, issued: &mut Issued<B>) -> Reply<B::S
     ensures room { issued.old.room ≤ issued.new.room + 1 }
 {
     match claim(live, issued) {
-        Some((job, node, version)) => Reply::Claimed { job, node, version },
-        None => Reply::Idle,
+        Some((job, node, version)) => ReplyOf::Claimed {
+            k: job,
+            node,
+            version,
+        },
+        None => ReplyOf::Idle,
     }
 }
 
@@ -118,15 +122,15 @@ pub fn claim<B: Body>(live: &mut Live<B>, issued: &mut Issued<B>) -> Option<(u64
 }
 
 // Answers a delivery.
-fn play_delivery<B: Body>(live: &mut Live<B>, issued: &Issued<B>, k: u64) -> Reply<B::S>
+fn play_delivery<B: Body>(live: &mut Live<B>, issued: &Issued<B>, k: u64) -> Reply<B>
     requires world { IsWorld (B.operations live.old.body) live.old issued.now.jobs }
     ensures step { Step (B.operations live.old.body) live.old.history.limits (with_issued live.old issued.now.jobs) (event.Deliver k) result (with_issued live.new issued.now.jobs) }
     ensures world { IsWorld (B.operations live.old.body) live.new issued.now.jobs }
     ensures setting { SameSetting live.old live.new }
 {
     match deliver(live, issued, k) {
-        Ok(accepted) => Reply::Gave(accepted),
-        Err(refusal) => Reply::Refused(refusal),
+        Ok(accepted) => ReplyOf::Gave(accepted),
+        Err(refusal) => ReplyOf::Refused(refusal),
     }
 }
 
@@ -146,38 +150,32 @@ pub fn deliver<B: Body>(live: &mut Live<B>, issued: &Issued<B>, k: u64) -> Resul
 }
 
 // Forgets all claims.
-fn play_forget<B: Body>(live: &mut Live<B>) -> Reply<B::S>
+fn play_forget<B: Body>(live: &mut Live<B>) -> Reply<B>
     ensures step { (jobs : List (Carried B B.S)) → Step (B.operations live.old.body) live.old.history.limits (with_issued live.old jobs) event.Forget result (with_issued live.new jobs) }
     ensures world { (jobs : List (Carried B B.S)) → IsWorld (B.operations live.old.body) live.old jobs → IsWorld (B.operations live.old.body) live.new jobs }
     ensures setting { SameSetting live.old live.new }
 {
     live.forget_claims();
-    Reply::Forgotten
+    ReplyOf::Forgotten
 }
 
 // Answers a reduction.
-fn play_reduction<B: Body>(live: &Live<B>, lo: u32, hi: u32) -> Reply<B::S>
+fn play_reduction<B: Body>(live: &Live<B>, lo: u32, hi: u32) -> Reply<B>
     ensures { (jobs : List (Carried B B.S)) → Step (B.operations live.now.body) live.now.history.limits (with_issued live.now jobs) (event.Reduce lo hi) result (with_issued live.now jobs) }
 {
     match live.reduce(lo, hi) {
-        Ok(answer) => Reply::Answered(answer),
-        Err(refusal) => Reply::Refused(refusal),
+        Ok(answer) => ReplyOf::Answered(answer),
+        Err(refusal) => ReplyOf::Refused(refusal),
     }
 }
 
 // Answers a scan.
-fn play_scan<B: Body>(
-    alloc: Global,
-    live: &Live<B>,
-    lo: u32,
-    hi: u32,
-    inclusive: bool,
-) -> Reply<B::S>
+fn play_scan<B: Body>(alloc: Global, live: &Live<B>, lo: u32, hi: u32, inclusive: bool) -> Reply<B>
     ensures { (jobs : List (Carried B B.S)) → Step (B.operations live.now.body) live.now.history.limits (with_issued live.now jobs) (event.Scan lo hi inclusive) result (with_issued live.now jobs) }
 {
     match scan(alloc, live, lo, hi, inclusive) {
-        Ok(scan) => Reply::Scanned(scan),
-        Err(refusal) => Reply::Refused(refusal),
+        Ok(scan) => ReplyOf::Scanned(scan),
+        Err(refusal) => ReplyOf::Refused(refusal),
     }
 }
 

@@ -22,8 +22,8 @@ ghost use Rattle.lv_live.specs.Turns.{TakesTurns};
 ghost use Rattle.lv_live.specs.declared.batches.Batched.{Batched};
 ghost use Rattle.lv_live.specs.declared.batches.BlockJob.{BlockJob};
 ghost use Rattle.lv_live.specs.declared.events.Event.{Event};
-ghost use Rattle.lv_live.specs.declared.replies.Reply.{Reply};
-ghost use Rattle.lv_live.specs.declared.replies.Reply.TheVariants.{Refused};
+ghost use Rattle.lv_live.specs.declared.replies.ReplyOf.{ReplyOf};
+ghost use Rattle.lv_live.specs.declared.replies.ReplyOf.TheVariants.{Refused};
 
 use lv_bodies::Body;
 
@@ -32,16 +32,16 @@ use lv_bodies::Body;
 /// at edit e, and is the plain left fold of its range after the first e edits; a scan has its running folds. An accepted edit is the
 /// next one behind the first e, and its receipt is the one there.
 pub fn every_run_is_true_of_its_edits<B: Body>()
-    ensures edits { (body : B) (limits : Bounds) (r next : Record) (events : List Event) (replies : List (Reply B.S)) →
+    ensures edits { (body : B) (limits : Bounds) (r next : Record) (events : List Event) (replies : List (ReplyOf B.S)) →
         Run (B.operations body) limits r events replies next → next.edits ≡ r.edits ++ accepted_in events replies }
-    ensures answers { (body : B) (limits : Bounds) (r next : Record) (events : List Event) (replies : List (Reply B.S)) →
+    ensures answers { (body : B) (limits : Bounds) (r next : Record) (events : List Event) (replies : List (ReplyOf B.S)) →
         Run (B.operations body) limits r events replies next → AreTrueOf (B.operations body) next.edits (length r.edits) events replies }
 {}
 
 /// In every run edits and queries are answered by the edits alone: each reduction is the plain left fold of its range, and
 /// each scan its running folds, after the edits accepted before it, counts of reads apart. Runs that meet want of memory apart.
 pub fn answers_are_plain<B: Body>()
-    ensures { (body : B) (limits : Bounds) (r next : Record) (events : List Event) (replies : List (Reply B.S)) →
+    ensures { (body : B) (limits : Bounds) (r next : Record) (events : List Event) (replies : List (ReplyOf B.S)) →
         Run (B.operations body) limits r events replies next → AllHadRoom replies →
         answers_in events replies ≡ plain_answers (B.operations body) limits r.edits (without_refresh events) }
 {}
@@ -49,7 +49,7 @@ pub fn answers_are_plain<B: Body>()
 /// Refresh changes no answer: two runs from the same edits, whose events differ in claims, deliveries and forgetting alone,
 /// answer their edits and queries alike, counts of reads apart. Runs that meet want of memory apart.
 pub fn refresh_changes_no_answer<B: Body>()
-    ensures { (body : B) (limits : Bounds) (r next q after : Record) (events others : List Event) (replies answers : List (Reply B.S)) →
+    ensures { (body : B) (limits : Bounds) (r next q after : Record) (events others : List Event) (replies answers : List (ReplyOf B.S)) →
         Run (B.operations body) limits r events replies next → AllHadRoom replies →
         Run (B.operations body) limits q others answers after → AllHadRoom answers →
         r.edits ≡ q.edits → without_refresh events ≡ without_refresh others →
@@ -59,10 +59,10 @@ pub fn refresh_changes_no_answer<B: Body>()
 /// Where memory is never wanted, a run has one outcome: from records that say the same, the same events have the same replies,
 /// with every count and every job, and leave records that say the same.
 pub fn runs_have_one_outcome<B: Body>()
-    ensures replies { (body : B) (limits : Bounds) (r next q after : Record) (events : List Event) (replies answers : List (Reply B.S)) →
+    ensures replies { (body : B) (limits : Bounds) (r next q after : Record) (events : List Event) (replies answers : List (ReplyOf B.S)) →
         SameRecord r q → Run (B.operations body) limits r events replies next → AllHadRoom replies →
         Run (B.operations body) limits q events answers after → AllHadRoom answers → replies ≡ answers }
-    ensures record { (body : B) (limits : Bounds) (r next q after : Record) (events : List Event) (replies answers : List (Reply B.S)) →
+    ensures record { (body : B) (limits : Bounds) (r next q after : Record) (events : List Event) (replies answers : List (ReplyOf B.S)) →
         SameRecord r q → Run (B.operations body) limits r events replies next → AllHadRoom replies →
         Run (B.operations body) limits q events answers after → AllHadRoom answers → SameRecord next after }
 {}
@@ -76,7 +76,7 @@ pub fn refusals_change_nothing<B: Body>()
 /// Honesty lasts: contents that were taken honestly at a version stay so through every event, whatever is edited, claimed,
 /// delivered or forgotten.
 pub fn honesty_lasts<B: Body>()
-    ensures { (body : B) (limits : Bounds) (r next : Record) (event : Event) (answered : Reply B.S) (n : Node) (v : ℕ) (contents : Contents B.S) →
+    ensures { (body : B) (limits : Bounds) (r next : Record) (event : Event) (answered : ReplyOf B.S) (n : Node) (v : ℕ) (contents : Contents B.S) →
         IsLegal r.edits → Step (B.operations body) limits r event answered next →
         IsHonest (B.operations body) r n v contents → IsHonest (B.operations body) next n v contents }
 {}
@@ -91,7 +91,7 @@ pub fn honest_outcomes_are_vouched_for<B: Body>()
 /// A job stays good: contents that were taken honestly at some moment of a run are vouched for at its end, whatever happened
 /// between, and so at every later moment.
 pub fn jobs_stay_vouched_for<B: Body>()
-    ensures { (body other : B) (limits : Bounds) (r next : Record) (events : List Event) (replies : List (Reply B.S)) (n : Node) (v : ℕ) (contents : Contents B.S) →
+    ensures { (body other : B) (limits : Bounds) (r next : Record) (events : List Event) (replies : List (ReplyOf B.S)) (n : Node) (v : ℕ) (contents : Contents B.S) →
         B.meaning body ≡ B.meaning other → IsLegal r.edits → Run (B.operations body) limits r events replies next →
         IsHonest (B.operations body) r n v contents → Vouched (B.operations body) next (B.meaning body ≡ B.meaning other) n v contents }
 {}

@@ -64,7 +64,7 @@ pub fn run<B: Body>(
     alloc: Global,
     world: &mut World<B>,
     events: &[Event],
-) -> Result<Vec<Reply<B::S>>, Refusal>
+) -> Result<Vec<Reply<B>>, Refusal>
     ensures ok { IfOk result (λ replies. Run (B.operations world.old.live.body) world.old.live.history.limits
         (world_record world.old) events.now replies.items (world_record world.new)) }
     ensures err { IfErr result (λ refusal. refusal ≡ Refusal.NoMemory) }

@@ -21,7 +21,7 @@ use Rattle.lv_refresh.specs.Carried.{Carried}
 use Rattle.lv_reduce.specs.declared.costs.Reads.{Reads}
 use Rattle.lv_reduce.specs.declared.reductions.Answer.{Answer}
 use Rattle.lv_live.specs.declared.events.Event.TheVariants as event
-use Rattle.lv_live.specs.declared.replies.Reply.TheVariants as reply
+use Rattle.lv_live.specs.declared.replies.ReplyOf.TheVariants as reply
 use Rattle.lv_live.specs.State.{HasNoClaims, SameLive, SameRefresh, recorded, with_issued}
 use Rattle.lv_live.specs.Step.{Costs, Reduces, Step, accepted_reply, numbered_reply, reduction_reply}
 use Rattle.lv_live.proofs.WorldLaws.{step_edit, step_forget, step_reduction, step_settle}

@@ -9,8 +9,8 @@ use Rattle.lv_edits.specs.declared.receipt.Receipt.{Receipt}
 use Rattle.lv_refresh.specs.Record.{Record}
 use Rattle.lv_live.specs.declared.events.Event.{Event}
 use Rattle.lv_live.specs.declared.events.Event.TheVariants as event
-use Rattle.lv_live.specs.declared.replies.Reply.{Reply}
-use Rattle.lv_live.specs.declared.replies.Reply.TheVariants as reply
+use Rattle.lv_live.specs.declared.replies.ReplyOf.{ReplyOf}
+use Rattle.lv_live.specs.declared.replies.ReplyOf.TheVariants as reply
 use Rattle.lv_live.specs.Step.{EditStep, edit_reply}
 use Rattle.lv_live.proofs.OneOutcomeLaws.{one_record, one_step}
 use Rattle.lv_standing.specs.declared.notes.Note.{Note}
@@ -29,7 +29,7 @@ use Rattle.lv_script.specs.Script.{CommandAnswer, Does, HasQueries, LineAnswer, 
 use Rattle.lv_script.specs.Beginnings.{Begins}
 
 -- the reply to what was refused for want of memory
-abbrev want : Reply SixSummary
+abbrev want : ReplyOf SixSummary
 want = reply.Refused NoMemory
 
 -- states with the same limits, record and queries are one
@@ -82,7 +82,7 @@ abbrev IsOne : List ℕ → List ℕ → ScriptState → ScriptState → Type 0
 IsOne text told new after = (text ≡ told) × (new ≡ after)
 
 -- an event that was answered in two ways with room was answered in one
-does_one : (old new after : ScriptState) (event : Event) (answered other : Reply SixSummary) → Does old event answered new → Does old event other after
+does_one : (old new after : ScriptState) (event : Event) (answered other : ReplyOf SixSummary) → Does old event answered new → Does old event other after
     → answered ≢ want → other ≢ want → (answered ≡ other) × (new ≡ after)
 does_one old new after event answered other first second room had =
     let one = one_step six_operations old.limits old.seen new.seen after.seen event answered other first.step second.step room had in

@@ -17,8 +17,8 @@ use Rattle.lv_edits.specs.Ranges.{range_refusal, slice_of}
 use Rattle.lv_refresh.specs.Record.{Record, SameRecord}
 use Rattle.lv_live.specs.declared.events.Event.{Event}
 use Rattle.lv_live.specs.declared.events.Event.TheVariants as event
-use Rattle.lv_live.specs.declared.replies.Reply.{Reply}
-use Rattle.lv_live.specs.declared.replies.Reply.TheVariants as reply
+use Rattle.lv_live.specs.declared.replies.ReplyOf.{ReplyOf}
+use Rattle.lv_live.specs.declared.replies.ReplyOf.TheVariants as reply
 use Rattle.lv_live.specs.Step.{Step, edit_reply}
 use Rattle.lv_standing.specs.declared.notes.Note.{Note}
 use Rattle.lv_standing.specs.declared.queries.Query.{Query}
@@ -45,7 +45,7 @@ pub record HasQueries (old new : ScriptState) (queries : List Query) : Type 0 wh
   pub queries_are : new.queries ≡ queries
 
 -- an event was answered, and nothing but the record has changed
-pub record Does (old : ScriptState) (event : Event) (answered : Reply SixSummary) (new : ScriptState) : Type 0 where
+pub record Does (old : ScriptState) (event : Event) (answered : ReplyOf SixSummary) (new : ScriptState) : Type 0 where
   pub step : Step six_operations old.limits old.seen event answered new.seen
   pub limits : new.limits ≡ old.limits
   pub queries : new.queries ≡ old.queries
@@ -72,7 +72,7 @@ pub record TellsEdit (old : ScriptState) (e : Edit) (text : List ℕ) (new : Scr
   pub text_is : text ≡ edit_text answer ++ notes_text notes
 
 -- what an event is answered, as a line; of a reduction it is what was read for it, and no line asks for a scan as an event
-abbrev pub reply_text : Reply SixSummary → List ℕ
+abbrev pub reply_text : ReplyOf SixSummary → List ℕ
 reply_text (reply.Did receipt) = receipt_text receipt
 reply_text reply.Settled = settled_text
 reply_text (reply.Claimed job node version) = job_text job node version
@@ -85,7 +85,7 @@ reply_text (reply.Refused refusal) = refused_text refusal
 
 -- an event is answered by its reply
 pub record TellsEvent (old : ScriptState) (event : Event) (text : List ℕ) (new : ScriptState) : Type 0 where
-  pub answered : Reply SixSummary
+  pub answered : ReplyOf SixSummary
   pub does : Does old event answered new
   pub text_is : text ≡ reply_text answered
 

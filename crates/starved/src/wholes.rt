@@ -4,7 +4,7 @@ use crate::told::{Told, again, begin, end, first, right};
 use lv_bodies::Sum;
 use lv_edits::{Edit, Receipt};
 use lv_geometry::{Limits, Refusal};
-use lv_live::{Event, Reply, World, run};
+use lv_live::{Event, ReplyOf, World, run};
 use lv_machine::{Call, Event as Turn, Machine, Outcome, Said};
 use lv_script::{Line, print_command, read_line};
 use std::alloc::Global;
@@ -19,12 +19,12 @@ fn events() -> [Event; 100] {
 }
 
 // How many of the replies are receipts, and how many refusals for want of memory.
-fn counted(replies: &[Reply<u64>]) -> (usize, usize) {
+fn counted(replies: &[ReplyOf<u64>]) -> (usize, usize) {
     let (mut receipts, mut refused) = (0usize, 0usize);
     for reply in replies {
         match reply {
-            Reply::Did(_) => receipts = receipts.saturating_add(1),
-            Reply::Refused(Refusal::NoMemory) => refused = refused.saturating_add(1),
+            ReplyOf::Did(_) => receipts = receipts.saturating_add(1),
+            ReplyOf::Refused(Refusal::NoMemory) => refused = refused.saturating_add(1),
             _ => {}
         }
     }
