@@ -126,8 +126,10 @@ class Windows(Twin):
             for _ in load:
                 load.push_many([2, 2], [8, 9])
         self.assertEqual((list(reversed(load)), load[1], load.truncate(4), repr(load)), ([9, 8, 7, 6, 5], 6, 1, "<livevec.Samples of 0 to 4 at edit 6>"))
+        # C has no such edits of samples
         for wrong in ("push_many", "swap", "extend", "append", "write_many"):
             self.assertEqual(hasattr(load, wrong), wrong == "push_many")
+        self.assertEqual((load.clear(), len(load), load.push(2, 1), load.edits), (4, 0, 0, 8))
         with load:
             pass
         for call in (lambda: load.push(9, 9), lambda: load.push_many([], []), lambda: load.last(1), lambda: load.between(0, 1), lambda: load.times(0, 0),

@@ -1,14 +1,16 @@
 """A series and samples that threads share, and a shared vector that goes on as its copy. Values are worked out by hand."""
 import _thread
 import copy
+import signal
 import subprocess
 import sys
 import threading
 import time
 import unittest
+from array import array
 
 import livevec
-from livevec import Kind, LongReduced, Queries, Receipt, Sample, Samples, Series, SharedSamples, SharedSeries, SharedVector, Vector
+from livevec import Busy, Kind, LongReduced, Queries, Receipt, Sample, Samples, Series, SharedSamples, SharedSeries, SharedVector, Vector
 
 
 def values(notes):
@@ -136,7 +138,76 @@ class Renewed(unittest.TestCase):
         self.assertEqual((shared.value("automaton"), shared.push(1), shared.reduce().edit), ((6, 7, 0, 1, 2, 3, 4, 5), Receipt(4, 3), 4))
 
 
+class AsAlone(unittest.TestCase):
+    """What is shared answers as its twin that isn't: of [3, -1, 4, 1, -5, 9, 2, 6], values worked out by hand where they are short."""
+
+    ELEMENTS, TIMES = [3, -1, 4, 1, -5, 9, 2, 6], [0, 5, 5, 10, 20, 30, 31, 40]
+    ASKED = (("where_least",), ("where_greatest", 0, 5), ("where_best",), ("where_reaches", 6), ("where_reaches_back", 8), ("where_first_at_least", 4),
+             ("where_first_at_most", -1, 2), ("where_last_at_least", 4, 0, 5), ("where_last_at_most", 1), ("total", 1, 5), ("value", "affine", 2, 4),
+             ("value_many", "sum", [(0, 3), (2, 8)]), ("to_array", 2, 5), ("least", 3), ("best",))
+    CELLS = (("rolling", "greatest", 3), ("scan_inclusive_by", "sum", 2), ("scan_exclusive_by", "least"))
+
+    def forms(self):
+        yield SharedVector(Vector(self.ELEMENTS)), Vector(self.ELEMENTS)
+        yield SharedSeries(Series(self.ELEMENTS)), Series(self.ELEMENTS)
+        yield SharedSamples(Samples(self.TIMES, self.ELEMENTS)), Samples(self.TIMES, self.ELEMENTS)
+
+    def test_each_question(self):
+        for shared, alone in self.forms():
+            with self.subTest(shared=shared), shared:
+                for name, *given in self.ASKED:
+                    self.assertEqual(getattr(shared, name)(*given), getattr(alone, name)(*given), (name, given))
+                for name, *given in self.CELLS:
+                    self.assertEqual(getattr(shared, name)(*given).cells.tolist(), getattr(alone, name)(*given).cells.tolist())
+                self.assertEqual(list(shared.scan_inclusive(1)), list(alone.scan_inclusive(1)))
+                self.assertEqual(list(shared.scan_exclusive(1)), list(alone.scan_exclusive(1)))
+                self.assertEqual((shared.copy() == alone, list(reversed(shared)), shared.ask(), shared.ask().edit), (True, self.ELEMENTS[::-1], alone.ask(), 8))
+                column = array("q", [7, 7, 7])
+                self.assertEqual((shared.value_many("sum", iter([(0, 3), (6, 8)]), into=column), column.tolist()), (2, [6, 8, 7]))
+                self.assertEqual((shared.rolling("sum", 2, 5, 8, into=column), column.tolist()), (3, [4, 11, 8]))
+                if not isinstance(shared, SharedSamples):
+                    self.assertEqual((shared.swap(0, 5), shared.write_many([7], [60])), (Receipt(9, 9), 10))
+                self.assertEqual((shared.clear().told, len(shared)), (8, 0))
+                self.assertIsNone(shared.where_least())
+
+    def test_what_one_form_has(self):
+        vector, series, load = (shared for shared, _ in self.forms())
+        self.assertEqual((vector.capacity, vector.summary(0, 3).total), (8, 6))
+        vector.append(7)
+        self.assertEqual((vector[-1], vector.edits), (7, 9))
+        series.prepare("sum")
+        self.assertEqual((Series.load(series.save()), series.expire(2)), (Series(self.ELEMENTS), Receipt(9, 2)))
+        self.assertEqual((load.times(1, 4).tolist(), load.between(5, 10), load.last(10), load.rolling_span("sum", 6).cells.tolist()),
+                         ([5, 5, 10], (1, 3), (6, 8), [3, 2, 6, 4, -5, 9, 11, 6]))
+        self.assertEqual(Samples.load(load.save()), Samples(self.TIMES, self.ELEMENTS))
+
+
 class Ends(unittest.TestCase):
+    def test_a_signal_ends_the_wait_for_a_turn(self):
+        shared = SharedVector(Vector([1]))
+        inside, done = threading.Event(), threading.Event()
+
+        def hold():
+            with shared.locked():
+                inside.set()
+                done.wait(20)
+
+        holder = threading.Thread(target=hold)
+        holder.start()
+        inside.wait()
+        for wait in (lambda: shared.push(2), lambda: shared.locked().__enter__(), shared.close, lambda: shared[0]):
+            threading.Timer(0.05, signal.pthread_kill, (threading.main_thread().ident, signal.SIGINT)).start()
+            self.assertRaises(KeyboardInterrupt, wait)
+        done.set()
+        holder.join()
+        # nobody has it, and nothing was done
+        self.assertEqual((shared.push(3), list(shared)), (Receipt(2, 1), [1, 3]))
+        with shared.locked():
+            self.assertRaises(Busy, shared.push, 4)
+            self.assertRaises(Busy, shared.close)
+        self.assertEqual(shared.close().to_array().tolist(), [1, 3])
+        self.assertRaises(livevec.Closed, shared.push, 5)
+
     def test_a_signal_wakes_who_sleeps(self):
         alerts = SharedSeries().subscribe({"all": "sum"})
         shared = SharedVector()

@@ -64,6 +64,11 @@ class _ByIndex(_SeriesSaved):
         It gives memory back, and never raises NoMemory. Raises Worn, NotKept."""
         return self._edited(_expire(self._at, self._index(index)), index).place
 
+    def clear(self) -> int:
+        """Drops all that is kept, by one edit, and gives how many elements that was. What is pushed next has the index that `first` was. O(log n). Raises
+        Worn."""
+        return self.truncate(self.first)
+
     # Elements and counts.
 
     @property

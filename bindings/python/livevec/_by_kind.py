@@ -1,4 +1,5 @@
-"""What is asked by one kind: the value of a range, of many ranges, and of a window that rolls over them. It is alike of a vector, a series and samples."""
+"""What is asked by one kind: the value of a range, of many ranges, of a window that rolls over them, and where in a range something is. It is alike of
+a vector, a series, samples, and what threads share of these."""
 from __future__ import annotations
 
 import ctypes
@@ -8,12 +9,12 @@ from typing import TYPE_CHECKING, Any, Iterable, Optional, Sequence, Union, over
 
 from ._buffers import _address, _as_column
 from ._kinds import _Chosen, _kind_of, _Mapped, _Stated, _Summed, _Value, Kind
-from ._numbers import _whole
+from ._numbers import _as_i64, _whole
 from ._ranges import _as_rows, _as_table
 from ._refusals import BadKind, ShortBuffer
 from ._scans import _CELLS, Column
 from ._structures import _Values
-from ._values import _cells_in, _signed, _value_of, _values_in
+from ._values import BestRun, Placed, _cells_in, _signed, _value_of, _values_in
 
 if TYPE_CHECKING:
     from _typeshed import WriteableBuffer
@@ -25,10 +26,10 @@ if TYPE_CHECKING:
 
 
 class _ByKind:
-    """The part of `Vector`, `Series`, `Samples` and what threads share of these that answers about one range by one kind.
+    """The part of `Vector`, `Series`, `Samples` and what threads share of these that answers by one kind.
 
     What a question costs: of a series, O(log n) by the kind's tree, which the first question by that kind makes in O(n). Of a vector, O(log n), and
-    at most as much again for each edit since the last question by that kind: O(n) at first."""
+    at most as much again for each edit since the last question by that kind: O(n) at first. Shared, it is one call under the lock."""
 
     __slots__ = ()
 
@@ -72,19 +73,6 @@ class _ByKind:
         values = self._valued(Kind.BEST, lo, hi)
         return (values.best_high << 64) + values.best_low if values.any else None
 
-    # Within: by a call of its own.
-
-    def _valued(self, kind: Kind, lo: Optional[int], hi: Optional[int]) -> _Values:
-        raise NotImplementedError
-
-
-class _ManyByKind(_ByKind):
-    """The part of `Vector`, `Series` and `Samples` that answers about many ranges by one kind."""
-
-    __slots__ = ()
-    # the numbers of an index, as `array` names them
-    _index_code: str
-
     @overload
     def value_many(  # type: ignore[misc]
         self, kind: _Summed, ranges: _Ranges, *, into: None = None) -> list[int]: ...
@@ -116,10 +104,7 @@ class _ManyByKind(_ByKind):
         Each range costs what `value` does, without the way into C and back. Raises BadRange, or OutOfRange (NotKept of a series), where a range is
         refused: its `place` says which is the first. Raises ShortBuffer of a column with less room, and NoMemory; ValueError of what is no kind
         or no pair; TypeError of what is no such column. What is raised leaves the column as it was."""
-        of = _kind_of(kind)
-        room = None if into is None else _as_column(into, *_CELLS[of])
-        _, answers, length = self._answers(of, ranges, room)
-        return _values_in(answers, of)[:length] if room is None else _put(answers, of, length, room)
+        return self._many(_kind_of(kind), ranges, into)
 
     @overload
     def rolling(
@@ -143,14 +128,7 @@ class _ManyByKind(_ByKind):
         what `value_many` raises."""
         if _whole(window, "the window") < 1:
             raise ValueError(f"a window is of 1 element or more, not of {window}")
-        of = _kind_of(kind)
-        start, lo, hi = self._start(), *self._range(lo, hi)
-        if lo == hi or self._room(lo, hi) != hi - lo:
-            # raises where that is no range of what there is
-            self._valued(of, lo, hi)
-        cut = min(max(start + window - lo, 0), hi - lo)
-        starts = array(self._index_code, [start]) * cut + array(self._index_code, range(lo + cut + 1 - window, hi + 1 - window))
-        return self._rolled(of, starts, lo, hi, into)
+        return self._rolling(_kind_of(kind), window, lo, hi, into)
 
     def total(self, lo: Optional[int] = None, hi: Optional[int] = None) -> int:
         """The sum of a range, exact however large it is: it never wraps.
@@ -158,6 +136,102 @@ class _ManyByKind(_ByKind):
         It is told by the sum modulo 2**64, the least and the greatest, so it costs three times what `value` does, and of a series makes those three
         trees. Only where elements are so far apart that these leave it open (of n elements by more than 2**64 / n), or the vector is of one
         kind, is the range read instead, which is linear. It is more than one call. Raises as `value`."""
+        return self._total(lo, hi)
+
+    # Where something is. It is found in steps of the kind's tree, so each of these costs what `value` does. Each raises what `value` does, too, and
+    # OverflowError of a number that doesn't fit 64 bits.
+
+    def where_least(self, lo: Optional[int] = None, hi: Optional[int] = None) -> Optional[Placed]:
+        """The first of the least elements, and where it is; None of an empty range. O(log n), as `value`."""
+        return self._placed("least", lo, hi)
+
+    def where_greatest(self, lo: Optional[int] = None, hi: Optional[int] = None) -> Optional[Placed]:
+        """The first of the greatest elements, and where it is; None of an empty range. O(log n), as `value`."""
+        return self._placed("greatest", lo, hi)
+
+    def where_best(self, lo: Optional[int] = None, hi: Optional[int] = None) -> Optional[BestRun]:
+        """Where the best run is: of several the one that ends first, and of those the shortest; None of an empty range. O(log n), as `value`."""
+        found = self._located("best", lo, hi)
+        return BestRun(found.lo, found.hi, (found.sum_high << 64) + found.sum_low) if found else None
+
+    def where_reaches(self, sum: int, lo: Optional[int] = None, hi: Optional[int] = None) -> Optional[int]:
+        """The least end, from `lo` to `hi`, up to which the elements from `lo` on add up to `sum` or more; None if they do at no end. Elements may be
+        negative, and no sum wraps. O(log n), by the kind of best runs."""
+        found = self._located("reaches", lo, hi, _as_i64(sum, "the sum"))
+        return None if found is None else int(found.hi)
+
+    def where_reaches_back(self, sum: int, lo: Optional[int] = None, hi: Optional[int] = None) -> Optional[int]:
+        """The greatest start, from `hi` down to `lo`, from which on the elements up to `hi` do; None if they do from no start. Else as
+        `where_reaches`."""
+        return self._index_of("reaches_back", lo, hi, _as_i64(sum, "the sum"))
+
+    def where_first_at_least(self, bound: int, lo: Optional[int] = None, hi: Optional[int] = None) -> Optional[int]:
+        """The index of the first element of a range that is at least `bound`; None if no element is. O(log n), by the kind of the greatest."""
+        return self._index_of("first_at_least", lo, hi, _as_i64(bound, "the bound"))
+
+    def where_first_at_most(self, bound: int, lo: Optional[int] = None, hi: Optional[int] = None) -> Optional[int]:
+        """The same of the first element that is at most `bound`, by the kind of the least."""
+        return self._index_of("first_at_most", lo, hi, _as_i64(bound, "the bound"))
+
+    def where_last_at_least(self, bound: int, lo: Optional[int] = None, hi: Optional[int] = None) -> Optional[int]:
+        """The same of the last element that is at least `bound`, by the kind of the greatest."""
+        return self._index_of("last_at_least", lo, hi, _as_i64(bound, "the bound"))
+
+    def where_last_at_most(self, bound: int, lo: Optional[int] = None, hi: Optional[int] = None) -> Optional[int]:
+        """The same of the last element that is at most `bound`, by the kind of the least."""
+        return self._index_of("last_at_most", lo, hi, _as_i64(bound, "the bound"))
+
+    # Within.
+
+    def _placed(self, what: str, lo: Optional[int], hi: Optional[int]) -> Optional[Placed]:
+        found = self._located(what, lo, hi)
+        return Placed(found.lo, found.value) if found else None
+
+    def _index_of(self, what: str, lo: Optional[int], hi: Optional[int], number: int) -> Optional[int]:
+        found = self._located(what, lo, hi, number)
+        return None if found is None else int(found.lo)
+
+    # By calls of its own, the next five.
+
+    def _valued(self, kind: Kind, lo: Optional[int], hi: Optional[int]) -> _Values:
+        raise NotImplementedError
+
+    def _many(self, kind: Kind, ranges: Any, into: Any) -> Any:
+        raise NotImplementedError
+
+    def _rolling(self, kind: Kind, window: int, lo: Optional[int], hi: Optional[int], into: Any) -> Union[Column, int]:
+        raise NotImplementedError
+
+    def _total(self, lo: Optional[int], hi: Optional[int]) -> int:
+        raise NotImplementedError
+
+    def _located(self, what: str, lo: Optional[int], hi: Optional[int], *number: int) -> Any:
+        """What C has found by the search of a name; None if there is nothing."""
+        raise NotImplementedError
+
+
+class _ManyByKind(_ByKind):
+    """The same of `Vector`, `Series` and `Samples`, which C is asked about."""
+
+    __slots__ = ()
+    # the numbers of an index, as `array` names them
+    _index_code: str
+
+    def _many(self, kind: Kind, ranges: Any, into: Any) -> Any:
+        room = None if into is None else _as_column(into, *_CELLS[kind])
+        _, answers, length = self._answers(kind, ranges, room)
+        return _values_in(answers, kind)[:length] if room is None else _put(answers, kind, length, room)
+
+    def _rolling(self, kind: Kind, window: int, lo: Optional[int], hi: Optional[int], into: Any) -> Union[Column, int]:
+        start, lo, hi = self._start(), *self._range(lo, hi)
+        if lo == hi or self._room(lo, hi) != hi - lo:
+            # raises where that is no range of what there is
+            self._valued(kind, lo, hi)
+        cut = min(max(start + window - lo, 0), hi - lo)
+        starts = array(self._index_code, [start]) * cut + array(self._index_code, range(lo + cut + 1 - window, hi + 1 - window))
+        return self._rolled(kind, starts, lo, hi, into)
+
+    def _total(self, lo: Optional[int], hi: Optional[int]) -> int:
         lo, hi = self._range(lo, hi)
         low = self._valued(Kind.SUM, lo, hi).sum
         try:
@@ -173,7 +247,7 @@ class _ManyByKind(_ByKind):
     def to_array(self, lo: Any = None, hi: Optional[int] = None) -> array[int]:
         raise NotImplementedError
 
-    # Within: by what its parts have, the next six.
+    # By what its parts have, the next six.
 
     def _start(self) -> int:
         raise NotImplementedError

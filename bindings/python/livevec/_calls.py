@@ -4,6 +4,7 @@ from __future__ import annotations
 import ctypes
 from typing import Any
 
+from ._kinds import _SEARCHES
 from ._library import _call, _i64, _pointer, _released, _size, _u32
 from ._structures import (
     _Accepted, _BoardSlot, _Claimed, _Count, _Edited, _Element, _Found, _JobSlot, _Many, _Opened, _OutcomeSlot, _Pushed, _Reduced, _Renewed,
@@ -34,15 +35,7 @@ _reduce = _call("livevec_reduce", _Reduced, _slot, _u32, _u32)
 _ask = _call("livevec_ask", _Reduced, _slot, _u32, _u32)
 _value = _call("livevec_value", _Reduced, _slot, _u32, _u32, _u32)
 _value_many = _call("livevec_value_many", _Many, _slot, _u32, _pointer, _pointer, _size, by=_released)
-_where_least = _call("livevec_where_least", _Found, _slot, _u32, _u32)
-_where_greatest = _call("livevec_where_greatest", _Found, _slot, _u32, _u32)
-_where_best = _call("livevec_where_best", _Found, _slot, _u32, _u32)
-_where_reaches = _call("livevec_where_reaches", _Found, _slot, _u32, _u32, _i64)
-_where_reaches_back = _call("livevec_where_reaches_back", _Found, _slot, _u32, _u32, _i64)
-_where_first_at_least = _call("livevec_where_first_at_least", _Found, _slot, _u32, _u32, _i64)
-_where_first_at_most = _call("livevec_where_first_at_most", _Found, _slot, _u32, _u32, _i64)
-_where_last_at_least = _call("livevec_where_last_at_least", _Found, _slot, _u32, _u32, _i64)
-_where_last_at_most = _call("livevec_where_last_at_most", _Found, _slot, _u32, _u32, _i64)
+_searches = {name: _call(f"livevec_where_{name}", _Found, _slot, _u32, _u32, *[_i64] * numbers) for name, numbers in _SEARCHES.items()}
 _scan_inclusive = _call("livevec_scan_inclusive", _Scanned, _slot, _u32, _u32, _pointer, _size)
 _scan_exclusive = _call("livevec_scan_exclusive", _Scanned, _slot, _u32, _u32, _pointer, _size)
 # scans by one kind write columns, and take long enough to release the interpreter's lock

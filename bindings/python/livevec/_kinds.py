@@ -25,6 +25,9 @@ _Value = Union[int, None, tuple[int, ...]]
 
 _KINDS = {it.name.lower(): it for it in Kind}
 
+# the searches, by what follows `where_` in their names, and how many numbers each takes besides a range
+_SEARCHES = {"least": 0, "greatest": 0, "best": 0, "reaches": 1, "reaches_back": 1, "first_at_least": 1, "first_at_most": 1, "last_at_least": 1, "last_at_most": 1}
+
 
 def _kind_of(kind: Union[Kind, str]) -> Kind:
     found = kind if isinstance(kind, Kind) else _KINDS.get(kind) if isinstance(kind, str) else None

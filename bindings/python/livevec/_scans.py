@@ -70,26 +70,26 @@ class _Scans(_Elements):
 
     __slots__ = ()
 
-    def scan_inclusive(self, lo: int = 0, hi: Optional[int] = None) -> Scan:
+    def scan_inclusive(self, lo: Optional[int] = None, hi: Optional[int] = None) -> Scan:
         """The values of each beginning of a range, the element itself included. Linear. Raises BadRange, OutOfRange, MemoryError."""
         return self._scan(_scan_inclusive, lo, hi)
 
-    def scan_exclusive(self, lo: int = 0, hi: Optional[int] = None) -> Scan:
+    def scan_exclusive(self, lo: Optional[int] = None, hi: Optional[int] = None) -> Scan:
         """The values of each beginning of a range, the element itself excluded. Linear. Raises BadRange, OutOfRange, MemoryError."""
         return self._scan(_scan_exclusive, lo, hi)
 
-    def scan_inclusive_by(self, kind: Union[Kind, str], lo: int = 0, hi: Optional[int] = None) -> Column:
+    def scan_inclusive_by(self, kind: Union[Kind, str], lo: Optional[int] = None, hi: Optional[int] = None) -> Column:
         """The running values of a range by one kind, the element itself included, as one column.
 
         One call of C goes over the elements once, so it is linear, and keeps nothing. Other threads run meanwhile; of it and an edit of theirs at this
         vector, the second raises Busy. Raises BadRange, OutOfRange, MemoryError; ValueError of what is no kind."""
         return self._column(_columns_inclusive, _kind_of(kind), lo, hi)
 
-    def scan_exclusive_by(self, kind: Union[Kind, str], lo: int = 0, hi: Optional[int] = None) -> Column:
+    def scan_exclusive_by(self, kind: Union[Kind, str], lo: Optional[int] = None, hi: Optional[int] = None) -> Column:
         """The same, the element itself excluded. Raises as `scan_inclusive_by` does."""
         return self._column(_columns_exclusive, _kind_of(kind), lo, hi)
 
-    def scan_inclusive_into(self, kind: Union[Kind, str], buffer: Union[WriteableBuffer, _NumpyArray], lo: int = 0, hi: Optional[int] = None) -> int:
+    def scan_inclusive_into(self, kind: Union[Kind, str], buffer: Union[WriteableBuffer, _NumpyArray], lo: Optional[int] = None, hi: Optional[int] = None) -> int:
         """Writes such a column into the front of a buffer, where that lies, and gives how many cells it has.
 
         The buffer has numbers of the cells' width side by side, as many an element as a cell has, and may be written to: a numpy array of
@@ -97,20 +97,20 @@ class _Scans(_Elements):
         behind stays. Raises ShortBuffer, and what `scan_inclusive_by` raises but MemoryError; the buffer is then as it was."""
         return self._fill(_columns_inclusive, _kind_of(kind), buffer, lo, hi)
 
-    def scan_exclusive_into(self, kind: Union[Kind, str], buffer: Union[WriteableBuffer, _NumpyArray], lo: int = 0, hi: Optional[int] = None) -> int:
+    def scan_exclusive_into(self, kind: Union[Kind, str], buffer: Union[WriteableBuffer, _NumpyArray], lo: Optional[int] = None, hi: Optional[int] = None) -> int:
         """The same, the element itself excluded. Raises as `scan_inclusive_into` does."""
         return self._fill(_columns_exclusive, _kind_of(kind), buffer, lo, hi)
 
     # Within.
 
-    def _scan(self, call: Callable[..., _Scanned], lo: int, hi: Optional[int]) -> Scan:
+    def _scan(self, call: Callable[..., _Scanned], lo: Optional[int], hi: Optional[int]) -> Scan:
         lo, hi = self._range(lo, hi)
         length = self._room(lo, hi)
         room = bytearray(max(length, 1) * ctypes.sizeof(_Values))
         did = _accepted(call(self._at, lo, hi, ctypes.byref(_address(room)), length), lo, hi)
         return Scan(did.edit, room, did.length)
 
-    def _column(self, calls: dict[str, Callable[..., _Scanned]], kind: Kind, lo: int, hi: Optional[int]) -> Column:
+    def _column(self, calls: dict[str, Callable[..., _Scanned]], kind: Kind, lo: Optional[int], hi: Optional[int]) -> Column:
         lo, hi = self._range(lo, hi)
         length = self._room(lo, hi)
         of, count = _CELLS[kind]
@@ -121,7 +121,7 @@ class _Scans(_Elements):
         # no view of several dimensions has none of its rows
         return Column(did.edit, cells.cast(of) if count == 1 or not cells else cells.cast(of, [did.length, count]))
 
-    def _fill(self, calls: dict[str, Callable[..., _Scanned]], kind: Kind, buffer: Any, lo: int, hi: Optional[int]) -> int:
+    def _fill(self, calls: dict[str, Callable[..., _Scanned]], kind: Kind, buffer: Any, lo: Optional[int], hi: Optional[int]) -> int:
         of, count = _CELLS[kind]
         view = _as_column(buffer, of, count)
         lo, hi = self._range(lo, hi)

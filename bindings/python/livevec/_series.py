@@ -70,7 +70,7 @@ class Series(_ByIndex):
         """
         self._extended(_as_buffer(values))
 
-    def _extended(self, buffer: WriteableBuffer, by: Callable[..., _SeriesPushed] = _push_many) -> None:
+    def _extended(self, buffer: memoryview, by: Callable[..., _SeriesPushed] = _push_many) -> None:
         length = len(buffer)
         did = by(self._at, ctypes.byref(_address(buffer)) if length else None, length)
         self._changes += did.pushed

@@ -6,19 +6,23 @@ import ctypes
 import operator
 import threading
 import weakref
-from typing import Any, Callable, Generic, Iterable, Iterator, NamedTuple, Optional, TypeVar, Union
+from array import array
+from typing import Any, Callable, Generic, Iterable, Iterator, NamedTuple, Optional, TypeVar, Union, cast
 
-from ._buffers import _as_buffer
+from ._buffers import _as_buffer, _as_numpy
 from ._by_kind import _ByKind
 from ._calls import _slot
 from ._kinds import Kind
 from ._library import _call, _pointer, _released, _size, _u32
 from ._numbers import _as_i64, _whole
 from ._queries import Queries, _QueriesSlot, _vector
+from ._ranges import _as_rows, _as_table
 from ._refusals import Busy, Closed, NoMemory, _refuse
 from ._samples import Samples
+from ._scans import Column, Scan
 from ._series import Series
 from ._structures import _Pushed, _Reduced, _Values
+from ._summary import Summary
 from ._subscribers import Subscriber, _place, _Place
 from ._values import Reduced
 from ._vector import Vector, _remade
@@ -92,7 +96,7 @@ class _Shared(_ByKind, Generic[_Of]):
     What is handed in belongs to it from then on, until `close` gives it back; then each call raises Closed. The end of a `with` closes it. Where it
     is let go without that, or the program ends, workers and subscribers end too."""
 
-    __slots__ = ("_of", "_slot", "_at", "_is_closed", "_workers", "__weakref__")
+    __slots__ = ("_of", "_slot", "_at", "_is_closed", "_workers", "_turn", "_holder", "__weakref__")
     # how C puts a lock round it, and what it is asked by
     _put_round: Callable[..., int]
 
@@ -100,6 +104,8 @@ class _Shared(_ByKind, Generic[_Of]):
         self._of, self._slot, self._is_closed = of, _Place(), False
         self._at = ctypes.byref(self._slot)
         self._workers: list[_Worker] = []
+        # Threads of Python wait here and not within C, where no signal would end the wait.
+        self._turn, self._holder = threading.Lock(), 0
         _check(type(self)._put_round(self._at, of._at))
         weakref.finalize(self, _free, self._at)
 
@@ -139,32 +145,60 @@ class _Shared(_ByKind, Generic[_Of]):
 
     def __iter__(self) -> Iterator[int]:
         """The elements in order, all after one edit: they are copied once, under the lock."""
-        return iter(self._read(lambda of: of.to_array()))
+        return iter(self.to_array())
 
     def __reversed__(self) -> Iterator[int]:
         """The elements from the last one on, all after one edit: they are copied once, under the lock."""
-        return reversed(self._read(lambda of: of.to_array()))
+        return reversed(self.to_array())
 
-    def total(self, lo: Optional[int] = None, hi: Optional[int] = None) -> int:
-        """The exact sum of a range, after one edit."""
-        return self._read(lambda of: of.total(lo, hi))
+    def __array__(self, dtype: Any = None, copy: Optional[bool] = None) -> Any:
+        """The elements as an array of numpy's, all after one edit: a copy."""
+        return _as_numpy(self, self.to_array, dtype, copy)
+
+    def to_array(self, lo: Optional[int] = None, hi: Optional[int] = None) -> array[int]:
+        """The elements of a range as an `array.array('q')`, all after one edit: a copy, linear in the range."""
+        return self._read(lambda of: of.to_array(lo, hi))
+
+    def copy(self) -> _Of:
+        """A copy of what is shared, which no other thread has: as its own `copy` makes one. Linear."""
+        return cast(_Of, self._read(lambda of: of.copy()))
+
+    def scan_inclusive(self, lo: Optional[int] = None, hi: Optional[int] = None) -> Scan:
+        """The values of each beginning of a range, the element itself included, all after one edit. Linear."""
+        return self._read(lambda of: of.scan_inclusive(lo, hi))
+
+    def scan_exclusive(self, lo: Optional[int] = None, hi: Optional[int] = None) -> Scan:
+        """The same, the element itself excluded."""
+        return self._read(lambda of: of.scan_exclusive(lo, hi))
+
+    def scan_inclusive_by(self, kind: Union[Kind, str], lo: Optional[int] = None, hi: Optional[int] = None) -> Column:
+        """The running values of a range by one kind, the element itself included, as a column. Linear."""
+        return self._read(lambda of: of.scan_inclusive_by(kind, lo, hi))
+
+    def scan_exclusive_by(self, kind: Union[Kind, str], lo: Optional[int] = None, hi: Optional[int] = None) -> Column:
+        """The same, the element itself excluded."""
+        return self._read(lambda of: of.scan_exclusive_by(kind, lo, hi))
 
     # More than one call, and the end.
 
     @contextlib.contextmanager
     def locked(self) -> Iterator[_Of]:
         """What is shared itself for the time of a `with`, for several calls with no other thread's between them. It is not to be used later."""
-        _check(_enter(self._at))
-        try:
-            yield self._of
-        finally:
-            _leave(self._at)
+        with self._in_turn():
+            try:
+                self._holder = threading.get_ident()
+                _check(_enter(self._at))
+                yield self._of
+            finally:
+                self._left()
 
     def close(self) -> _Of:
         """Ends edits, workers and subscribers, and waits for the workers; gives what is shared back. To close again gives it again.
 
         Each subscriber has its last notes then, at the last edit."""
-        refusal = _close(self._at)
+        with self._in_turn():
+            self._holder = 0
+            refusal = _close(self._at)
         if refusal != Closed.number:
             _check(refusal)
         self._is_closed = True
@@ -188,12 +222,25 @@ class _Shared(_ByKind, Generic[_Of]):
 
     def _entered(self, call: Callable[[_Of], _Result]) -> tuple[_Result, int]:
         """What a call under the lock gives, and the number of the last edit."""
-        _check(_enter(self._at))
-        try:
-            told = call(self._of)
-        finally:
-            left = _leave(self._at)
-        return told, left.edit
+        with self._in_turn():
+            try:
+                self._holder = threading.get_ident()
+                _check(_enter(self._at))
+                told = call(self._of)
+            finally:
+                edit = self._left()
+        return told, edit
+
+    def _in_turn(self) -> threading.Lock:
+        """What this thread waits for before it enters; where it has entered already it would wait for itself."""
+        if self._holder == threading.get_ident():
+            raise _refuse(Busy.number)
+        return self._turn
+
+    def _left(self) -> int:
+        """Leaves, and gives the number of the last edit. If a signal came before this thread had entered, C does nothing."""
+        self._holder = 0
+        return int(_leave(self._at).edit)
 
     def _read(self, call: Callable[[_Of], _Result]) -> _Result:
         return self._entered(call)[0]
@@ -201,6 +248,23 @@ class _Shared(_ByKind, Generic[_Of]):
     def _edited(self, call: Callable[[_Of], int]) -> Receipt:
         told, edit = self._entered(call)
         return Receipt(edit, told)
+
+    def _many(self, kind: Kind, ranges: Any, into: Any) -> Any:
+        # nothing of the caller's is gone through under the lock
+        rows = ranges if _as_table(ranges) is not None else _as_rows(ranges)
+        def asked(of: _Of) -> Any:
+            return of._many(kind, rows, into)
+
+        return self._read(asked)
+
+    def _rolling(self, kind: Kind, window: int, lo: Optional[int], hi: Optional[int], into: Any) -> Union[Column, int]:
+        return self._read(lambda of: of._rolling(kind, window, lo, hi, into))
+
+    def _total(self, lo: Optional[int], hi: Optional[int]) -> int:
+        return self._read(lambda of: of._total(lo, hi))
+
+    def _located(self, what: str, lo: Optional[int], hi: Optional[int], *number: int) -> Any:
+        return self._read(lambda of: of._located(what, lo, hi, *number))
 
     def _subscribed(self, names: Iterable[str], asked: object, sits: Callable[[Any, Any], int]) -> Subscriber:
         return Subscriber(names, asked, lambda seat: sits(self._at, seat))
@@ -246,6 +310,19 @@ class SharedVector(_Shared[Vector]):
         places = operator.index(first), operator.index(second)
         return self._edited(lambda vector: vector.swap(*places))
 
+    def append(self, value: int) -> None:
+        """As `push`, and gives nothing."""
+        self.push(value)
+
+    def clear(self) -> Receipt:
+        """As `Vector.clear`; the receipt has how many elements were dropped."""
+        return self.truncate(0)
+
+    @property
+    def capacity(self) -> int:
+        """How many elements have room without another bucket."""
+        return self._read(lambda vector: vector.capacity)
+
     def reserve(self, elements: int) -> Receipt:
         """As `Vector.reserve`; the receipt has the capacity."""
         room = operator.index(elements)
@@ -261,7 +338,16 @@ class SharedVector(_Shared[Vector]):
         rows, elements = _as_buffer(indices, "indices"), _as_buffer(values, "values")
         return self._entered(lambda vector: vector.write_many(rows, elements))[1]
 
-    def reduce(self, lo: int = 0, hi: Optional[int] = None) -> Reduced:
+    def ask(self, lo: Optional[int] = None, hi: Optional[int] = None) -> Reduced:
+        """As `Vector.ask`, which tells after which edit the values are so."""
+        reduced, edit = self._entered(lambda vector: vector.ask(lo, hi))
+        return reduced._replace(edit=edit)
+
+    def summary(self, lo: Optional[int] = None, hi: Optional[int] = None) -> Summary:
+        """As `Vector.summary`."""
+        return self._read(lambda vector: vector.summary(lo, hi))
+
+    def reduce(self, lo: Optional[int] = None, hi: Optional[int] = None) -> Reduced:
         """As `Vector.reduce`, which tells after which edit the values are so. Linear in what no worker or question computed before."""
         reduced, edit = self._entered(lambda vector: vector._reduced(_reduce, lo, hi))
         return reduced._replace(edit=edit)
@@ -272,7 +358,7 @@ class SharedVector(_Shared[Vector]):
         on. Linear. Raises NoMemory, and Worn where it has more elements than its limit of edits: nothing has changed then."""
 
         def goes_on(vector: Vector) -> None:
-            fresh = _remade(type(vector), (), *vector._limits)
+            fresh = _remade(type(vector), array("q"), *vector._limits)
             _check(_renew(self._at, fresh._at))
             for name in ("_slot", "_at"):
                 worn = getattr(vector, name)

@@ -2,20 +2,22 @@
 from __future__ import annotations
 
 import ctypes
-from typing import Any, Iterable, Mapping, Optional, Union
+from array import array
+from typing import Any, Iterable, Mapping, Optional, TypeVar, Union, overload
 
 from ._buffers import _as_buffer
 from ._by_index import LongReduced
-from ._kinds import Kind, _kind_of, _Value
+from ._kinds import _Chosen, _kind_of, _Summed, _Value, Kind
 from ._library import _call, _pointer, _released, _size, _u32
 from ._limits import _MOST_U64
 from ._numbers import _as_i64, _whole
 from ._queries import _NAME_BYTES, _named, _reach
 from ._refusals import BadName, _refuse
-from ._samples import Sample, Samples
+from ._samples import Sample, Samples, Window
+from ._scans import Column
 from ._series import Series
 from ._series_calls import _SeriesPushed, _SeriesReduced, _slot, _u64
-from ._shared import _Of, _Shared, Receipt
+from ._shared import _Shared, Receipt
 from ._structures import _Values
 from ._subscribers import Subscriber, _place
 
@@ -39,11 +41,18 @@ _push_many = _call("livevec_series_push_many", _SeriesPushed, _slot, _pointer, _
 _Asked = Union[Kind, str, tuple[Union[Kind, str], int, Optional[int]]]
 
 
-class _SharedByIndex(_Shared[_Of]):
+_Indexed = TypeVar("_Indexed", bound=Union[Series, Samples])
+
+
+class _SharedByIndex(_Shared[_Indexed]):
     """What a series and samples that are shared have in common."""
 
     __slots__ = ()
     _put_round = _new
+
+    def clear(self) -> Receipt:
+        """Drops all that is kept, by one edit; the receipt has how many elements were dropped."""
+        return self._edited(lambda of: of.clear())
 
     def expire(self, index: int) -> Receipt:
         """As `Series.expire`; the receipt has how many elements were dropped."""
@@ -59,6 +68,19 @@ class _SharedByIndex(_Shared[_Of]):
     def size(self) -> int:
         """The index behind the last element."""
         return self._read(lambda of: of.size)
+
+    def prepare(self, kind: Union[Kind, str]) -> None:
+        """As `Series.prepare`: makes the tree of a kind, where there is none. O(n) then."""
+        self._read(lambda of: of.prepare(kind))
+
+    def save(self) -> bytes:
+        """As `Series.save`: all of it as bytes, after one edit. Linear."""
+        return self._read(lambda of: of.save())
+
+    def ask(self, lo: Optional[int] = None, hi: Optional[int] = None) -> LongReduced:
+        """As `Series.ask`, which tells after which edit the values are so."""
+        reduced, edit = self._entered(lambda of: of.ask(lo, hi))
+        return LongReduced(edit, reduced.values)
 
     def reduce(self, lo: Optional[int] = None, hi: Optional[int] = None) -> LongReduced:
         """As `Series.reduce`, which tells after which edit the values are so."""
@@ -110,20 +132,24 @@ class SharedSeries(_SharedByIndex[Series]):
         element = _as_i64(value)
         return self._edited(lambda series: series.push(element))
 
-    def swap(self, first: int, second: int) -> Receipt:
-        """As `Series.swap`; the receipt has the element that stands under the first index now."""
-        places = _whole(first, "the index"), _whole(second, "the index")
-        return self._edited(lambda series: series.swap(*places))
+    def append(self, value: int) -> None:
+        """As `push`, and gives nothing."""
+        self.push(value)
 
     def extend(self, values: Iterable[int]) -> int:
         """As `Series.extend`, with no other edit between; gives the number of the last edit."""
         buffer = _as_buffer(values)
         return self._entered(lambda series: series._extended(buffer, _push_many))[1]
 
+    def swap(self, first: int, second: int) -> Receipt:
+        """As `Series.swap`; the receipt has the element that stands under the first index now."""
+        places = _whole(first, "the index"), _whole(second, "the index")
+        return self._edited(lambda of: of.swap(*places))
+
     def write_many(self, indices: Iterable[int], values: Iterable[int]) -> int:
         """As `Series.write_many`, with no other edit between; gives the number of the last edit."""
         rows, elements = _as_buffer(indices, "indices"), _as_buffer(values, "values")
-        return self._entered(lambda series: series.write_many(rows, elements))[1]
+        return self._entered(lambda of: of.write_many(rows, elements))[1]
 
 
 class SharedSamples(_SharedByIndex[Samples]):
@@ -164,13 +190,41 @@ class SharedSamples(_SharedByIndex[Samples]):
         place = _whole(index, "the index")
         return self._read(lambda samples: samples.sample(place))
 
+    def times(self, lo: Optional[int] = None, hi: Optional[int] = None) -> array[int]:
+        """As `Samples.times`: a copy."""
+        return self._read(lambda samples: samples.times(lo, hi))
+
+    def between(self, since: int, until: int) -> Window:
+        """As `Samples.between`. Before the next call another thread may edit: within `locked` it doesn't."""
+        return self._read(lambda samples: samples.between(since, until))
+
+    def last(self, span: int) -> Window:
+        """As `Samples.last`. Before the next call another thread may edit: within `locked` it doesn't."""
+        return self._read(lambda samples: samples.last(span))
+
+    @overload
+    def value_between(self, kind: _Summed, since: int, until: int) -> int: ...
+    @overload
+    def value_between(self, kind: _Chosen, since: int, until: int) -> Optional[int]: ...
+    @overload
+    def value_between(self, kind: Union[Kind, str], since: int, until: int) -> _Value: ...
     def value_between(self, kind: Union[Kind, str], since: int, until: int) -> _Value:
         """As `Samples.value_between`."""
         return self._read(lambda samples: samples.value_between(kind, since, until))
 
+    @overload
+    def value_of_last(self, kind: _Summed, span: int) -> int: ...
+    @overload
+    def value_of_last(self, kind: _Chosen, span: int) -> Optional[int]: ...
+    @overload
+    def value_of_last(self, kind: Union[Kind, str], span: int) -> _Value: ...
     def value_of_last(self, kind: Union[Kind, str], span: int) -> _Value:
         """As `Samples.value_of_last`."""
         return self._read(lambda samples: samples.value_of_last(kind, span))
+
+    def rolling_span(self, kind: Union[Kind, str], span: int, lo: Optional[int] = None, hi: Optional[int] = None) -> Column:
+        """As `Samples.rolling_span`, in a column of its own."""
+        return self._read(lambda samples: samples.rolling_span(kind, span, lo, hi))
 
 
 def _of(given: Any, wanted: type) -> Any:
