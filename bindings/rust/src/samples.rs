@@ -114,6 +114,11 @@ impl Samples {
         self.values.truncate(size)
     }
 
+    /// Drops all samples, by one edit, as [`Series::clear`] does. O(log n). Refused with `Worn`.
+    pub fn clear(&mut self) -> Result<Dropped, Refusal> {
+        self.values.clear()
+    }
+
     /// Drops the samples before an index, as [`Series::expire`] does elements. O(1) amortised. Refused with `Worn`, `NotKept`, in this order.
     pub fn expire(&mut self, index: impl AsIndex) -> Result<Dropped, Refusal> {
         self.values.expire(index)

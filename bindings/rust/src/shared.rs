@@ -7,8 +7,8 @@ use std::sync::atomic::Ordering;
 use crate::shared_lock::Lock;
 use crate::shared_subscriber::Subscriber;
 use crate::{
-    Answered, AsIndex, Indices, Kind, Note, Popped, Pushed, Queries, Reduced, Refusal, RefusedAt, Reserved, Swapped, Truncated, Value,
-    Vector, Written, shared_workers,
+    Answered, AsIndex, BestRun, Column, Filled, Indices, Kind, Note, Placed, Popped, Pushed, Queries, Reduced, Refusal, RefusedAt,
+    Reserved, Scan, Summary, Swapped, Truncated, Value, Vector, Written, shared_workers,
 };
 
 /// A [`Vector`] that threads share, or a [`Series`](crate::Series), or [`Samples`](crate::Samples): each clone is a handle of the same one.
@@ -76,6 +76,10 @@ pub trait Sharing: Send + Sized + sealed::Sealed {
     #[doc(hidden)]
     fn notes(&mut self, asked: &mut Self::Asked) -> Result<Vec<Note>, Refusal>;
 
+    /// One of its own.
+    #[doc(hidden)]
+    fn copied(&self) -> Result<Self, Refusal>;
+
     /// It is given back.
     #[doc(hidden)]
     fn given_back(&mut self) {}
@@ -104,7 +108,7 @@ impl Above for u64 {
 }
 
 /// Calls of what is shared, each under the lock: those that edit, or ask, and tell a number of an edit; and those that read alone, with a refusal of their
-/// own or none.
+/// own or none; of samples also those that ask their values.
 macro_rules! forwarded {
     ($($(#[$doc:meta])* $how:ident $name:ident($($given:ident: $of:ty),*) -> $told:ty;)*) => {
         $(
@@ -126,8 +130,67 @@ macro_rules! forwarded {
     (@ count $of:ident, $name:ident $given:tt) => {
         $of.lock.read(|of, _| of.$name $given)
     };
+    (@ values $of:ident, $name:ident $given:tt) => {
+        $of.lock.read(|of, _| of.values().$name $given)?
+    };
+    (@ values_count $of:ident, $name:ident $given:tt) => {
+        $of.lock.read(|of, _| of.values().$name $given)
+    };
+    (@ ask_values $of:ident, $name:ident $given:tt) => {
+        $of.lock.read(|of, base| of.values().$name $given.map(|mut did| { crate::shared::Above::above(&mut did.edit, base); did }))?
+    };
 }
 pub(crate) use forwarded;
+
+/// The questions that a vector, a series and the values of samples answer alike, by calls of `$of`: those that tell an edit by `$ask`, the others by
+/// `$read`. `$index`, `Placed`, `BestRun`, `Answered` and `Reduced` are those of where it is used.
+macro_rules! questions {
+    ($of:ident, $read:ident, $ask:ident, $index:ty, |$it:ident| $asked:expr) => {
+        crate::shared::forwarded! {
+            #[doc = concat!("As [`", stringify!($of), "::sum`].")]
+            $read sum(range: impl Indices) -> i64;
+            #[doc = concat!("As [`", stringify!($of), "::least`].")]
+            $read least(range: impl Indices) -> Option<i64>;
+            #[doc = concat!("As [`", stringify!($of), "::greatest`].")]
+            $read greatest(range: impl Indices) -> Option<i64>;
+            #[doc = concat!("As [`", stringify!($of), "::best`].")]
+            $read best(range: impl Indices) -> Option<i128>;
+            #[doc = concat!("As [`", stringify!($of), "::total`]: the exact sum.")]
+            $read total(range: impl Indices) -> i128;
+            #[doc = concat!("As [`", stringify!($of), "::value_at_edit`].")]
+            $ask value_at_edit(kind: Kind, range: impl Indices) -> Answered;
+            #[doc = concat!("As [`", stringify!($of), "::ask`], which tells after which edit the values are so.")]
+            $ask ask(range: impl Indices) -> Reduced;
+            #[doc = concat!("As [`", stringify!($of), "::reduce`], which tells after which edit the values are so.")]
+            $ask reduce(range: impl Indices) -> Reduced;
+            #[doc = concat!("As [`", stringify!($of), "::where_least`].")]
+            $read where_least(range: impl Indices) -> Option<Placed>;
+            #[doc = concat!("As [`", stringify!($of), "::where_greatest`].")]
+            $read where_greatest(range: impl Indices) -> Option<Placed>;
+            #[doc = concat!("As [`", stringify!($of), "::where_best`].")]
+            $read where_best(range: impl Indices) -> Option<BestRun>;
+            #[doc = concat!("As [`", stringify!($of), "::where_reaches`].")]
+            $read where_reaches(range: impl Indices, sum: i64) -> Option<$index>;
+            #[doc = concat!("As [`", stringify!($of), "::where_reaches_back`].")]
+            $read where_reaches_back(range: impl Indices, sum: i64) -> Option<$index>;
+            #[doc = concat!("As [`", stringify!($of), "::where_first_at_least`].")]
+            $read where_first_at_least(range: impl Indices, bound: i64) -> Option<$index>;
+            #[doc = concat!("As [`", stringify!($of), "::where_first_at_most`].")]
+            $read where_first_at_most(range: impl Indices, bound: i64) -> Option<$index>;
+            #[doc = concat!("As [`", stringify!($of), "::where_last_at_least`].")]
+            $read where_last_at_least(range: impl Indices, bound: i64) -> Option<$index>;
+            #[doc = concat!("As [`", stringify!($of), "::where_last_at_most`].")]
+            $read where_last_at_most(range: impl Indices, bound: i64) -> Option<$index>;
+        }
+
+        #[doc = concat!("As [`", stringify!($of), "::value_many`]: all after one edit. The ranges are gone through before the lock is taken.")]
+        pub fn value_many<R: Indices>(&self, kind: Kind, ranges: impl IntoIterator<Item = R>) -> Result<Vec<Value>, RefusedAt> {
+            let ranges: Vec<R> = ranges.into_iter().collect();
+            self.lock.read(|$it, _| $asked.value_many(kind, ranges)).unwrap_or_else(|refusal| Err(RefusedAt::of_all(refusal)))
+        }
+    };
+}
+pub(crate) use questions;
 
 impl<T: Sharing> Shared<T> {
     /// Puts a lock round a vector, a series or samples.
@@ -160,6 +223,11 @@ impl<T: Sharing> Shared<T> {
     /// ```
     pub fn with<R>(&self, calls: impl FnOnce(&mut T) -> R) -> Result<R, Refusal> {
         self.lock.with(calls)
+    }
+
+    /// A copy of what is shared, which no other thread has, as its own `try_clone` makes one. Linear, under the lock. Refused with `NoMemory`.
+    pub fn try_clone(&self) -> Result<T, Refusal> {
+        self.lock.read(|of, _| of.copied())?
     }
 
     /// One more that is told which of these answers change: those of [`Queries`] by a vector, or of [`Watched`](crate::Watched) by a series or samples.
@@ -220,6 +288,10 @@ impl Sharing for Vector {
         asked.notes(self)
     }
 
+    fn copied(&self) -> Result<Vector, Refusal> {
+        self.try_clone()
+    }
+
     /// Jobs that nobody delivers any more are handed out again.
     fn given_back(&mut self) {
         self.forget_claims();
@@ -241,6 +313,8 @@ impl Shared {
         edit swap(first: impl AsIndex, second: impl AsIndex) -> Swapped;
         /// As [`Vector::truncate`].
         edit truncate(elements: impl AsIndex) -> Truncated;
+        /// As [`Vector::clear`].
+        edit clear() -> Truncated;
         /// As [`Vector::reserve`].
         edit reserve(elements: impl AsIndex) -> Reserved;
         /// As [`Vector::get`].
@@ -249,22 +323,40 @@ impl Shared {
         count len() -> u32;
         /// Whether there is no element.
         count is_empty() -> bool;
-        /// As [`Vector::sum`].
-        read sum(range: impl Indices) -> i64;
-        /// As [`Vector::least`].
-        read least(range: impl Indices) -> Option<i64>;
-        /// As [`Vector::greatest`].
-        read greatest(range: impl Indices) -> Option<i64>;
-        /// As [`Vector::best`].
-        read best(range: impl Indices) -> Option<i128>;
         /// As [`Vector::value`].
         read value(kind: Kind, range: impl Indices) -> Value;
-        /// As [`Vector::value_at_edit`]: by [`edits`](Shared::edits) another thread's later edit may be told.
-        ask value_at_edit(kind: Kind, range: impl Indices) -> Answered;
-        /// As [`Vector::total`]: the exact sum.
-        read total(range: impl Indices) -> i128;
-        /// As [`Vector::reduce`], which tells after which edit the values are so.
-        ask reduce(range: impl Indices) -> Reduced;
+        /// As [`Vector::capacity`].
+        count capacity() -> u32;
+        /// As [`Vector::last`].
+        count last() -> Option<i64>;
+        /// As [`Vector::to_vec`]: a copy, after one edit.
+        read to_vec() -> Vec<i64>;
+        /// As [`Vector::summary`].
+        read summary(range: impl Indices) -> Summary;
+        /// As [`Vector::scan_inclusive`].
+        read scan_inclusive(range: impl Indices) -> Scan;
+        /// As [`Vector::scan_exclusive`].
+        read scan_exclusive(range: impl Indices) -> Scan;
+    }
+
+    questions!(Vector, read, ask, u32, |vector| vector);
+
+    /// As [`Vector::scan_inclusive_into`].
+    pub fn scan_inclusive_into<'a, K: Column>(
+        &self,
+        range: impl Indices,
+        column: &'a mut [K::Cell],
+    ) -> Result<Filled<'a, K::Cell>, Refusal> {
+        self.lock.read(|of, _| of.scan_inclusive_into::<K>(range, column))?
+    }
+
+    /// As [`Vector::scan_exclusive_into`].
+    pub fn scan_exclusive_into<'a, K: Column>(
+        &self,
+        range: impl Indices,
+        column: &'a mut [K::Cell],
+    ) -> Result<Filled<'a, K::Cell>, Refusal> {
+        self.lock.read(|of, _| of.scan_exclusive_into::<K>(range, column))?
     }
 
     /// The number of the last edit.

@@ -2,9 +2,9 @@
 
 use std::ops::Range;
 
-use crate::series::{Answered, Dropped, Popped, Pushed, Reduced, Swapped, Written};
-use crate::shared::{Sharing, forwarded, sealed};
-use crate::{AsIndex, Indices, Kind, Note, Refusal, RefusedAt, Sample, Samples, Series, Shared, Value, raw};
+use crate::series::{Answered, BestRun, Dropped, Placed, Popped, Pushed, Reduced, Swapped, Written};
+use crate::shared::{Sharing, forwarded, questions, sealed};
+use crate::{AsIndex, Indices, Kind, Note, Refusal, RefusedAt, Sample, Samples, Series, Shared, Value, Values, raw};
 
 /// What a subscriber watches at a series or at samples: what a kind says of the elements of a range, and of them of those that are kept. What is watched
 /// together is a `Vec`, in the order in which it is told.
@@ -28,7 +28,15 @@ pub struct Watched {
     kind: Kind,
     lo: u64,
     hi: u64,
+    bound: Option<Bound>,
     told: Value,
+}
+
+/// By which crossing an answer is told.
+#[derive(Clone, Copy, Debug)]
+enum Bound {
+    AtLeast(i64),
+    AtMost(i64),
 }
 
 impl Watched {
@@ -43,7 +51,58 @@ impl Watched {
         if lo > hi {
             return Err(Refusal::BadRange);
         }
-        Ok(Watched { name: padded, kind, lo: within(lo), hi: within(hi), told: Value::of_none(kind) })
+        Ok(Watched { name: padded, kind, lo: within(lo), hi: within(hi), bound: None, told: Value::of_none(kind) })
+    }
+
+    /// The same, told only when the answer begins or ceases to be at least `bound`. No answer, as the least of no elements, a map or states, is.
+    ///
+    /// ```
+    /// use livevec::{Kind, Samples, Shared, Value, Watched};
+    ///
+    /// # fn main() -> Result<(), livevec::Refusal> {
+    /// let load = Shared::new(Samples::new()?);
+    /// let mut hot = load.subscribe(vec![Watched::new("hot", Kind::Greatest, ..)?.at_least(90)])?;
+    /// let mut heard = |time, value| {
+    ///     load.push(time, value)?;
+    ///     load.expire_before(time - 60)?;
+    ///     Ok(hot.look()?.first().map(|note| note.value))
+    /// };
+    /// let told = [(0, 40), (30, 95), (60, 99), (119, 70), (121, 60)].map(|(time, value)| heard(time, value));
+    /// assert_eq!(told, [Ok(None), Ok(Some(Value::Greatest(Some(95)))), Ok(None), Ok(None), Ok(Some(Value::Greatest(Some(70))))]);
+    /// # Ok::<(), livevec::Refusal>(())
+    /// # }
+    /// ```
+    pub fn at_least(self, bound: i64) -> Watched {
+        Watched { bound: Some(Bound::AtLeast(bound)), ..self }
+    }
+
+    /// The same, told only when the answer begins or ceases to be at most `bound`.
+    pub fn at_most(self, bound: i64) -> Watched {
+        Watched { bound: Some(Bound::AtMost(bound)), ..self }
+    }
+
+    /// Whether another answer is to be told.
+    fn is_due(&self, now: Value) -> bool {
+        match self.bound {
+            None => self.told != now,
+            Some(bound) => bound.holds(self.told) != bound.holds(now),
+        }
+    }
+}
+
+impl Bound {
+    /// Whether an answer is within it: none is not.
+    fn holds(self, answer: Value) -> bool {
+        let number = match answer {
+            Value::Sum(sum) => Some(sum.into()),
+            Value::Least(some) | Value::Greatest(some) => some.map(i128::from),
+            Value::Best(some) => some,
+            Value::Affine(..) | Value::Automaton(_) => None,
+        };
+        number.is_some_and(|number| match self {
+            Bound::AtLeast(bound) => number >= bound.into(),
+            Bound::AtMost(bound) => number <= bound.into(),
+        })
     }
 }
 
@@ -54,7 +113,7 @@ fn notes(series: &Series, asked: &mut [Watched]) -> Result<Vec<Note>, Refusal> {
     for it in asked.iter() {
         now.push(series.value(it.kind, it.lo.clamp(first, size)..it.hi.clamp(first, size))?);
     }
-    for (it, value) in asked.iter_mut().zip(now).filter(|(it, value)| it.told != *value) {
+    for (it, value) in asked.iter_mut().zip(now).filter(|(it, value)| it.is_due(*value)) {
         it.told = value;
         notes.push(Note::of(it.name, it.kind, value));
     }
@@ -72,6 +131,10 @@ impl Sharing for Series {
     fn notes(&mut self, asked: &mut Vec<Watched>) -> Result<Vec<Note>, Refusal> {
         notes(self, asked)
     }
+
+    fn copied(&self) -> Result<Series, Refusal> {
+        self.try_clone()
+    }
 }
 
 impl sealed::Sealed for Samples {}
@@ -84,6 +147,10 @@ impl Sharing for Samples {
 
     fn notes(&mut self, asked: &mut Vec<Watched>) -> Result<Vec<Note>, Refusal> {
         notes(self.values(), asked)
+    }
+
+    fn copied(&self) -> Result<Samples, Refusal> {
+        self.try_clone()
     }
 }
 
@@ -111,22 +178,30 @@ impl Shared<Series> {
         count len() -> u64;
         /// Whether none is kept.
         count is_empty() -> bool;
-        /// As [`Series::sum`].
-        read sum(range: impl Indices) -> i64;
-        /// As [`Series::least`].
-        read least(range: impl Indices) -> Option<i64>;
-        /// As [`Series::greatest`].
-        read greatest(range: impl Indices) -> Option<i64>;
-        /// As [`Series::best`].
-        read best(range: impl Indices) -> Option<i128>;
         /// As [`Series::value`].
         read value(kind: Kind, range: impl Indices) -> Value;
-        /// As [`Series::value_at_edit`].
-        ask value_at_edit(kind: Kind, range: impl Indices) -> Answered;
-        /// As [`Series::total`]: the exact sum.
-        read total(range: impl Indices) -> i128;
-        /// As [`Series::reduce`], which tells after which edit the values are so.
-        ask reduce(range: impl Indices) -> Reduced;
+        /// As [`Series::clear`].
+        edit clear() -> Dropped;
+        /// As [`Series::last`].
+        count last() -> Option<i64>;
+        /// As [`Series::to_vec`]: a copy, after one edit.
+        read to_vec(range: impl Indices) -> Vec<i64>;
+        /// As [`Series::read_into`].
+        read read_into(range: impl Indices, buffer: &mut [i64]) -> usize;
+        /// As [`Series::save`]: after one edit.
+        read save() -> Vec<u8>;
+    }
+
+    questions!(Series, read, ask, u64, |series| series);
+
+    /// As [`Series::scan_inclusive`], all of it after one edit, in memory. Linear.
+    pub fn scan_inclusive(&self, range: impl Indices) -> Result<Vec<Values>, Refusal> {
+        self.lock.read(|of, _| Ok(of.scan_inclusive(range)?.collect()))?
+    }
+
+    /// The same, each without the element itself.
+    pub fn scan_exclusive(&self, range: impl Indices) -> Result<Vec<Values>, Refusal> {
+        self.lock.read(|of, _| Ok(of.scan_exclusive(range)?.collect()))?
     }
 
     /// As [`Series::extend_from_slice`]: no other edit comes between. Tells the number of the last edit.
@@ -154,13 +229,35 @@ impl Shared<Samples> {
         edit expire(index: impl AsIndex) -> Dropped;
         /// As [`Samples::expire_before`].
         edit expire_before(time: i64) -> Dropped;
+        /// As [`Samples::clear`].
+        edit clear() -> Dropped;
         /// As [`Samples::get`].
         read get(index: impl AsIndex) -> Sample;
+        /// The index of the first sample that is kept.
+        values_count first() -> u64;
+        /// The index behind the last sample.
+        values_count size() -> u64;
+        /// How many samples are kept.
+        values_count len() -> u64;
+        /// Whether none is kept.
+        values_count is_empty() -> bool;
+        /// As [`Samples::to_vec`]: a copy, after one edit.
+        read to_vec(range: impl Indices) -> Vec<Sample>;
+        /// As [`Samples::times`]: a copy, after one edit.
+        read times(range: impl Indices) -> Vec<i64>;
+        /// As [`Samples::between`]. Before the next call another thread may edit; within a [`with`](Shared::with) it doesn't.
+        read between(times: Range<i64>) -> Range<u64>;
+        /// As [`Samples::last`]. Before the next call another thread may edit; within a [`with`](Shared::with) it doesn't.
+        count last(span: u64) -> Range<u64>;
+        /// As [`Samples::save`]: after one edit.
+        read save() -> Vec<u8>;
         /// As [`Samples::value`]: of a window of time.
         read value(kind: Kind, times: Range<i64>) -> Value;
         /// As [`Samples::value_of_last`].
         read value_of_last(kind: Kind, span: u64) -> Value;
     }
+
+    questions!(Series, values, ask_values, u64, |samples| samples.values());
 
     /// As [`Samples::push_many`]: no other edit comes between. Tells the number of the last edit.
     pub fn push_many(&self, times: &[i64], values: &[i64]) -> Result<u64, RefusedAt> {

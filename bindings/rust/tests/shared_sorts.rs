@@ -6,7 +6,7 @@ use std::thread;
 use std::time::Duration;
 
 use livevec::series::{Dropped, Popped, Pushed, Swapped, Written};
-use livevec::{Kind, Limits, Note, Queries, Refusal, RefusedAt, Sample, Samples, Series, Shared, Subscriber, Value, Vector, Watched};
+use livevec::{Kind, Limits, Note, Queries, Refusal, RefusedAt, Sample, Samples, Series, Shared, Subscriber, Value, Vector, Watched, by};
 use plain::until;
 
 type Told = Vec<(String, u32, Value)>;
@@ -40,7 +40,10 @@ fn each_call_of_a_series() {
     assert_eq!((shared.sum(..), shared.total(..), shared.least(..), shared.greatest(2..)), (Ok(10), Ok(10), Ok(Some(1)), Ok(Some(2))));
     assert_eq!((shared.best(1..3), shared.value(Kind::Affine, 4..), shared.is_empty()), (Ok(Some(8)), Ok(Value::Affine(1, 0)), Ok(false)));
     assert_eq!((shared.reduce(..).unwrap().edit, shared.value_at_edit(Kind::Sum, 1..2).unwrap().edit), (12, 12));
-    assert_eq!((shared.get(0), shared.write(4, 1)), (Err(Refusal::NotKept { first: 1, size: 4 }), Err(Refusal::NotKept { first: 1, size: 4 })));
+    assert_eq!(
+        (shared.get(0), shared.write(4, 1)),
+        (Err(Refusal::NotKept { first: 1, size: 4 }), Err(Refusal::NotKept { first: 1, size: 4 }))
+    );
     let refused = shared.write_all(&[1, 9], &[0, 0]).unwrap_err();
     assert_eq!((refused.place, refused.done, shared.last_edit()), (1, 0, Ok(12)));
     let within = shared.with(|series| {
@@ -62,6 +65,97 @@ fn each_call_of_a_series() {
     assert_eq!((clone.push(1), clone.subscribe(Vec::new()).err()), (Err(Shared::CLOSED), Some(Shared::CLOSED)));
     assert_eq!(clone.extend_from_slice(&[1]), Err(RefusedAt { place: 0, done: 0, refusal: Shared::CLOSED }));
     assert_eq!(clone.close().unwrap().to_vec(..).unwrap(), [90, 50]);
+}
+
+/// Of [3, -1, 4, 1, -5, 9, 2, 6] each form answers as its twin that isn't shared, and that as by hand.
+macro_rules! answers_as_alone {
+    ($shared:expr, $alone:expr) => {
+        let (shared, alone) = (&$shared, &$alone);
+        assert_eq!((shared.where_least(..), shared.where_greatest(..5)), (alone.where_least(..), alone.where_greatest(..5)));
+        assert_eq!((shared.where_best(..), shared.where_best(2..2)), (alone.where_best(..), Ok(None)));
+        let ends = (shared.where_reaches(.., 6), shared.where_reaches_back(.., 8));
+        assert_eq!(ends, (alone.where_reaches(.., 6), alone.where_reaches_back(.., 8)));
+        assert_eq!(ends, (Ok(Some(3)), Ok(Some(6))));
+        let firsts = (shared.where_first_at_least(.., 4), shared.where_first_at_most(2.., -1));
+        assert_eq!((firsts, alone.where_first_at_least(.., 4)), ((Ok(Some(2)), Ok(Some(4))), Ok(Some(2))));
+        assert_eq!((shared.where_last_at_least(..5, 4), shared.where_last_at_most(.., 1)), (Ok(Some(2)), Ok(Some(4))));
+        assert_eq!(
+            (shared.sum(1..5), shared.total(..), shared.least(3..), shared.greatest(6..6), shared.best(..)),
+            (Ok(-1), Ok(19), Ok(Some(-5)), Ok(None), Ok(Some(19)))
+        );
+        assert_eq!(shared.value_many(Kind::Sum, [(0..3), (2..8)]), Ok(vec![Value::Sum(6), Value::Sum(17)]));
+        assert_eq!(shared.value_many(Kind::Sum, [(0..3), (2..9)]).map_err(|refused| refused.place), Err(1));
+        assert_eq!((shared.ask(2..4).unwrap().values, shared.ask(..).unwrap().edit), (alone.ask(2..4).unwrap().values, 8));
+        assert_eq!(
+            (shared.reduce(..), shared.value_at_edit(Kind::Affine, 2..4)),
+            (alone.reduce(..), alone.value_at_edit(Kind::Affine, 2..4))
+        );
+    };
+}
+
+const ELEMENTS: [i64; 8] = [3, -1, 4, 1, -5, 9, 2, 6];
+
+#[test]
+fn each_form_answers_as_alone() {
+    let alone = Vector::try_from(ELEMENTS).unwrap();
+    let shared = Shared::new(alone.try_clone().unwrap());
+    answers_as_alone!(shared, alone);
+    assert_eq!((shared.capacity(), shared.last(), shared.to_vec()), (Ok(8), Ok(Some(6)), Ok(ELEMENTS.to_vec())));
+    assert_eq!(shared.summary(0..3).map(|summary| summary.total()), Ok(6));
+    assert_eq!(shared.scan_inclusive(6..).unwrap().iter().map(|values| values.sum).collect::<Vec<_>>(), [2, 8]);
+    assert_eq!(shared.scan_exclusive(6..).unwrap().iter().map(|values| values.sum).collect::<Vec<_>>(), [0, 2]);
+    let mut sums = [7; 3];
+    assert_eq!(shared.scan_inclusive_into::<by::Sum>(6.., &mut sums).map(|filled| filled.edit), Ok(8));
+    assert_eq!(
+        (sums, shared.scan_exclusive_into::<by::Least>(..2, &mut sums).map(|filled| filled.cells.to_vec())),
+        ([2, 8, 7], Ok(vec![0, 3]))
+    );
+    assert!(shared.try_clone().unwrap() == alone && shared.clear().unwrap().dropped == 8);
+
+    let alone = Series::try_from(ELEMENTS).unwrap();
+    let shared = Shared::new(alone.try_clone().unwrap());
+    answers_as_alone!(shared, alone);
+    let mut piece = [0; 2];
+    assert_eq!(
+        (shared.last(), shared.to_vec(5..), shared.read_into(5.., &mut piece), piece),
+        (Ok(Some(6)), Ok(vec![9, 2, 6]), Ok(2), [9, 2])
+    );
+    assert_eq!(shared.scan_inclusive(6..).unwrap().iter().map(|values| values.sum).collect::<Vec<_>>(), [2, 8]);
+    assert_eq!(shared.scan_exclusive(6..).unwrap().iter().map(|values| values.sum).collect::<Vec<_>>(), [0, 2]);
+    assert!(Series::load(&shared.save().unwrap()).unwrap() == shared.try_clone().unwrap());
+    assert_eq!(shared.clear(), Ok(Dropped { edit: 9, dropped: 8 }));
+
+    let times = [0, 5, 5, 10, 20, 30, 31, 40];
+    let alone = Samples::try_from_iter(times.into_iter().zip(ELEMENTS)).unwrap();
+    let shared = Shared::new(alone.try_clone().unwrap());
+    answers_as_alone!(shared, alone.values());
+    assert_eq!((shared.first(), shared.size(), shared.len(), shared.is_empty()), (Ok(0), Ok(8), Ok(8), Ok(false)));
+    assert_eq!((shared.times(1..4), shared.between(5..10), shared.last(10)), (Ok(vec![5, 5, 10]), Ok(1..3), Ok(6..8)));
+    assert_eq!(shared.to_vec(7..), Ok(vec![Sample { time: 40, value: 6 }]));
+    assert!(Samples::load(&shared.save().unwrap()).unwrap() == shared.try_clone().unwrap());
+    assert_eq!(shared.clear(), Ok(Dropped { edit: 9, dropped: 8 }));
+}
+
+#[test]
+fn crossings_alone_are_told() {
+    let shared = Shared::new(Series::new().unwrap());
+    let watched = |name, kind| Watched::new(name, kind, ..).unwrap();
+    let asked =
+        vec![watched("low", Kind::Least).at_most(0), watched("sum", Kind::Sum).at_least(10), watched("map", Kind::Affine).at_least(0)];
+    let mut alerts = shared.subscribe(asked).unwrap();
+    // of no elements there is no least, and the sum is 0
+    let mut after = |value| {
+        shared.push(value).unwrap();
+        told(alerts.look())
+    };
+    assert_eq!(after(9), []);
+    assert_eq!(after(1), [one("sum", 2, Value::Sum(10))]);
+    assert_eq!(after(0), [one("low", 3, Value::Least(Some(0)))]);
+    assert_eq!(after(-1), [one("sum", 4, Value::Sum(9))]);
+    assert_eq!(after(-7), []);
+    assert_eq!(after(20), [one("sum", 6, Value::Sum(22))]);
+    shared.clear().unwrap();
+    assert_eq!(told(alerts.look()), [one("low", 7, Value::Least(None)), one("sum", 7, Value::Sum(0))]);
 }
 
 #[test]
