@@ -1,9 +1,6 @@
 """Standing queries. Expected values are worked out by hand from the rules, or by plain Python over the same numbers."""
-import os
 import pickle
 import random
-import subprocess
-import sys
 import unittest
 
 import livevec
@@ -74,15 +71,6 @@ class Standing(unittest.TestCase):
         with self.assertRaises(livevec.TooMany):
             queries.watch("more", "sum")
         self.assertEqual(len(queries.notes(all_kinds)), 62)
-
-    def test_the_monitor_prints_the_notes_of_a_feed(self):
-        here = os.path.dirname(os.path.abspath(__file__))
-        feed = "5\n5\nx\n9\n-2\n5\n"
-        ran = subprocess.run([sys.executable, os.path.join(here, "examples", "monitor.py"), "3"], input=feed, capture_output=True, text=True, check=True,
-                             env={**os.environ, "PYTHONPATH": here})
-        wanted = ["1 sum: 5", "1 low: 5", "1 high: 5", "1 best_run: 5", "1 lap: 5", "2 sum: 10", "2 best_run: 10", "3 sum: 19", "3 high: 9",
-                  "3 best_run: 19", "4 sum: 12", "4 low: -2", "4 best_run: 14", "4 lap: -2"]
-        self.assertEqual((ran.stdout.splitlines(), ran.stderr), (wanted, "no number: 'x'\n"))
 
     def test_it_ends(self):
         with livevec.Queries() as queries:

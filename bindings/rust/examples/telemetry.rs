@@ -1,51 +1,66 @@
-//! A store of telemetry: four writers in threads of their own send samples with times, correct some later, and look at the last hour after each
-//! step, which raises alerts. What is older expires. By livevec a look costs O(log n), whatever an hour has; the twin `telemetry_plain` goes over the
-//! hour in a `VecDeque`, and prints the same.
+//! A store of telemetry: four writers in threads of their own send samples with times to one store that they share, and correct some later. After each
+//! step the last 1, 5 and 60 minutes are asked, and a query with a threshold tells when the greatest of two hours gets hot, and calm again. What is
+//! older expires. By livevec each question costs O(log n), whatever an hour has; the twin `telemetry_plain` goes over the samples in a `VecDeque`, and
+//! prints the same.
 
 mod day;
 
-use day::{Store, Window};
-use livevec::{Kind, Refusal, Sample, Samples, Value};
+use day::{HOT, Store, Window};
+use livevec::{Kind, Refusal, Samples, Shared, Subscriber, Value, Watched};
 
-/// The samples of each sensor.
 struct Kept {
-    sensors: Vec<Samples>,
+    load: Shared<Samples>,
+}
+
+fn number(value: Value) -> i64 {
+    match value {
+        Value::Sum(it) | Value::Greatest(Some(it)) => it,
+        other => unreachable!("a window with samples has no {other:?}"),
+    }
 }
 
 impl Store for Kept {
     type Error = Refusal;
+    type Alerts = Subscriber<Samples>;
 
-    fn new(sensors: usize) -> Result<Kept, Refusal> {
-        Ok(Kept { sensors: (0..sensors).map(|_| Samples::new()).collect::<Result<_, _>>()? })
+    fn new() -> Result<Kept, Refusal> {
+        Ok(Kept { load: Shared::new(Samples::new()?) })
     }
 
-    fn take(&mut self, sensor: usize, samples: &[Sample]) -> Result<(), Refusal> {
-        self.sensors[sensor].try_extend(samples.iter().copied())?;
-        Ok(())
+    fn alerts(&self) -> Result<Subscriber<Samples>, Refusal> {
+        self.load.subscribe(vec![Watched::new("greatest", Kind::Greatest, ..)?.at_least(HOT)])
     }
 
-    fn correct(&mut self, sensor: usize, number: usize, value: i64) -> Result<(), Refusal> {
-        match self.sensors[sensor].write(number, value) {
+    fn take(&self, time: i64, values: &[i64]) -> Result<u64, Refusal> {
+        // two calls with no other writer's between them
+        self.load.with(|load| {
+            let first = load.values().size();
+            load.push_many(&vec![time; values.len()], values)?;
+            Ok(first)
+        })?
+    }
+
+    fn correct(&self, number: u64, value: i64) -> Result<(), Refusal> {
+        match self.load.write(number, value) {
             Err(Refusal::NotKept { .. }) => Ok(()),
             written => written.map(drop),
         }
     }
 
-    fn forget(&mut self, sensor: usize, before: i64) -> Result<(), Refusal> {
-        self.sensors[sensor].expire_before(before).map(drop)
+    fn forget(&self, before: i64) -> Result<(), Refusal> {
+        self.load.expire_before(before).map(drop)
     }
 
-    fn last(&self, sensor: usize, seconds: u64, hot: i64) -> Result<Window, Refusal> {
-        let samples = &self.sensors[sensor];
-        let window = samples.last(seconds);
-        let (Value::Sum(sum), Value::Greatest(Some(greatest))) =
-            (samples.value_of_last(Kind::Sum, seconds)?, samples.value_of_last(Kind::Greatest, seconds)?)
-        else {
-            unreachable!("a window with samples has both");
-        };
-        let first = samples.values().where_first_at_least(window.clone(), hot)?;
-        let hot = first.map(|index| samples.get(index)).transpose()?;
-        Ok(Window { samples: (window.end - window.start) as usize, sum, greatest, hot })
+    fn last(&self, seconds: u64) -> Result<Window, Refusal> {
+        self.load.with(|load| {
+            let window = load.last(seconds);
+            let of = |kind| Ok::<i64, Refusal>(number(load.value_of_last(kind, seconds)?));
+            Ok(Window { samples: window.end - window.start, sum: of(Kind::Sum)?, greatest: of(Kind::Greatest)? })
+        })?
+    }
+
+    fn look(&self, alerts: &mut Subscriber<Samples>) -> Result<Option<i64>, Refusal> {
+        Ok(alerts.look()?.first().map(|note| number(note.value)))
     }
 }
 

@@ -1,64 +1,80 @@
-//! The same store of telemetry by plain queues and loops.
+//! The same store of telemetry by a queue, a lock and loops.
 
 mod day;
 
 use std::collections::VecDeque;
 use std::convert::Infallible;
+use std::sync::{Mutex, MutexGuard};
 
-use day::{Store, Window};
-use livevec::Sample;
+use day::{HOT, Store, Window};
 
-/// The samples of a sensor, and how many were forgotten before them.
-#[derive(Clone, Default)]
+/// Times and values, and how many were forgotten before them.
+#[derive(Default)]
 struct Last {
-    samples: VecDeque<Sample>,
-    forgotten: usize,
+    samples: VecDeque<(i64, i64)>,
+    forgotten: u64,
 }
 
-/// The samples of each sensor.
+#[derive(Default)]
 struct Plain {
-    sensors: Vec<Last>,
+    last: Mutex<Last>,
+}
+
+impl Plain {
+    fn locked(&self) -> MutexGuard<'_, Last> {
+        self.last.lock().expect("no writer panics")
+    }
 }
 
 impl Store for Plain {
     type Error = Infallible;
+    /// Whether it was hot.
+    type Alerts = bool;
 
-    fn new(sensors: usize) -> Result<Plain, Infallible> {
-        Ok(Plain { sensors: vec![Last::default(); sensors] })
+    fn new() -> Result<Plain, Infallible> {
+        Ok(Plain::default())
     }
 
-    fn take(&mut self, sensor: usize, samples: &[Sample]) -> Result<(), Infallible> {
-        self.sensors[sensor].samples.extend(samples);
-        Ok(())
+    fn alerts(&self) -> Result<bool, Infallible> {
+        Ok(false)
     }
 
-    fn correct(&mut self, sensor: usize, number: usize, value: i64) -> Result<(), Infallible> {
-        let Last { samples, forgotten } = &mut self.sensors[sensor];
-        if number >= *forgotten {
-            samples[number - *forgotten].value = value;
+    fn take(&self, time: i64, values: &[i64]) -> Result<u64, Infallible> {
+        let mut last = self.locked();
+        let first = last.forgotten + last.samples.len() as u64;
+        last.samples.extend(values.iter().map(|&value| (time, value)));
+        Ok(first)
+    }
+
+    fn correct(&self, number: u64, value: i64) -> Result<(), Infallible> {
+        let last = &mut *self.locked();
+        if number >= last.forgotten {
+            last.samples[(number - last.forgotten) as usize].1 = value;
         }
         Ok(())
     }
 
-    fn forget(&mut self, sensor: usize, before: i64) -> Result<(), Infallible> {
-        let Last { samples, forgotten } = &mut self.sensors[sensor];
-        while samples.front().is_some_and(|sample| sample.time < before) {
-            samples.pop_front();
-            *forgotten += 1;
+    fn forget(&self, before: i64) -> Result<(), Infallible> {
+        let last = &mut *self.locked();
+        while last.samples.front().is_some_and(|&(time, _)| time < before) {
+            last.samples.pop_front();
+            last.forgotten += 1;
         }
         Ok(())
     }
 
-    fn last(&self, sensor: usize, seconds: u64, hot: i64) -> Result<Window, Infallible> {
-        let samples = &self.sensors[sensor].samples;
-        let newest = samples.back().expect("there are some").time;
-        let window = || samples.range(samples.partition_point(|sample| sample.time <= newest - seconds as i64)..);
-        Ok(Window {
-            samples: window().len(),
-            sum: window().map(|sample| sample.value).sum(),
-            greatest: window().map(|sample| sample.value).max().expect("there are some"),
-            hot: window().find(|sample| sample.value >= hot).copied(),
-        })
+    fn last(&self, seconds: u64) -> Result<Window, Infallible> {
+        let last = self.locked();
+        let newest = last.samples.back().expect("there are some").0;
+        let from = last.samples.partition_point(|&(time, _)| time <= newest - seconds as i64);
+        let values = || last.samples.range(from..).map(|&(_, value)| value);
+        Ok(Window { samples: values().len() as u64, sum: values().sum(), greatest: values().max().expect("there are some") })
+    }
+
+    fn look(&self, was_hot: &mut bool) -> Result<Option<i64>, Infallible> {
+        let greatest = self.locked().samples.iter().map(|&(_, value)| value).max().expect("there are some");
+        let is_hot = greatest >= HOT;
+        Ok((std::mem::replace(was_hot, is_hot) != is_hot).then_some(greatest))
     }
 }
 
