@@ -48,6 +48,7 @@ class vector : public inner::with_jobs {
   public:
     using value_type = std::int64_t;         /**< an element */
     using size_type = std::uint32_t;         /**< an index, or a count */
+    using range_type = livevec_range;        /**< one of many ranges */
     using iterator = element_iterator;       /**< goes through a copy */
     using const_iterator = element_iterator; /**< goes through a copy */
 
@@ -264,13 +265,11 @@ class vector : public inner::with_jobs {
      * if the length times their difference is below 2^64. O(log n) then, and more after edits; else as `summarise`. A vector of one kind refuses it. */
     [[nodiscard]] int128 total(std::uint32_t lo, std::uint32_t hi) const
     {
-        const livevec_values least = value(livevec::kind::least, lo, hi).values;
-        if (!least.any)
+        const std::optional<std::int64_t> lowest = least(lo, hi);
+        if (!lowest)
             return 0;
-        const int128 count = int128(hi) - lo, lowest = count * least.least, highest = count * value(livevec::kind::greatest, lo, hi).values.greatest;
-        if (highest - lowest >= int128(1) << 64)
-            return summarise(lo, hi).total();
-        return lowest + (unsigned_sum(lo, hi) - static_cast<std::uint64_t>(lowest));
+        const std::optional<int128> told = inner::exact(int128(hi) - lo, unsigned_sum(lo, hi), *lowest, *greatest(lo, hi));
+        return told ? *told : summarise(lo, hi).total();
     }
     /** The minimum of a range, if it isn't empty. O(log n), and more after edits. */
     [[nodiscard]] std::optional<std::int64_t> least(std::uint32_t lo, std::uint32_t hi) const

@@ -102,16 +102,23 @@ namespace inner {
 template <class Slot, std::uint32_t (*Free)(Slot *)>
 class by_index : public owned<Slot, Free> {
   public:
-    using value_type = std::int64_t; /**< an element */
-    using size_type = std::uint64_t; /**< an index, or a count */
+    using value_type = std::int64_t;         /**< an element */
+    using size_type = std::uint64_t;         /**< an index, or a count */
+    using range_type = livevec_series_range; /**< one of many ranges */
+    using iterator = element_iterator;       /**< goes through a copy */
+    using const_iterator = element_iterator; /**< goes through a copy */
 
     /** Drops the last element, and gives it. Each edit that is accepted has the next number. O(1) for each tree. */
     std::int64_t pop() { return kept(livevec_series_pop(series_slot()), std::uint64_t(0)).value; }
+    /** Drops the last element. O(1) for each tree. */
+    void pop_back() { pop(); }
     /** Overwrites the element under an index, and gives the one before. O(log n) for each tree. */
     std::int64_t write(std::uint64_t index, element value) { return kept(livevec_series_write(series_slot(), index, value), index).value; }
 
     /** Drops the elements from an index on, which is `size` then, and gives how many they were. O(1) for each tree. */
     std::uint64_t truncate(std::uint64_t size) { return kept(livevec_series_truncate(series_slot(), size), size).place; }
+    /** Drops all that is kept by one edit, and gives how many elements that was. O(1) for each tree. */
+    std::uint64_t clear() { return truncate(first()); }
     /** Drops the elements before an index, which is `first` then, and gives how many they were. O(1) amortised. */
     std::uint64_t expire(std::uint64_t index) { return kept(livevec_series_expire(series_slot(), index), index).place; }
 
@@ -127,6 +134,24 @@ class by_index : public owned<Slot, Free> {
     [[nodiscard]] std::uint64_t length() const { return size() - first(); }
     /** Whether none is kept. O(1). */
     [[nodiscard]] bool empty() const { return length() == 0; }
+
+    /** The first element that is kept; `not_kept` is thrown if there is none. O(1). */
+    [[nodiscard]] std::int64_t front() const { return (*this)[first()]; }
+    /** The last element; `not_kept` is thrown if there is none. O(1). */
+    [[nodiscard]] std::int64_t back() const
+    {
+        const std::uint64_t size = this->size();
+        return (*this)[size > first() ? size - 1 : size];
+    }
+
+    /** Through a copy of the elements as they are now. O(n). */
+    [[nodiscard]] const_iterator begin() const { return const_iterator(elements()); }
+    /** The end of each copy. O(1). */
+    [[nodiscard]] const_iterator end() const noexcept { return const_iterator(); }
+    /** As begin(). O(n). */
+    [[nodiscard]] const_iterator cbegin() const { return begin(); }
+    /** As end(). O(1). */
+    [[nodiscard]] const_iterator cend() const noexcept { return end(); }
 
     /** The elements of a range, from its start on, into a buffer: as many as it takes, and how many they are. O(length). */
     std::size_t read_into(std::uint64_t lo, std::uint64_t hi, buffer_view buffer) const
@@ -180,6 +205,20 @@ class by_index : public owned<Slot, Free> {
     [[nodiscard]] std::int64_t sum(std::uint64_t lo, std::uint64_t hi) const { return static_cast<std::int64_t>(unsigned_sum(lo, hi)); }
     /** The sum of a range modulo 2^64, from 0 up. O(log n), by a tree. */
     [[nodiscard]] std::uint64_t unsigned_sum(std::uint64_t lo, std::uint64_t hi) const { return value(kind::sum, lo, hi).values.sum; }
+    /** The exact sum of a range, by three trees: those of the sum, the minimum and the maximum. O(log n); O(length) only if elements are so far apart that
+     * these leave it open, of n elements by 2^64 / n or more. */
+    [[nodiscard]] int128 total(std::uint64_t lo, std::uint64_t hi) const
+    {
+        const std::optional<std::int64_t> lowest = least(lo, hi);
+        if (!lowest)
+            return 0;
+        if (const std::optional<int128> told = exact(int128(hi) - lo, unsigned_sum(lo, hi), *lowest, *greatest(lo, hi)))
+            return *told;
+        int128 sum = 0;
+        for (std::int64_t each : read(lo, hi))
+            sum += each;
+        return sum;
+    }
     /** The minimum of a range, if it isn't empty. O(log n), by a tree. */
     [[nodiscard]] std::optional<std::int64_t> least(std::uint64_t lo, std::uint64_t hi) const
     {

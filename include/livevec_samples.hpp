@@ -51,6 +51,16 @@ class samples : public inner::by_index<livevec_samples, livevec_free_samples> {
     /** Those of the bytes that `save` gave, whose indices and edit numbers go on. O(n). */
     [[nodiscard]] static samples load(byte_view bytes) { return inner::loaded<samples>(bytes); }
 
+    /** Samples of their own, the same under the same indices, whose next edit has the same number. O(n). */
+    [[nodiscard]] samples clone() const { return load(save()); }
+    /** Whether two have the same times and values, whatever their indices. O(n). */
+    friend bool operator==(const samples &a, const samples &b)
+    {
+        return a.length() == b.length() && a.times() == b.times() && a.elements() == b.elements();
+    }
+    /** Whether they haven't. O(n). */
+    friend bool operator!=(const samples &a, const samples &b) { return !(a == b); }
+
     /** Puts a sample at the end, and gives its index. O(1) amortised for each tree. */
     std::uint64_t push(element time, element value)
     {

@@ -31,9 +31,6 @@ class stopped_long : public refused {
  * index for as long as it is kept: the elements from `first` up to `size` are. Any other index is refused by `not_kept`. */
 class series : public inner::by_index<livevec_series, livevec_free_series> {
   public:
-    using iterator = element_iterator;       /**< goes through a copy */
-    using const_iterator = element_iterator; /**< goes through a copy */
-
     /** An empty one. O(1). */
     series() { inner::check(livevec_series_new(slot())); }
     /** One with these elements, which are pushed. O(n). */
@@ -54,8 +51,6 @@ class series : public inner::by_index<livevec_series, livevec_free_series> {
     std::uint64_t push(element value) { return inner::kept(livevec_series_push(slot(), value), std::uint64_t(0)).place; }
     /** The same. O(1) amortised for each tree. */
     void push_back(element value) { push(value); }
-    /** Drops the last element. O(1) for each tree. */
-    void pop_back() { pop(); }
     /** Exchanges the elements under two indices. O(log n) for each tree. */
     void swap_elements(std::uint64_t first, std::uint64_t second)
     {
@@ -65,23 +60,13 @@ class series : public inner::by_index<livevec_series, livevec_free_series> {
 
     /** The element under an index; the index is checked. O(1). */
     [[nodiscard]] std::int64_t at(std::uint64_t index) const { return (*this)[index]; }
-    /** The first element that is kept; `not_kept` is thrown if there is none. O(1). */
-    [[nodiscard]] std::int64_t front() const { return (*this)[first()]; }
-    /** The last element; `not_kept` is thrown if there is none. O(1). */
-    [[nodiscard]] std::int64_t back() const
-    {
-        const std::uint64_t size = this->size();
-        return (*this)[size > first() ? size - 1 : size];
-    }
 
-    /** Through a copy of the elements as they are now. O(n). */
-    [[nodiscard]] const_iterator begin() const { return const_iterator(elements()); }
-    /** The end of each copy. O(1). */
-    [[nodiscard]] const_iterator end() const noexcept { return const_iterator(); }
-    /** As begin(). O(n). */
-    [[nodiscard]] const_iterator cbegin() const { return begin(); }
-    /** As end(). O(1). */
-    [[nodiscard]] const_iterator cend() const noexcept { return end(); }
+    /** One of its own with the same elements under the same indices, whose next edit has the same number. O(n). */
+    [[nodiscard]] series clone() const { return load(save()); }
+    /** Whether two have the same elements, whatever their indices. O(n). */
+    friend bool operator==(const series &a, const series &b) { return a.length() == b.length() && a.elements() == b.elements(); }
+    /** Whether they haven't. O(n). */
+    friend bool operator!=(const series &a, const series &b) { return !(a == b); }
 
     /** Pushes an array in order: all are pushed, or `stopped_long` is thrown and none is. O(length) amortised for each tree. */
     void push_many(array_view values)

@@ -77,6 +77,26 @@ class shared_form {
     /** Closes it, and has another's in its place. */
     shared_form &operator=(shared_form &&other) noexcept = default;
 
+    /** Puts an element at the end; `place` is its index. As what is shared. */
+    receipt push(element value)
+    {
+        return edit([=](Of &of) { return receipt{0, of.push(value)}; });
+    }
+    /** Pushes all or none, with no other edit between, and gives the last edit. As what is shared. */
+    std::uint64_t push_many(array_view values)
+    {
+        return edit_many([=](Of &of) { of.push_many(values); });
+    }
+    /** Exchanges the elements at two indices; `value` is the element at the first one now. As what is shared. */
+    receipt swap_elements(size_type first, size_type second)
+    {
+        return edit([=](Of &of) { return of.swap_elements(first, second), receipt{0, 0, of[first]}; });
+    }
+    /** Writes all or none, with no other edit between, and gives the last edit. As what is shared. */
+    std::uint64_t write_many(view<const size_type> indices, array_view values)
+    {
+        return edit_many([=](Of &of) { of.write_many(indices, values); });
+    }
     /** Drops the last element; `value` is that element. As what is shared. */
     receipt pop()
     {
@@ -93,15 +113,57 @@ class shared_form {
         return edit([=](Of &of) { return receipt{0, of.truncate(size)}; });
     }
 
+    /** Drops all elements by one edit. As what is shared. */
+    std::uint64_t clear()
+    {
+        return edit_many([](Of &of) { of.clear(); });
+    }
+
     /** The element at an index; the index is checked. O(1). */
     [[nodiscard]] std::int64_t operator[](size_type index) const
     {
-        return read([=](const Of &of) { return of[index]; });
+        return reads([=](const Of &of) { return of[index]; });
+    }
+    /** The same. O(1). */
+    [[nodiscard]] std::int64_t at(size_type index) const { return (*this)[index]; }
+    /** The first element; std::out_of_range is thrown if there is none. O(1). */
+    [[nodiscard]] std::int64_t front() const
+    {
+        return reads([](const Of &of) { return of.front(); });
+    }
+    /** The last element; std::out_of_range is thrown if there is none. O(1). */
+    [[nodiscard]] std::int64_t back() const
+    {
+        return reads([](const Of &of) { return of.back(); });
+    }
+    /** Whether there is no element. O(1). */
+    [[nodiscard]] bool empty() const
+    {
+        return reads([](const Of &of) { return of.empty(); });
+    }
+    /** The elements of a range, all after one edit. O(length). */
+    [[nodiscard]] std::vector<std::int64_t> read(size_type lo, size_type hi) const
+    {
+        return reads([=](const Of &of) { return of.read(lo, hi); });
+    }
+    /** All elements, after one edit. O(n). */
+    [[nodiscard]] std::vector<std::int64_t> elements() const
+    {
+        return reads([](const Of &of) { return of.elements(); });
+    }
+    /** Through a copy of the elements as they are now. O(n). */
+    [[nodiscard]] element_iterator begin() const { return element_iterator(elements()); }
+    /** The end of each copy. O(1). */
+    [[nodiscard]] element_iterator end() const noexcept { return element_iterator(); }
+    /** One of its own, which no other thread has, as `clone` of what is shared. O(n). */
+    [[nodiscard]] Of clone() const
+    {
+        return reads([](const Of &of) { return of.clone(); });
     }
     /** How many elements there are; of a series and samples the index behind the last. O(1). */
     [[nodiscard]] size_type size() const
     {
-        return read([](const Of &of) { return of.size(); });
+        return reads([](const Of &of) { return of.size(); });
     }
     /** The number of the last edit. O(1). */
     [[nodiscard]] std::uint64_t edits() const
@@ -113,6 +175,21 @@ class shared_form {
     [[nodiscard]] auto reduce(size_type lo, size_type hi) const
     {
         return answer([=](const Of &of) { return of.reduce(lo, hi); });
+    }
+    /** The values of a range by all six kinds, as `ask` of what is shared. O(log n), and more after edits. */
+    auto ask(size_type lo, size_type hi) const
+    {
+        return answer([=](const Of &of) { return of.ask(lo, hi); });
+    }
+    /** The values of many ranges by one kind, all after one edit. As `value` for each. */
+    [[nodiscard]] std::vector<livevec_values> value_many(kind by, view<const typename Of::range_type> ranges) const
+    {
+        return reads([=](const Of &of) { return of.value_many(by, ranges); });
+    }
+    /** The same of a list in braces. */
+    [[nodiscard]] std::vector<livevec_values> value_many(kind by, std::initializer_list<typename Of::range_type> ranges) const
+    {
+        return value_many(by, view<const typename Of::range_type>(ranges.begin(), ranges.size()));
     }
     /** The value of a range by one kind, as `value` of what is shared. O(log n), and more after edits. */
     [[nodiscard]] auto value(kind by, size_type lo, size_type hi) const
@@ -126,17 +203,89 @@ class shared_form {
     /** The minimum of a range, if it isn't empty. O(log n), and more after edits. */
     [[nodiscard]] std::optional<std::int64_t> least(size_type lo, size_type hi) const
     {
-        return read([=](const Of &of) { return of.least(lo, hi); });
+        return reads([=](const Of &of) { return of.least(lo, hi); });
     }
     /** The maximum of a range, if it isn't empty. O(log n), and more after edits. */
     [[nodiscard]] std::optional<std::int64_t> greatest(size_type lo, size_type hi) const
     {
-        return read([=](const Of &of) { return of.greatest(lo, hi); });
+        return reads([=](const Of &of) { return of.greatest(lo, hi); });
     }
     /** The best run of a range, if it isn't empty; exact. O(log n), and more after edits. */
     [[nodiscard]] std::optional<int128> best(size_type lo, size_type hi) const
     {
-        return read([=](const Of &of) { return of.best(lo, hi); });
+        return reads([=](const Of &of) { return of.best(lo, hi); });
+    }
+
+    /** The exact sum of a range, as `total` of what is shared. */
+    [[nodiscard]] int128 total(size_type lo, size_type hi) const
+    {
+        return reads([=](const Of &of) { return of.total(lo, hi); });
+    }
+
+    /** The position of the first minimum of a range. O(log n), and more after edits. */
+    [[nodiscard]] auto where_least(size_type lo, size_type hi) const
+    {
+        return reads([=](const Of &of) { return of.where_least(lo, hi); });
+    }
+    /** The position of the first maximum of a range. O(log n), and more after edits. */
+    [[nodiscard]] auto where_greatest(size_type lo, size_type hi) const
+    {
+        return reads([=](const Of &of) { return of.where_greatest(lo, hi); });
+    }
+    /** The position of the best run. O(log n), and more after edits. */
+    [[nodiscard]] auto where_best(size_type lo, size_type hi) const
+    {
+        return reads([=](const Of &of) { return of.where_best(lo, hi); });
+    }
+    /** The least end up to which the elements from `lo` on add up to `sum` or more. O(log n), and more after edits. */
+    [[nodiscard]] std::optional<size_type> where_reaches(size_type lo, size_type hi, element sum) const
+    {
+        return reads([=](const Of &of) { return of.where_reaches(lo, hi, sum); });
+    }
+    /** The greatest start from which the elements up to `hi` do. O(log n), and more after edits. */
+    [[nodiscard]] std::optional<size_type> where_reaches_back(size_type lo, size_type hi, element sum) const
+    {
+        return reads([=](const Of &of) { return of.where_reaches_back(lo, hi, sum); });
+    }
+    /** The index of the first element that is at least a bound. O(log n), and more after edits. */
+    [[nodiscard]] std::optional<size_type> where_first_at_least(size_type lo, size_type hi, element bound) const
+    {
+        return reads([=](const Of &of) { return of.where_first_at_least(lo, hi, bound); });
+    }
+    /** The index of the first element that is at most a bound. O(log n), and more after edits. */
+    [[nodiscard]] std::optional<size_type> where_first_at_most(size_type lo, size_type hi, element bound) const
+    {
+        return reads([=](const Of &of) { return of.where_first_at_most(lo, hi, bound); });
+    }
+    /** The index of the last element that is at least a bound. O(log n), and more after edits. */
+    [[nodiscard]] std::optional<size_type> where_last_at_least(size_type lo, size_type hi, element bound) const
+    {
+        return reads([=](const Of &of) { return of.where_last_at_least(lo, hi, bound); });
+    }
+    /** The index of the last element that is at most a bound. O(log n), and more after edits. */
+    [[nodiscard]] std::optional<size_type> where_last_at_most(size_type lo, size_type hi, element bound) const
+    {
+        return reads([=](const Of &of) { return of.where_last_at_most(lo, hi, bound); });
+    }
+    /** The values of each prefix of a range by all six kinds, with its last element, all after one edit. O(length). */
+    [[nodiscard]] std::vector<livevec_values> scan_inclusive(size_type lo, size_type hi) const
+    {
+        return reads([=](const Of &of) { return of.scan_inclusive(lo, hi); });
+    }
+    /** The same by one kind, in a column of its own. O(length). */
+    template <kind Kind> [[nodiscard]] std::vector<cell<Kind>> scan_inclusive(size_type lo, size_type hi) const
+    {
+        return reads([=](const Of &of) { return of.template scan_inclusive<Kind>(lo, hi); });
+    }
+    /** The same without its last element. O(length). */
+    [[nodiscard]] std::vector<livevec_values> scan_exclusive(size_type lo, size_type hi) const
+    {
+        return reads([=](const Of &of) { return of.scan_exclusive(lo, hi); });
+    }
+    /** The same by one kind, in a column of its own. O(length). */
+    template <kind Kind> [[nodiscard]] std::vector<cell<Kind>> scan_exclusive(size_type lo, size_type hi) const
+    {
+        return reads([=](const Of &of) { return of.template scan_exclusive<Kind>(lo, hi); });
     }
 
     /** Several calls, with no other thread's between them: hands what is shared to a call, and gives what that gives. Another that is put in its place
@@ -205,7 +354,7 @@ class shared_form {
         return *state_;
     }
     /** A call that reads. */
-    template <class Call> auto read(Call call) const
+    template <class Call> auto reads(Call call) const
     {
         const turn mine(at());
         return call(static_cast<const Of &>(mine.at.of));
@@ -272,35 +421,20 @@ class [[nodiscard]] shared<vector> : public inner::shared_form<vector> {
     /** Puts a lock round a vector. O(1). */
     explicit shared(vector of = vector()) : shared_form(std::move(of)) {}
 
-    /** Puts an element at the end; `place` is its index. O(log n) amortised. */
-    receipt push(element value)
-    {
-        return edit([=](vector &of) { return receipt{0, of.push(value)}; });
-    }
-    /** Exchanges the elements at two indices. O(log n) amortised. */
-    receipt swap_elements(std::uint32_t first, std::uint32_t second)
-    {
-        return edit([=](vector &of) { return of.swap_elements(first, second), receipt{0, 0, of[first]}; });
-    }
     /** Makes room for so many elements in all; `place` is how many now fit. O(1). */
     receipt reserve(std::uint32_t elements)
     {
         return edit([=](vector &of) { return receipt{0, of.reserve(elements)}; });
     }
-    /** Pushes all or none, with no other edit between, and gives the last edit. O(length) amortised. */
-    std::uint64_t push_many(array_view values)
+    /** How many elements fit into the memory that is held. O(1). */
+    [[nodiscard]] std::uint32_t capacity() const
     {
-        return edit_many([=](vector &of) { of.push_many(values); });
+        return reads([](const vector &of) { return of.capacity(); });
     }
-    /** Writes all or none, with no other edit between, and gives the last edit. O(length * log n) amortised. */
-    std::uint64_t write_many(index_view indices, array_view values)
+    /** The summary of a range, as vector::summarise. */
+    [[nodiscard]] summary summarise(std::uint32_t lo, std::uint32_t hi) const
     {
-        return edit_many([=](vector &of) { of.write_many(indices, values); });
-    }
-    /** The exact sum of a range, as vector::total. */
-    [[nodiscard]] int128 total(std::uint32_t lo, std::uint32_t hi) const
-    {
-        return read([=](const vector &of) { return of.total(lo, hi); });
+        return reads([=](const vector &of) { return of.summarise(lo, hi); });
     }
 
     /** Goes on as a copy, before the vector is worn: with the same elements, limits, table and kind, and no edits yet but the pushes of its elements.
@@ -354,53 +488,64 @@ class [[nodiscard]] shared<vector> : public inner::shared_form<vector> {
     }
 };
 
-/** A series that threads share, as livevec::shared says. */
-template <>
-class [[nodiscard]] shared<series> : public inner::shared_form<series> {
-  public:
-    /** Puts a lock round a series. O(1). */
-    explicit shared(series of = series()) : shared_form(std::move(of)) {}
+namespace inner {
 
-    /** Puts an element at the end; `place` is its index. O(1) amortised for each tree. */
-    receipt push(element value)
-    {
-        return edit([=](series &of) { return receipt{0, of.push(value)}; });
-    }
-    /** Exchanges the elements under two indices. O(log n) for each tree. */
-    receipt swap_elements(std::uint64_t first, std::uint64_t second)
-    {
-        return edit([=](series &of) { return of.swap_elements(first, second), receipt{0, 0, of[first]}; });
-    }
-    /** Pushes all or none, with no other edit between, and gives the last edit. O(length) amortised for each tree. */
-    std::uint64_t push_many(array_view values)
-    {
-        return edit_many([=](series &of) { of.push_many(values); });
-    }
-    /** Writes all or none, with no other edit between, and gives the last edit. O(length * log n) for each tree. */
-    std::uint64_t write_many(series_index_view indices, array_view values)
-    {
-        return edit_many([=](series &of) { of.write_many(indices, values); });
-    }
+/** What a series and samples that are shared have in common. */
+template <class Of>
+class shared_by_index : public shared_form<Of> {
+  public:
     /** Drops the elements before an index; `place` is how many were dropped. O(1) amortised. */
     receipt expire(std::uint64_t index)
     {
-        return edit([=](series &of) { return receipt{0, of.expire(index)}; });
+        return this->edit([=](Of &of) { return receipt{0, of.expire(index)}; });
     }
     /** The first index that is kept. O(1). */
     [[nodiscard]] std::uint64_t first() const
     {
-        return read([](const series &of) { return of.first(); });
+        return this->reads([](const Of &of) { return of.first(); });
+    }
+    /** How many elements are kept. O(1). */
+    [[nodiscard]] std::uint64_t length() const
+    {
+        return this->reads([](const Of &of) { return of.length(); });
+    }
+    /** Makes the tree of a kind, if there is none. O(n) then. */
+    void prepare(kind by)
+    {
+        this->edit_many([=](Of &of) { of.prepare(by); });
+    }
+    /** All of it as bytes, after one edit, which `load` takes. O(n). */
+    [[nodiscard]] std::vector<std::uint8_t> save() const
+    {
+        return this->reads([](const Of &of) { return of.save(); });
     }
     /** One more that is told which of these answers change. Before its first look each counts as told its answer of no elements. O(length). */
-    subscriber subscribe(const std::vector<watched> &asked) { return watch(asked); }
+    subscriber subscribe(const std::vector<watched> &asked) { return this->watch(asked); }
+
+  protected:
+    using shared_form<Of>::shared_form;
+};
+
+} // namespace inner
+
+/** A series that threads share, as livevec::shared says. */
+template <>
+class [[nodiscard]] shared<series> : public inner::shared_by_index<series> {
+  public:
+    /** Puts a lock round a series. O(1). */
+    explicit shared(series of = series()) : shared_by_index(std::move(of)) {}
 };
 
 /** Samples that threads share, as livevec::shared says. */
 template <>
-class [[nodiscard]] shared<samples> : public inner::shared_form<samples> {
+class [[nodiscard]] shared<samples> : public inner::shared_by_index<samples> {
   public:
     /** Puts a lock round samples. O(1). */
-    explicit shared(samples of = samples()) : shared_form(std::move(of)) {}
+    explicit shared(samples of = samples()) : shared_by_index(std::move(of)) {}
+    /** Samples don't change places. */
+    receipt swap_elements(std::uint64_t, std::uint64_t) = delete;
+    /** They are written one by one. */
+    std::uint64_t write_many(series_index_view, array_view) = delete;
 
     /** Puts a sample at the end; `place` is its index. O(1) amortised for each tree. */
     receipt push(element time, element value)
@@ -412,11 +557,6 @@ class [[nodiscard]] shared<samples> : public inner::shared_form<samples> {
     {
         return edit_many([=](samples &of) { of.push_many(times, values); });
     }
-    /** Drops the samples before an index; `place` is how many were dropped. O(1) amortised. */
-    receipt expire(std::uint64_t index)
-    {
-        return edit([=](samples &of) { return receipt{0, of.expire(index)}; });
-    }
     /** Drops the samples that were taken before a time; `place` is how many they were. O(log n), and O(1) amortised. */
     receipt expire_before(element time)
     {
@@ -425,12 +565,22 @@ class [[nodiscard]] shared<samples> : public inner::shared_form<samples> {
     /** The sample under an index; the index is checked. O(1). */
     [[nodiscard]] sample at(std::uint64_t index) const
     {
-        return read([=](const samples &of) { return of.at(index); });
+        return reads([=](const samples &of) { return of.at(index); });
     }
-    /** The first index that is kept. O(1). */
-    [[nodiscard]] std::uint64_t first() const
+    /** The times of a range of indices, all after one edit. O(length). */
+    [[nodiscard]] std::vector<std::int64_t> times(std::uint64_t lo, std::uint64_t hi) const
     {
-        return read([](const samples &of) { return of.first(); });
+        return reads([=](const samples &of) { return of.times(lo, hi); });
+    }
+    /** The samples of a window of time, as samples::between. Another thread may edit before the next call: within a `with` it doesn't. O(log n). */
+    [[nodiscard]] livevec_window between(element since, element until) const
+    {
+        return answer([=](const samples &of) { return of.between(since, until); });
+    }
+    /** The samples of the last `span` of time, as samples::last. Another thread may edit before the next call: within a `with` it doesn't. O(log n). */
+    [[nodiscard]] livevec_window last(std::uint64_t span) const
+    {
+        return answer([=](const samples &of) { return of.last(span); });
     }
     /** The value of a window of time by one kind, as samples::value_between. O(log n); the first time O(n), which makes the tree. */
     [[nodiscard]] livevec_series_reduced value_between(kind by, element since, element until) const
@@ -442,8 +592,6 @@ class [[nodiscard]] shared<samples> : public inner::shared_form<samples> {
     {
         return answer([=](const samples &of) { return of.value_of_last(by, span); });
     }
-    /** One more that is told which of these answers change. Before its first look each counts as told its answer of no elements. O(length). */
-    subscriber subscribe(const std::vector<watched> &asked) { return watch(asked); }
 };
 
 /** A vector that threads share. */

@@ -1,6 +1,7 @@
 /* A series and samples that threads share, by livevec_shared.hpp, and a vector that goes on as its copy. Values are worked out by hand. */
 #include "tests_cpp.hpp"
 
+#include <atomic>
 #include <chrono>
 #include <cstdint>
 #include <optional>
@@ -49,8 +50,14 @@ static void a_series()
     // the exchange is edit 13, and the other's push is 14
     told = alerts.look();
     IS(of.edits() == 14 && told.edit() == 14 && told[0].values.sum == 9 && told[1].values.least == 9);
-    std::thread sleeps([&] { IS(late.next()->at(0).values.greatest == 9 && late.next()->at(0).values.greatest == 50 && !late.next()); });
-    std::this_thread::sleep_for(std::chrono::milliseconds(20));
+    std::atomic<bool> has_heard{false};
+    std::thread sleeps([&] {
+        IS(late.next()->at(0).values.greatest == 9);
+        has_heard = true;
+        IS(late.next()->at(0).values.greatest == 50 && !late.next());
+    });
+    while (!has_heard)
+        std::this_thread::yield();
     of.push(50);
     const livevec::series back = of.close();
     sleeps.join();
@@ -127,8 +134,57 @@ static void a_vector_goes_on()
     IS(refusal_of([&] { full.renew(); }) == LIVEVEC_NO_HANDLE && of.close().edits() <= 6 && !alerts.next());
 }
 
+template <class Answer> static std::int64_t place_of(const std::optional<Answer> &told) { return told ? static_cast<std::int64_t>(told->index) : -1; }
+
+/* Of {3, -1, 4, 1, -5, 9, 2, 6} what is shared answers as what isn't, and that is as by hand. */
+template <class Of> static void as_alone(Of alone)
+{
+    shared<Of> of(alone.clone());
+    IS(place_of(of.where_least(0, 8)) == 4 && place_of(of.where_greatest(0, 5)) == 2 && place_of(of.where_least(2, 2)) == -1);
+    IS(of.where_best(0, 8)->lo == 0 && of.where_best(0, 8)->hi == 8 && *of.where_reaches(0, 8, 6) == 3 && *of.where_reaches_back(0, 8, 8) == 6);
+    IS(*of.where_first_at_least(0, 8, 4) == 2 && *of.where_first_at_most(2, 8, -1) == 4 && *of.where_last_at_least(0, 5, 4) == 2);
+    IS(*of.where_last_at_most(0, 8, 1) == 4 && !of.where_first_at_least(0, 8, 10) && of.total(0, 8) == 19 && alone.total(1, 5) == -1);
+    const std::vector<livevec_values> many = of.value_many(kind::sum, {{0, 3}, {2, 8}});
+    IS(many.size() == 2 && many[0].sum == 6 && many[1].sum == 17 && of.ask(0, 8).values.greatest == 9 && of.ask(0, 8).edit == 8);
+    IS((of.template scan_inclusive<kind::sum>(6, 8) == list{2, 8} && of.template scan_exclusive<kind::least>(0, 2) == list{0, 3}));
+    IS(of.scan_inclusive(6, 8)[1].sum == 8 && of.scan_exclusive(6, 8)[1].sum == 2 && refusal_of([&] { (void)of.where_least(0, 9); }) == LIVEVEC_OUT_OF_RANGE);
+    IS((of.front() == 3 && of.back() == 6 && !of.empty() && of.read(2, 4) == list{4, 1} && of.elements() == alone.elements()));
+    std::int64_t sum = 0, own = 0;
+    for (std::int64_t each : of)
+        sum += each;
+    for (std::int64_t each : alone)
+        own += each;
+    IS(sum == 19 && own == 19 && alone.cbegin() != alone.cend() && of.clone() == alone && alone.front() == 3 && alone.back() == 6);
+    alone.pop_back();
+    IS(of.clone() != alone && of.clear() == 9 && of.empty() && refusal_of([&] { (void)of.front(); }) == LIVEVEC_OUT_OF_RANGE);
+    IS(alone.size() == 7 && (alone.clear(), alone.empty()));
+}
+
+static void each_form_as_alone()
+{
+    const list elements{3, -1, 4, 1, -5, 9, 2, 6};
+    as_alone(livevec::vector(elements));
+    as_alone(livevec::series(elements));
+    const list times{0, 5, 5, 10, 20, 30, 31, 40};
+    as_alone(livevec::samples(times, elements));
+    const shared<livevec::vector> vector{livevec::vector(elements)};
+    IS(vector.capacity() == 8 && vector.summarise(0, 3).total() == 6 && vector.at(5) == 9);
+    shared<livevec::series> series{livevec::series(elements)};
+    series.prepare(kind::best);
+    IS(livevec::series::load(series.save()) == series.clone() && series.length() == 8);
+    const shared<livevec::samples> load{livevec::samples(times, elements)};
+    IS((load.times(1, 4) == list{5, 5, 10} && load.between(5, 10).lo == 1 && load.last(10).lo == 6 && load.last(10).edit == 8));
+    IS(livevec::samples::load(load.save()) == load.clone() && load.clone() != livevec::samples(times, list(8)));
+    // sums that 64 bits don't hold, told by bounds, and by reading where the bounds leave it open
+    const list large{INT64_MAX, INT64_MAX - 7, INT64_MAX}, apart{INT64_MAX, INT64_MIN, INT64_MAX};
+    IS(livevec::series(large).total(0, 3) == livevec::int128(INT64_MAX) * 3 - 7 && livevec::vector(large).total(0, 3) == livevec::int128(INT64_MAX) * 3 - 7);
+    IS(livevec::series(apart).total(0, 3) == livevec::int128(INT64_MAX) - 1 && livevec::vector(apart).total(0, 3) == livevec::int128(INT64_MAX) - 1);
+    IS(livevec::series(apart).total(2, 2) == 0 && refusal_of([&] { (void)livevec::series(apart).total(0, 4); }) == LIVEVEC_OUT_OF_RANGE);
+}
+
 void other_sorts()
 {
+    each_form_as_alone();
     a_series();
     some_samples();
     threads_share_a_series();
