@@ -16,7 +16,7 @@
  * They go in as integers (livevec::element), as a list in braces, as two iterators, as any range of integers, or as a view of an array of
  * std::int64_t. They come out as a copy: in a std::vector, or in a buffer of the caller's. begin() makes one copy, and the iterators go through it:
  * later edits change nothing of what they show, and no reference leads into the vector itself. Ranges are of indices from `lo` up to `hi`, `hi`
- * excluded.
+ * excluded; an index is any integer (livevec::position).
  *
  * @par Costs
  * n is the number of elements. "After edits" a query of a kind costs at most O(log n) more for each edit since the last query of that kind, and the
@@ -48,6 +48,7 @@ class vector : public inner::with_jobs {
   public:
     using value_type = std::int64_t;         /**< an element */
     using size_type = std::uint32_t;         /**< an index, or a count */
+    using position_type = position;          /**< an index as calls take it */
     using range_type = livevec_range;        /**< one of many ranges */
     using iterator = element_iterator;       /**< goes through a copy */
     using const_iterator = element_iterator; /**< goes through a copy */
@@ -110,19 +111,19 @@ class vector : public inner::with_jobs {
     /** Drops the last element. O(log n). */
     void pop_back() { pop(); }
     /** Overwrites the element at an index, and gives the one before. O(log n) amortised. */
-    std::int64_t write(std::uint32_t index, element value) { return inner::checked(livevec_write(slot(), index, value), index).value; }
+    std::int64_t write(position index, element value) { return inner::checked(livevec_write(slot(), index, value), index).value; }
     /** Exchanges the elements at two indices. O(log n) amortised. */
-    void swap_elements(std::uint32_t first, std::uint32_t second)
+    void swap_elements(position first, position second)
     {
         const livevec_edited did = livevec_swap(slot(), first, second);
         inner::checked(did, first < did.detail ? second : first);
     }
     /** Keeps so many elements, the first ones, and gives how many were dropped. O(log n) amortised. */
-    std::uint32_t truncate(std::uint32_t elements) { return inner::checked(livevec_truncate(slot(), elements), elements).place; }
+    std::uint32_t truncate(position elements) { return inner::checked(livevec_truncate(slot(), elements), elements).place; }
     /** Drops all elements by one edit. O(log n) amortised. */
     void clear() { truncate(0); }
     /** Makes room for so many elements in all, and gives how many now fit. O(1), and the memory that is asked for. */
-    std::uint32_t reserve(std::uint32_t elements) { return inner::checked(livevec_reserve(slot(), elements)).place; }
+    std::uint32_t reserve(position elements) { return inner::checked(livevec_reserve(slot(), elements)).place; }
 
     /** Pushes an array in order: all are pushed, or `stopped` is thrown and none is. O(length) amortised. */
     void push_many(const std::int64_t *values, std::size_t length)
@@ -168,24 +169,24 @@ class vector : public inner::with_jobs {
     /** The same of a pop. O(1). */
     [[nodiscard]] livevec_verdict verdict_pop() const { return inner::judged(livevec_verdict_pop(slot())); }
     /** The same of a write. O(1). */
-    [[nodiscard]] livevec_verdict verdict_write(std::uint32_t index, element value) const
+    [[nodiscard]] livevec_verdict verdict_write(position index, element value) const
     {
         return inner::judged(livevec_verdict_write(slot(), index, value));
     }
     /** The same of a reserve. O(1). */
-    [[nodiscard]] livevec_verdict verdict_reserve(std::uint32_t elements) const { return inner::judged(livevec_verdict_reserve(slot(), elements)); }
+    [[nodiscard]] livevec_verdict verdict_reserve(position elements) const { return inner::judged(livevec_verdict_reserve(slot(), elements)); }
     /** The same of a swap. O(1). */
-    [[nodiscard]] livevec_verdict verdict_swap(std::uint32_t first, std::uint32_t second) const
+    [[nodiscard]] livevec_verdict verdict_swap(position first, position second) const
     {
         return inner::judged(livevec_verdict_swap(slot(), first, second));
     }
     /** The same of a truncate. O(1). */
-    [[nodiscard]] livevec_verdict verdict_truncate(std::uint32_t elements) const { return inner::judged(livevec_verdict_truncate(slot(), elements)); }
+    [[nodiscard]] livevec_verdict verdict_truncate(position elements) const { return inner::judged(livevec_verdict_truncate(slot(), elements)); }
 
     /** The element at an index; the index is checked. O(1). */
-    [[nodiscard]] std::int64_t operator[](std::uint32_t index) const { return inner::checked(livevec_get(slot(), index), index).value; }
+    [[nodiscard]] std::int64_t operator[](position index) const { return inner::checked(livevec_get(slot(), index), index).value; }
     /** The same. O(1). */
-    [[nodiscard]] std::int64_t at(std::uint32_t index) const { return (*this)[index]; }
+    [[nodiscard]] std::int64_t at(position index) const { return (*this)[index]; }
     /** The first element; std::out_of_range is thrown if there is none. O(1). */
     [[nodiscard]] std::int64_t front() const { return (*this)[0]; }
     /** The last element; std::out_of_range is thrown if there is none. O(1). */
@@ -204,7 +205,7 @@ class vector : public inner::with_jobs {
     [[nodiscard]] bool empty() const { return size() == 0; }
 
     /** The elements of a range. O(length). */
-    [[nodiscard]] std::vector<std::int64_t> read(std::uint32_t lo, std::uint32_t hi) const
+    [[nodiscard]] std::vector<std::int64_t> read(position lo, position hi) const
     {
         std::vector<std::int64_t> elements(lo < hi && hi <= size() ? hi - lo : 0);
         inner::checked(livevec_read(slot(), lo, hi, elements.data(), elements.size()), lo, hi);
@@ -213,7 +214,7 @@ class vector : public inner::with_jobs {
     /** All elements. O(n). */
     [[nodiscard]] std::vector<std::int64_t> elements() const { return read(0, size()); }
     /** The elements of a range into the front of a buffer, and how many they are. O(length). */
-    std::uint32_t read_into(std::uint32_t lo, std::uint32_t hi, buffer_view buffer) const
+    std::uint32_t read_into(position lo, position hi, buffer_view buffer) const
     {
         return inner::checked(livevec_read(slot(), lo, hi, buffer.data(), buffer.size()), lo, hi).length;
     }
@@ -234,15 +235,15 @@ class vector : public inner::with_jobs {
 
     /** The value of a range by one kind, and the edit at which it holds. Only this kind is computed, and what is computed is kept. Of the values only
      * those of the kind are told, and `any`. O(log n), and more after edits. */
-    [[nodiscard]] livevec_reduced value(livevec::kind kind, std::uint32_t lo, std::uint32_t hi) const
+    [[nodiscard]] livevec_reduced value(livevec::kind kind, position lo, position hi) const
     {
         return inner::checked(livevec_value(slot(), inner::number(kind), lo, hi), lo, hi);
     }
     /** The values of a range by all six kinds, as `value` computes each. O(log n), and more after edits. */
-    livevec_reduced ask(std::uint32_t lo, std::uint32_t hi) const { return inner::checked(livevec_ask(slot(), lo, hi), lo, hi); }
+    livevec_reduced ask(position lo, position hi) const { return inner::checked(livevec_ask(slot(), lo, hi), lo, hi); }
     /** The values of a range by all six kinds, from the summaries that `refresh` and jobs computed, and keeps nothing. **Linear in the range if nothing
      * was refreshed**, O(log n) if all was: use `value` or `ask` unless you refresh. */
-    [[nodiscard]] livevec_reduced reduce(std::uint32_t lo, std::uint32_t hi) const { return inner::checked(livevec_reduce(slot(), lo, hi), lo, hi); }
+    [[nodiscard]] livevec_reduced reduce(position lo, position hi) const { return inner::checked(livevec_reduce(slot(), lo, hi), lo, hi); }
 
     /** The values of many ranges by one kind, all after one edit. If a range is refused, `refused_at` is thrown. As `value` for each. */
     [[nodiscard]] std::vector<livevec_values> value_many(livevec::kind kind, range_view ranges) const
@@ -258,12 +259,12 @@ class vector : public inner::with_jobs {
     }
 
     /** The sum of a range modulo 2^64, as a signed number: exact if it fits. O(log n), and more after edits. */
-    [[nodiscard]] std::int64_t sum(std::uint32_t lo, std::uint32_t hi) const { return static_cast<std::int64_t>(unsigned_sum(lo, hi)); }
+    [[nodiscard]] std::int64_t sum(position lo, position hi) const { return static_cast<std::int64_t>(unsigned_sum(lo, hi)); }
     /** The sum of a range modulo 2^64, from 0 up. O(log n), and more after edits. */
-    [[nodiscard]] std::uint64_t unsigned_sum(std::uint32_t lo, std::uint32_t hi) const { return value(livevec::kind::sum, lo, hi).values.sum; }
+    [[nodiscard]] std::uint64_t unsigned_sum(position lo, position hi) const { return value(livevec::kind::sum, lo, hi).values.sum; }
     /** The exact sum of a range. It follows from the sum modulo 2^64 and the bounds that the minimum and the maximum give, if these leave one number:
      * if the length times their difference is below 2^64. O(log n) then, and more after edits; else as `summarise`. A vector of one kind refuses it. */
-    [[nodiscard]] int128 total(std::uint32_t lo, std::uint32_t hi) const
+    [[nodiscard]] int128 total(position lo, position hi) const
     {
         const std::optional<std::int64_t> lowest = least(lo, hi);
         if (!lowest)
@@ -272,98 +273,98 @@ class vector : public inner::with_jobs {
         return told ? *told : summarise(lo, hi).total();
     }
     /** The minimum of a range, if it isn't empty. O(log n), and more after edits. */
-    [[nodiscard]] std::optional<std::int64_t> least(std::uint32_t lo, std::uint32_t hi) const
+    [[nodiscard]] std::optional<std::int64_t> least(position lo, position hi) const
     {
         return inner::some(value(livevec::kind::least, lo, hi).values, &livevec_values::least);
     }
     /** The maximum of a range, if it isn't empty. O(log n), and more after edits. */
-    [[nodiscard]] std::optional<std::int64_t> greatest(std::uint32_t lo, std::uint32_t hi) const
+    [[nodiscard]] std::optional<std::int64_t> greatest(position lo, position hi) const
     {
         return inner::some(value(livevec::kind::greatest, lo, hi).values, &livevec_values::greatest);
     }
     /** The best run of a range, the maximum subarray sum, if it isn't empty; exact. O(log n), and more after edits. */
-    [[nodiscard]] std::optional<int128> best(std::uint32_t lo, std::uint32_t hi) const
+    [[nodiscard]] std::optional<int128> best(position lo, position hi) const
     {
         const livevec_values values = value(livevec::kind::best, lo, hi).values;
         return values.any ? std::optional<int128>(inner::joined(values.best_high, values.best_low)) : std::nullopt;
     }
 
     /** The position of the first minimum of a range. O(log n), and more after edits. */
-    [[nodiscard]] std::optional<placed> where_least(std::uint32_t lo, std::uint32_t hi) const
+    [[nodiscard]] std::optional<placed> where_least(position lo, position hi) const
     {
         return inner::element_at<placed>(inner::checked(livevec_where_least(slot(), lo, hi), lo, hi));
     }
     /** The position of the first maximum of a range. O(log n), and more after edits. */
-    [[nodiscard]] std::optional<placed> where_greatest(std::uint32_t lo, std::uint32_t hi) const
+    [[nodiscard]] std::optional<placed> where_greatest(position lo, position hi) const
     {
         return inner::element_at<placed>(inner::checked(livevec_where_greatest(slot(), lo, hi), lo, hi));
     }
 
     /** The position of the best run: of several the one that ends first, and of those the shortest. O(log n), and more after edits. */
-    [[nodiscard]] std::optional<best_run> where_best(std::uint32_t lo, std::uint32_t hi) const
+    [[nodiscard]] std::optional<best_run> where_best(position lo, position hi) const
     {
         return inner::run<best_run>(inner::checked(livevec_where_best(slot(), lo, hi), lo, hi));
     }
 
     /** The least end, from lo to hi, such that the elements from lo up to it add up to `sum` or more. No sum wraps. O(log n), and more after edits. */
-    [[nodiscard]] std::optional<std::uint32_t> where_reaches(std::uint32_t lo, std::uint32_t hi, element sum) const
+    [[nodiscard]] std::optional<std::uint32_t> where_reaches(position lo, position hi, element sum) const
     {
         return inner::one_end(inner::checked(livevec_where_reaches(slot(), lo, hi, sum), lo, hi), &livevec_found::hi);
     }
     /** The greatest start, from hi down to lo, such that the elements from it up to hi add up to `sum` or more. O(log n), and more after edits. */
-    [[nodiscard]] std::optional<std::uint32_t> where_reaches_back(std::uint32_t lo, std::uint32_t hi, element sum) const
+    [[nodiscard]] std::optional<std::uint32_t> where_reaches_back(position lo, position hi, element sum) const
     {
         return inner::one_end(inner::checked(livevec_where_reaches_back(slot(), lo, hi, sum), lo, hi), &livevec_found::lo);
     }
 
     /** The index of the first element of a range that is at least a bound. O(log n), and more after edits. */
-    [[nodiscard]] std::optional<std::uint32_t> where_first_at_least(std::uint32_t lo, std::uint32_t hi, element bound) const
+    [[nodiscard]] std::optional<std::uint32_t> where_first_at_least(position lo, position hi, element bound) const
     {
         return inner::one_end(inner::checked(livevec_where_first_at_least(slot(), lo, hi, bound), lo, hi), &livevec_found::lo);
     }
     /** The index of the first element that is at most a bound. O(log n), and more after edits. */
-    [[nodiscard]] std::optional<std::uint32_t> where_first_at_most(std::uint32_t lo, std::uint32_t hi, element bound) const
+    [[nodiscard]] std::optional<std::uint32_t> where_first_at_most(position lo, position hi, element bound) const
     {
         return inner::one_end(inner::checked(livevec_where_first_at_most(slot(), lo, hi, bound), lo, hi), &livevec_found::lo);
     }
     /** The index of the last element that is at least a bound. O(log n), and more after edits. */
-    [[nodiscard]] std::optional<std::uint32_t> where_last_at_least(std::uint32_t lo, std::uint32_t hi, element bound) const
+    [[nodiscard]] std::optional<std::uint32_t> where_last_at_least(position lo, position hi, element bound) const
     {
         return inner::one_end(inner::checked(livevec_where_last_at_least(slot(), lo, hi, bound), lo, hi), &livevec_found::lo);
     }
     /** The index of the last element that is at most a bound. O(log n), and more after edits. */
-    [[nodiscard]] std::optional<std::uint32_t> where_last_at_most(std::uint32_t lo, std::uint32_t hi, element bound) const
+    [[nodiscard]] std::optional<std::uint32_t> where_last_at_most(position lo, position hi, element bound) const
     {
         return inner::one_end(inner::checked(livevec_where_last_at_most(slot(), lo, hi, bound), lo, hi), &livevec_found::lo);
     }
 
     /** The summary of a range, which holds nothing of the vector and may travel. **Linear in the range if nothing was refreshed**, O(log n) if all
      * was. */
-    summary summarise(std::uint32_t lo, std::uint32_t hi) const { return summary(inner::checked(livevec_summary_of(slot(), lo, hi), lo, hi).summary); }
+    summary summarise(position lo, position hi) const { return summary(inner::checked(livevec_summary_of(slot(), lo, hi), lo, hi).summary); }
 
     /** The values of each prefix of a range by all six kinds, with its last element. O(length). */
-    [[nodiscard]] std::vector<livevec_values> scan_inclusive(std::uint32_t lo, std::uint32_t hi) const { return column<livevec_values>(livevec_scan_inclusive, lo, hi); }
+    [[nodiscard]] std::vector<livevec_values> scan_inclusive(position lo, position hi) const { return column<livevec_values>(livevec_scan_inclusive, lo, hi); }
     /** The same without its last element. O(length). */
-    [[nodiscard]] std::vector<livevec_values> scan_exclusive(std::uint32_t lo, std::uint32_t hi) const { return column<livevec_values>(livevec_scan_exclusive, lo, hi); }
+    [[nodiscard]] std::vector<livevec_values> scan_exclusive(position lo, position hi) const { return column<livevec_values>(livevec_scan_exclusive, lo, hi); }
 
     /** The running values of a range by one kind, as scan_inclusive<livevec::kind::sum>(0, n), in a column of its own. Of no elements the minimum, the
      * maximum and the best run are 0. O(length). */
-    template <livevec::kind Kind> [[nodiscard]] std::vector<cell<Kind>> scan_inclusive(std::uint32_t lo, std::uint32_t hi) const
+    template <livevec::kind Kind> [[nodiscard]] std::vector<cell<Kind>> scan_inclusive(position lo, position hi) const
     {
         return column<cell<Kind>>(inner::by<Kind>::inclusive, lo, hi);
     }
     /** The same, each without the element at its place. O(length). */
-    template <livevec::kind Kind> [[nodiscard]] std::vector<cell<Kind>> scan_exclusive(std::uint32_t lo, std::uint32_t hi) const
+    template <livevec::kind Kind> [[nodiscard]] std::vector<cell<Kind>> scan_exclusive(position lo, position hi) const
     {
         return column<cell<Kind>>(inner::by<Kind>::exclusive, lo, hi);
     }
     /** The same as scan_inclusive into the front of a column of the caller's, and how many they are. O(length). */
-    template <livevec::kind Kind> std::uint32_t scan_inclusive_into(std::uint32_t lo, std::uint32_t hi, view<cell<Kind>> column) const
+    template <livevec::kind Kind> std::uint32_t scan_inclusive_into(position lo, position hi, view<cell<Kind>> column) const
     {
         return inner::checked(inner::by<Kind>::inclusive(slot(), lo, hi, column.data(), column.size()), lo, hi).length;
     }
     /** The same as scan_exclusive into the front of a column of the caller's, and how many they are. O(length). */
-    template <livevec::kind Kind> std::uint32_t scan_exclusive_into(std::uint32_t lo, std::uint32_t hi, view<cell<Kind>> column) const
+    template <livevec::kind Kind> std::uint32_t scan_exclusive_into(position lo, position hi, view<cell<Kind>> column) const
     {
         return inner::checked(inner::by<Kind>::exclusive(slot(), lo, hi, column.data(), column.size()), lo, hi).length;
     }
@@ -376,7 +377,7 @@ class vector : public inner::with_jobs {
     vector(unmade, limits most, std::optional<livevec::kind> only) : limits_(most), only_(only) {}
 
     /* A column of its own, that a call of C fills. */
-    template <class Cell, class Call> std::vector<Cell> column(Call call, std::uint32_t lo, std::uint32_t hi) const
+    template <class Cell, class Call> std::vector<Cell> column(Call call, position lo, position hi) const
     {
         std::vector<Cell> cells(lo < hi && hi <= size() ? hi - lo : 0);
         inner::checked(call(slot(), lo, hi, cells.data(), cells.size()), lo, hi);

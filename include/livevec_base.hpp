@@ -52,6 +52,20 @@ struct element {
     constexpr operator std::int64_t() const noexcept { return value; }
 };
 
+/** An index of a vector as calls take it, or an end of a range, or a count: any integer. One that no vector has, as a negative one or one of more than
+ * 32 bits, is refused as any that is past the end, and never cut to one that there is. */
+struct position {
+    std::uint32_t value; /**< the integer; UINT32_MAX, which is past each end, if it doesn't fit */
+    /** Takes an integer, or an unscoped enum. */
+    template <class Integer, class = std::enable_if_t<std::is_integral_v<Integer> || (std::is_enum_v<Integer> && std::is_convertible_v<Integer, std::int64_t>)>>
+    constexpr position(Integer at) noexcept
+        : value(static_cast<std::uint64_t>(at) > UINT32_MAX ? UINT32_MAX : static_cast<std::uint32_t>(at))
+    {
+    }
+    /** Gives it. */
+    constexpr operator std::uint32_t() const noexcept { return value; }
+};
+
 /** Why a call was refused: a ::livevec_refusal, and its detail. What is thrown is also a std::out_of_range if an index or a range is wrong, else a
  * std::runtime_error; it can be caught as either. A refused call changes nothing. */
 class refused {
@@ -185,6 +199,16 @@ class element_iterator {
     std::shared_ptr<const std::vector<std::int64_t>> copy_;
     std::size_t index_ = 0;
 };
+
+/** The digits of an integer of 128 bits, which no stream prints. */
+inline std::string to_string(int128 number)
+{
+    std::string digits;
+    __extension__ unsigned __int128 rest = number;
+    for (rest = number < 0 ? -rest : rest; rest || digits.empty(); rest /= 10)
+        digits.insert(digits.begin(), static_cast<char>('0' + static_cast<int>(rest % 10)));
+    return number < 0 ? '-' + digits : digits;
+}
 
 /** What the classes of livevec.hpp are made of. Names in it may change at any time. */
 namespace inner {

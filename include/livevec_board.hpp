@@ -74,19 +74,19 @@ class [[nodiscard]] seat {
     /** Drops the last element, and gives it. O(1) a try. */
     std::int64_t pop(std::uint32_t tries = 1000) { return inner::checked(livevec_seat_pop(slot(), tries)).value; }
     /** Overwrites the element at an index, and gives the one before. O(1) a try. */
-    std::int64_t write(std::uint32_t index, element value, std::uint32_t tries = 1000)
+    std::int64_t write(position index, element value, std::uint32_t tries = 1000)
     {
         return inner::checked(livevec_seat_write(slot(), index, value, tries), index).value;
     }
 
     /** The element at an index; the index is checked. O(1). */
-    [[nodiscard]] std::int64_t operator[](std::uint32_t index) const { return inner::checked(livevec_seat_get(slot(), index), index).value; }
+    [[nodiscard]] std::int64_t operator[](position index) const { return inner::checked(livevec_seat_get(slot(), index), index).value; }
     /** How many elements there are. Another seat may change it at once. O(1). */
     [[nodiscard]] std::uint32_t size() const { return inner::counted(livevec_seat_size(slot())); }
 
     /** The value of a range by the board's kind, all as it was after one edit. Of the values only those of that kind are told, and `any`. O(length / 8) if
      * the blocks were refreshed, else O(length). */
-    [[nodiscard]] livevec_reduced reduce(std::uint32_t lo, std::uint32_t hi) const { return inner::checked(livevec_seat_reduce(slot(), lo, hi), lo, hi); }
+    [[nodiscard]] livevec_reduced reduce(position lo, position hi) const { return inner::checked(livevec_seat_reduce(slot(), lo, hi), lo, hi); }
 
     /** Computes the summary of a block, the eight elements from index 8 * block on, so that reductions read less. O(1). */
     livevec_renewed refresh(std::uint32_t block) { return inner::checked(livevec_seat_refresh(slot(), block)); }
@@ -122,7 +122,7 @@ class [[nodiscard]] closed {
     /** Whether there is none. O(1). */
     [[nodiscard]] bool empty() const { return size() == 0; }
     /** The element at an index; the index is checked. O(1). */
-    [[nodiscard]] std::int64_t operator[](std::uint32_t index) const { return inner::checked(livevec_closed_get(slot(), index), index).value; }
+    [[nodiscard]] std::int64_t operator[](position index) const { return inner::checked(livevec_closed_get(slot(), index), index).value; }
 
     /** All elements. O(n). */
     [[nodiscard]] std::vector<std::int64_t> elements() const

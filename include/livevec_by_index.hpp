@@ -104,6 +104,7 @@ class by_index : public owned<Slot, Free> {
   public:
     using value_type = std::int64_t;         /**< an element */
     using size_type = std::uint64_t;         /**< an index, or a count */
+    using position_type = std::uint64_t;     /**< an index as calls take it */
     using range_type = livevec_series_range; /**< one of many ranges */
     using iterator = element_iterator;       /**< goes through a copy */
     using const_iterator = element_iterator; /**< goes through a copy */

@@ -21,7 +21,7 @@ class [[nodiscard]] queries : public inner::owned<livevec_queries, livevec_free_
     queries() { inner::check(livevec_queries_new(slot())); }
 
     /** Registers a query: the value of a range by a kind. The range may reach past the end, and what of it exists is asked; left out, it is all. O(q). */
-    void watch(std::string_view name, kind of, std::uint32_t lo = 0, std::uint32_t hi = UINT32_MAX)
+    void watch(std::string_view name, kind of, position lo = 0, position hi = UINT32_MAX)
     {
         inner::check(livevec_watch(slot(), bytes(name), name.size(), inner::number(of), lo, hi));
     }

@@ -72,7 +72,8 @@ class shared_worker : public owned<livevec_worker, livevec_free_worker> {
 template <class Of>
 class shared_form {
   public:
-    using size_type = typename Of::size_type; /**< an index, or a count */
+    using size_type = typename Of::size_type;         /**< an index, or a count */
+    using position_type = typename Of::position_type; /**< an index as calls take it */
 
     /** Closes it, and has another's in its place. */
     shared_form &operator=(shared_form &&other) noexcept = default;
@@ -88,7 +89,7 @@ class shared_form {
         return edit_many([=](Of &of) { of.push_many(values); });
     }
     /** Exchanges the elements at two indices; `value` is the element at the first one now. As what is shared. */
-    receipt swap_elements(size_type first, size_type second)
+    receipt swap_elements(position_type first, position_type second)
     {
         return edit([=](Of &of) { return of.swap_elements(first, second), receipt{0, 0, of[first]}; });
     }
@@ -103,12 +104,12 @@ class shared_form {
         return edit([](Of &of) { return receipt{0, 0, of.pop()}; });
     }
     /** Overwrites the element at an index; `value` is the one before. As what is shared. */
-    receipt write(size_type index, element value)
+    receipt write(position_type index, element value)
     {
         return edit([=](Of &of) { return receipt{0, 0, of.write(index, value)}; });
     }
     /** Drops the elements from an index on; `place` is how many were dropped. As what is shared. */
-    receipt truncate(size_type size)
+    receipt truncate(position_type size)
     {
         return edit([=](Of &of) { return receipt{0, of.truncate(size)}; });
     }
@@ -120,12 +121,12 @@ class shared_form {
     }
 
     /** The element at an index; the index is checked. O(1). */
-    [[nodiscard]] std::int64_t operator[](size_type index) const
+    [[nodiscard]] std::int64_t operator[](position_type index) const
     {
         return reads([=](const Of &of) { return of[index]; });
     }
     /** The same. O(1). */
-    [[nodiscard]] std::int64_t at(size_type index) const { return (*this)[index]; }
+    [[nodiscard]] std::int64_t at(position_type index) const { return (*this)[index]; }
     /** The first element; std::out_of_range is thrown if there is none. O(1). */
     [[nodiscard]] std::int64_t front() const
     {
@@ -142,7 +143,7 @@ class shared_form {
         return reads([](const Of &of) { return of.empty(); });
     }
     /** The elements of a range, all after one edit. O(length). */
-    [[nodiscard]] std::vector<std::int64_t> read(size_type lo, size_type hi) const
+    [[nodiscard]] std::vector<std::int64_t> read(position_type lo, position_type hi) const
     {
         return reads([=](const Of &of) { return of.read(lo, hi); });
     }
@@ -172,12 +173,12 @@ class shared_form {
         return mine.leave();
     }
     /** The values of a range by all six kinds, as `reduce` of what is shared: **linear in the range** for what no worker, refresh or query computed. */
-    [[nodiscard]] auto reduce(size_type lo, size_type hi) const
+    [[nodiscard]] auto reduce(position_type lo, position_type hi) const
     {
         return answer([=](const Of &of) { return of.reduce(lo, hi); });
     }
     /** The values of a range by all six kinds, as `ask` of what is shared. O(log n), and more after edits. */
-    auto ask(size_type lo, size_type hi) const
+    auto ask(position_type lo, position_type hi) const
     {
         return answer([=](const Of &of) { return of.ask(lo, hi); });
     }
@@ -192,98 +193,98 @@ class shared_form {
         return value_many(by, view<const typename Of::range_type>(ranges.begin(), ranges.size()));
     }
     /** The value of a range by one kind, as `value` of what is shared. O(log n), and more after edits. */
-    [[nodiscard]] auto value(kind by, size_type lo, size_type hi) const
+    [[nodiscard]] auto value(kind by, position_type lo, position_type hi) const
     {
         return answer([=](const Of &of) { return of.value(by, lo, hi); });
     }
     /** The sum of a range modulo 2^64. O(log n), and more after edits. */
-    [[nodiscard]] std::int64_t sum(size_type lo, size_type hi) const { return static_cast<std::int64_t>(unsigned_sum(lo, hi)); }
+    [[nodiscard]] std::int64_t sum(position_type lo, position_type hi) const { return static_cast<std::int64_t>(unsigned_sum(lo, hi)); }
     /** The same from 0 up. O(log n), and more after edits. */
-    [[nodiscard]] std::uint64_t unsigned_sum(size_type lo, size_type hi) const { return value(kind::sum, lo, hi).values.sum; }
+    [[nodiscard]] std::uint64_t unsigned_sum(position_type lo, position_type hi) const { return value(kind::sum, lo, hi).values.sum; }
     /** The minimum of a range, if it isn't empty. O(log n), and more after edits. */
-    [[nodiscard]] std::optional<std::int64_t> least(size_type lo, size_type hi) const
+    [[nodiscard]] std::optional<std::int64_t> least(position_type lo, position_type hi) const
     {
         return reads([=](const Of &of) { return of.least(lo, hi); });
     }
     /** The maximum of a range, if it isn't empty. O(log n), and more after edits. */
-    [[nodiscard]] std::optional<std::int64_t> greatest(size_type lo, size_type hi) const
+    [[nodiscard]] std::optional<std::int64_t> greatest(position_type lo, position_type hi) const
     {
         return reads([=](const Of &of) { return of.greatest(lo, hi); });
     }
     /** The best run of a range, if it isn't empty; exact. O(log n), and more after edits. */
-    [[nodiscard]] std::optional<int128> best(size_type lo, size_type hi) const
+    [[nodiscard]] std::optional<int128> best(position_type lo, position_type hi) const
     {
         return reads([=](const Of &of) { return of.best(lo, hi); });
     }
 
     /** The exact sum of a range, as `total` of what is shared. */
-    [[nodiscard]] int128 total(size_type lo, size_type hi) const
+    [[nodiscard]] int128 total(position_type lo, position_type hi) const
     {
         return reads([=](const Of &of) { return of.total(lo, hi); });
     }
 
     /** The position of the first minimum of a range. O(log n), and more after edits. */
-    [[nodiscard]] auto where_least(size_type lo, size_type hi) const
+    [[nodiscard]] auto where_least(position_type lo, position_type hi) const
     {
         return reads([=](const Of &of) { return of.where_least(lo, hi); });
     }
     /** The position of the first maximum of a range. O(log n), and more after edits. */
-    [[nodiscard]] auto where_greatest(size_type lo, size_type hi) const
+    [[nodiscard]] auto where_greatest(position_type lo, position_type hi) const
     {
         return reads([=](const Of &of) { return of.where_greatest(lo, hi); });
     }
     /** The position of the best run. O(log n), and more after edits. */
-    [[nodiscard]] auto where_best(size_type lo, size_type hi) const
+    [[nodiscard]] auto where_best(position_type lo, position_type hi) const
     {
         return reads([=](const Of &of) { return of.where_best(lo, hi); });
     }
     /** The least end up to which the elements from `lo` on add up to `sum` or more. O(log n), and more after edits. */
-    [[nodiscard]] std::optional<size_type> where_reaches(size_type lo, size_type hi, element sum) const
+    [[nodiscard]] std::optional<size_type> where_reaches(position_type lo, position_type hi, element sum) const
     {
         return reads([=](const Of &of) { return of.where_reaches(lo, hi, sum); });
     }
     /** The greatest start from which the elements up to `hi` do. O(log n), and more after edits. */
-    [[nodiscard]] std::optional<size_type> where_reaches_back(size_type lo, size_type hi, element sum) const
+    [[nodiscard]] std::optional<size_type> where_reaches_back(position_type lo, position_type hi, element sum) const
     {
         return reads([=](const Of &of) { return of.where_reaches_back(lo, hi, sum); });
     }
     /** The index of the first element that is at least a bound. O(log n), and more after edits. */
-    [[nodiscard]] std::optional<size_type> where_first_at_least(size_type lo, size_type hi, element bound) const
+    [[nodiscard]] std::optional<size_type> where_first_at_least(position_type lo, position_type hi, element bound) const
     {
         return reads([=](const Of &of) { return of.where_first_at_least(lo, hi, bound); });
     }
     /** The index of the first element that is at most a bound. O(log n), and more after edits. */
-    [[nodiscard]] std::optional<size_type> where_first_at_most(size_type lo, size_type hi, element bound) const
+    [[nodiscard]] std::optional<size_type> where_first_at_most(position_type lo, position_type hi, element bound) const
     {
         return reads([=](const Of &of) { return of.where_first_at_most(lo, hi, bound); });
     }
     /** The index of the last element that is at least a bound. O(log n), and more after edits. */
-    [[nodiscard]] std::optional<size_type> where_last_at_least(size_type lo, size_type hi, element bound) const
+    [[nodiscard]] std::optional<size_type> where_last_at_least(position_type lo, position_type hi, element bound) const
     {
         return reads([=](const Of &of) { return of.where_last_at_least(lo, hi, bound); });
     }
     /** The index of the last element that is at most a bound. O(log n), and more after edits. */
-    [[nodiscard]] std::optional<size_type> where_last_at_most(size_type lo, size_type hi, element bound) const
+    [[nodiscard]] std::optional<size_type> where_last_at_most(position_type lo, position_type hi, element bound) const
     {
         return reads([=](const Of &of) { return of.where_last_at_most(lo, hi, bound); });
     }
     /** The values of each prefix of a range by all six kinds, with its last element, all after one edit. O(length). */
-    [[nodiscard]] std::vector<livevec_values> scan_inclusive(size_type lo, size_type hi) const
+    [[nodiscard]] std::vector<livevec_values> scan_inclusive(position_type lo, position_type hi) const
     {
         return reads([=](const Of &of) { return of.scan_inclusive(lo, hi); });
     }
     /** The same by one kind, in a column of its own. O(length). */
-    template <kind Kind> [[nodiscard]] std::vector<cell<Kind>> scan_inclusive(size_type lo, size_type hi) const
+    template <kind Kind> [[nodiscard]] std::vector<cell<Kind>> scan_inclusive(position_type lo, position_type hi) const
     {
         return reads([=](const Of &of) { return of.template scan_inclusive<Kind>(lo, hi); });
     }
     /** The same without its last element. O(length). */
-    [[nodiscard]] std::vector<livevec_values> scan_exclusive(size_type lo, size_type hi) const
+    [[nodiscard]] std::vector<livevec_values> scan_exclusive(position_type lo, position_type hi) const
     {
         return reads([=](const Of &of) { return of.scan_exclusive(lo, hi); });
     }
     /** The same by one kind, in a column of its own. O(length). */
-    template <kind Kind> [[nodiscard]] std::vector<cell<Kind>> scan_exclusive(size_type lo, size_type hi) const
+    template <kind Kind> [[nodiscard]] std::vector<cell<Kind>> scan_exclusive(position_type lo, position_type hi) const
     {
         return reads([=](const Of &of) { return of.template scan_exclusive<Kind>(lo, hi); });
     }
@@ -422,7 +423,7 @@ class [[nodiscard]] shared<vector> : public inner::shared_form<vector> {
     explicit shared(vector of = vector()) : shared_form(std::move(of)) {}
 
     /** Makes room for so many elements in all; `place` is how many now fit. O(1). */
-    receipt reserve(std::uint32_t elements)
+    receipt reserve(position elements)
     {
         return edit([=](vector &of) { return receipt{0, of.reserve(elements)}; });
     }
@@ -432,7 +433,7 @@ class [[nodiscard]] shared<vector> : public inner::shared_form<vector> {
         return reads([](const vector &of) { return of.capacity(); });
     }
     /** The summary of a range, as vector::summarise. */
-    [[nodiscard]] summary summarise(std::uint32_t lo, std::uint32_t hi) const
+    [[nodiscard]] summary summarise(position lo, position hi) const
     {
         return reads([=](const vector &of) { return of.summarise(lo, hi); });
     }

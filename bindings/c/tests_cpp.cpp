@@ -306,8 +306,25 @@ static void is_read_by_threads()
     IS(wrong == 0);
 }
 
+/* No index is cut to one that there is. */
+static void takes_any_integer_as_an_index()
+{
+    livevec::vector of{3, -1, 4};
+    const std::uint64_t wide = (std::uint64_t(1) << 32) + 1;
+    const std::size_t place = 1;
+    enum { SECOND = 1 };
+    IS(of[place] == -1 && of[SECOND] == -1 && of.sum(place, 3) == 3 && of.value(livevec::kind::least, 0, place).values.least == 3);
+    IS(refusal_of([&] { (void)of[wide]; }) == LIVEVEC_OUT_OF_RANGE && refusal_of([&] { of.write(wide, 7); }) == LIVEVEC_OUT_OF_RANGE);
+    IS(refusal_of([&] { (void)of[-1]; }) == LIVEVEC_OUT_OF_RANGE && refusal_of([&] { (void)of.sum(0, wide + 1); }) == LIVEVEC_OUT_OF_RANGE);
+    IS(refusal_of([&] { (void)of.sum(-1, 2); }) == LIVEVEC_BAD_RANGE && refusal_of([&] { of.truncate(wide); }) == LIVEVEC_OUT_OF_RANGE);
+    IS(of.verdict_write(wide, 7).refusal == LIVEVEC_OUT_OF_RANGE && refusal_of([&] { of.swap_elements(0, wide); }) == LIVEVEC_OUT_OF_RANGE);
+    IS(of.elements() == std::vector<std::int64_t>({3, -1, 4}) && of.edits() == 3);
+    IS(livevec::to_string(0) == "0" && livevec::to_string(livevec::vector{INT64_MIN, INT64_MIN}.total(0, 2)) == "-18446744073709551616");
+}
+
 int main()
 {
+    takes_any_integer_as_an_index();
     goes_in_and_comes_out();
     goes_through_a_copy();
     takes_ranges_of_integers();
