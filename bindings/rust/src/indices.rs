@@ -1,6 +1,10 @@
 //! Indices and ranges of indices, as calls take them.
 
+use std::borrow::Cow;
 use std::ops::{Bound, Range, RangeBounds, RangeFrom, RangeFull, RangeInclusive, RangeTo, RangeToInclusive};
+
+use crate::Refusal;
+use crate::raw::roomy;
 
 /// An index, or a count of elements: a `usize`, a `u64`, a `u32`, or an `i32`.
 ///
@@ -24,6 +28,30 @@ pub trait AsIndex: Copy + sealed::Sealed {
     /// The number itself.
     #[doc(hidden)]
     fn exact(self) -> i128;
+
+    /// Many of them as they are, where C takes them so: of a vector, and of a series.
+    #[doc(hidden)]
+    fn as_narrow(_: &[Self]) -> Option<&[u32]> {
+        None
+    }
+    #[doc(hidden)]
+    fn as_wide(_: &[Self]) -> Option<&[u64]> {
+        None
+    }
+}
+
+/// Many indices as C takes them: as they are, or as a copy. Refused with `NoMemory`.
+pub(crate) fn many<'a, I: AsIndex, N: Clone>(
+    indices: &'a [I],
+    as_they_are: Option<&'a [N]>,
+    each: impl Fn(I) -> N,
+) -> Result<Cow<'a, [N]>, Refusal> {
+    if let Some(indices) = as_they_are {
+        return Ok(Cow::Borrowed(indices));
+    }
+    let mut copy = roomy(indices.len())?;
+    copy.extend(indices.iter().map(|&index| each(index)));
+    Ok(Cow::Owned(copy))
 }
 
 /// An index as C takes that of a vector; what C can't be given is given as one that it refuses.
@@ -69,7 +97,7 @@ mod sealed {
 }
 
 macro_rules! are_numbers {
-    ($($number:ty)*) => {
+    ($($number:ident $([$as_they_are:ident])?)*) => {
         $(
             impl sealed::Sealed for $number {}
             impl AsIndex for $number {
@@ -77,12 +105,16 @@ macro_rules! are_numbers {
                     const { assert!(<$number>::BITS <= 64) };
                     self as i128
                 }
+
+                $(fn $as_they_are(indices: &[$number]) -> Option<&[$number]> {
+                    Some(indices)
+                })?
             }
         )*
     };
 }
 
-are_numbers!(u32 u64 usize i32);
+are_numbers!(u32 [as_narrow] u64 [as_wide] usize i32);
 
 fn ends_of<N: AsIndex>(range: &impl RangeBounds<N>) -> (Option<i128>, Option<i128>) {
     let lo = match range.start_bound() {

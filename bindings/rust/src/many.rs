@@ -1,6 +1,7 @@
 //! Many edits of a vector by one call.
 
-use crate::{Refusal, RefusedAt, Vector};
+use crate::indices::{many, narrow};
+use crate::{AsIndex, Refusal, RefusedAt, Vector};
 
 impl Vector {
     /// Pushes each element in order, by one call: all are pushed, or none. Linear. Tells the number of the last edit.
@@ -74,11 +75,12 @@ impl Vector {
     /// # Ok(())
     /// # }
     /// ```
-    pub fn write_many(&mut self, indices: &[u32], values: &[i64]) -> Result<u32, RefusedAt> {
+    pub fn write_many<I: AsIndex>(&mut self, indices: &[I], values: &[i64]) -> Result<u32, RefusedAt> {
         if indices.len() != values.len() {
             let wanted = indices.len().try_into().unwrap_or(u32::MAX);
             return Err(RefusedAt::of_all(Refusal::ShortBuffer { wanted }));
         }
-        self.raw.write_many(indices, values)
+        let indices = many(indices, I::as_narrow(indices), narrow).map_err(RefusedAt::of_all)?;
+        self.raw.write_many(&indices, values)
     }
 }

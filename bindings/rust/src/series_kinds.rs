@@ -1,6 +1,6 @@
 //! Questions at a [`Series`] by one kind, and its running values by one kind, written into a slice of the caller's.
 
-use crate::indices::wide;
+use crate::indices::{many, wide};
 use crate::series::{Answered, Series};
 use crate::{AsIndex, Column, Indices, Kind, Refusal, RefusedAt, Value, Values, raw};
 
@@ -32,19 +32,26 @@ impl Series {
     /// # fn main() -> Result<(), Refusal> {
     /// let mut readings = Series::new()?;
     /// readings.extend_from_slice(&[20, 22, 19, 25])?;
-    /// assert_eq!(readings.write_all(&[3, 0, 3], &[24, 21, 23]), Ok(7));
-    /// let refused = readings.write_all(&[0, 4], &[1, 2]).unwrap_err();
+    /// assert_eq!(readings.write_many(&[3, 0, 3], &[24, 21, 23]), Ok(7));
+    /// let refused = readings.write_many(&[0, 4], &[1, 2]).unwrap_err();
     /// assert_eq!((refused.place, refused.refusal), (1, Refusal::NotKept { first: 0, size: 4 }));
     /// assert_eq!(readings.to_vec(..)?, [21, 22, 19, 23]);
     /// # Ok(())
     /// # }
     /// ```
-    pub fn write_all(&mut self, indices: &[u64], values: &[i64]) -> Result<u64, RefusedAt> {
+    pub fn write_many<I: AsIndex>(&mut self, indices: &[I], values: &[i64]) -> Result<u64, RefusedAt> {
         if indices.len() != values.len() {
             let wanted = indices.len().try_into().unwrap_or(u32::MAX);
             return Err(RefusedAt::of_all(Refusal::ShortBuffer { wanted }));
         }
-        self.raw.write_many(indices, values)
+        let indices = many(indices, I::as_wide(indices), wide).map_err(RefusedAt::of_all)?;
+        self.raw.write_many(&indices, values)
+    }
+
+    /// As [`write_many`](Series::write_many), by which it is called now.
+    #[deprecated(note = "it is `write_many` now, as a vector's")]
+    pub fn write_all(&mut self, indices: &[u64], values: &[i64]) -> Result<u64, RefusedAt> {
+        self.write_many(indices, values)
     }
 
     pub(crate) fn by_kind(&self, kind: Kind, range: impl Indices) -> Result<Values, Refusal> {

@@ -370,7 +370,7 @@ impl Shared {
     }
 
     /// As [`Vector::write_many`]: no other edit comes between. Tells the number of the last edit.
-    pub fn write_many(&self, indices: &[u32], values: &[i64]) -> Result<u32, RefusedAt> {
+    pub fn write_many<I: AsIndex>(&self, indices: &[I], values: &[i64]) -> Result<u32, RefusedAt> {
         self.many(|vector| vector.write_many(indices, values))
     }
 

@@ -209,9 +209,9 @@ impl Shared<Series> {
         self.many(|series| series.extend_from_slice(values))
     }
 
-    /// As [`Series::write_all`]: no other edit comes between. Tells the number of the last edit.
-    pub fn write_all(&self, indices: &[u64], values: &[i64]) -> Result<u64, RefusedAt> {
-        self.many(|series| series.write_all(indices, values))
+    /// As [`Series::write_many`]: no other edit comes between. Tells the number of the last edit.
+    pub fn write_many<I: AsIndex>(&self, indices: &[I], values: &[i64]) -> Result<u64, RefusedAt> {
+        self.many(|series| series.write_many(indices, values))
     }
 }
 

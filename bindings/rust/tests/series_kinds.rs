@@ -110,11 +110,11 @@ fn writes_are_all_made_or_none() {
     series.extend_from_slice(&[9, 20, 22, 19, 25]).unwrap();
     assert_eq!(series.prepare(Kind::Sum), Ok(()));
     series.expire(1).unwrap();
-    assert_eq!((series.write_all(&[4, 1, 4], &[24, 21, 23]), series.to_vec(..)), (Ok(9), Ok(vec![21, 22, 19, 23])));
-    assert_eq!((series.sum(..), series.write_all(&[], &[])), (Ok(85), Ok(9)));
-    let refused = series.write_all(&[1, 0, 2], &[7, 7, 7]).unwrap_err();
+    assert_eq!((series.write_many(&[4, 1, 4], &[24, 21, 23]), series.to_vec(..)), (Ok(9), Ok(vec![21, 22, 19, 23])));
+    assert_eq!((series.sum(..), series.write_many::<u64>(&[], &[])), (Ok(85), Ok(9)));
+    let refused = series.write_many(&[1, 0, 2], &[7, 7, 7]).unwrap_err();
     assert_eq!((refused.place, refused.done, refused.refusal), (1, 0, Refusal::NotKept { first: 1, size: 5 }));
-    assert_eq!(series.write_all(&[1], &[]).unwrap_err().refusal, Refusal::ShortBuffer { wanted: 1 });
+    assert_eq!(series.write_many(&[1], &[]).unwrap_err().refusal, Refusal::ShortBuffer { wanted: 1 });
     assert_eq!((series.edits(), series.sum(..)), (9, Ok(85)));
 }
 

@@ -34,7 +34,7 @@ fn each_call_of_a_series() {
     assert_eq!((shared.swap(0, 1), shared.pop()), (Ok(Swapped { edit: 5, first: 5 }), Ok(Popped { edit: 6, value: 6 })));
     assert_eq!(told(alerts.next().unwrap()), [one("all", 6, Value::Sum(12)), one("front", 6, Value::Least(Some(5)))]);
     assert_eq!(alerts.edit(), 6);
-    assert_eq!((shared.extend_from_slice(&[1, 2, 3]), shared.write_all(&[4], &[30])), (Ok(9), Ok(10)));
+    assert_eq!((shared.extend_from_slice(&[1, 2, 3]), shared.write_many(&[4], &[30])), (Ok(9), Ok(10)));
     assert_eq!((shared.expire(1), shared.first(), shared.size()), (Ok(Dropped { edit: 11, dropped: 1 }), Ok(1), Ok(5)));
     assert_eq!(shared.truncate(4), Ok(Dropped { edit: 12, dropped: 1 }));
     assert_eq!((shared.sum(..), shared.total(..), shared.least(..), shared.greatest(2..)), (Ok(10), Ok(10), Ok(Some(1)), Ok(Some(2))));
@@ -44,7 +44,7 @@ fn each_call_of_a_series() {
         (shared.get(0), shared.write(4, 1)),
         (Err(Refusal::NotKept { first: 1, size: 4 }), Err(Refusal::NotKept { first: 1, size: 4 }))
     );
-    let refused = shared.write_all(&[1, 9], &[0, 0]).unwrap_err();
+    let refused = shared.write_many(&[1, 9], &[0, 0]).unwrap_err();
     assert_eq!((refused.place, refused.done, shared.last_edit()), (1, 0, Ok(12)));
     let within = shared.with(|series| {
         assert_eq!(shared.len(), Err(Refusal::Busy));
