@@ -2,14 +2,15 @@
 nanoseconds and how often the work was done in them; what the peers answer is compared. Without numpy or pandas their lines are left out.
 
 A step is a new element, then the sum and the greatest of the last 10,000; or also a late correction of one among them. A batch is 100 new
-elements, each with its window's sum and greatest. Whole is a column of 1,000,000 that never changes, windows of 1,000."""
+elements, each with its window's sum and greatest. Whole is a column of 1,000,000 that never changes, windows of 1,000. A correction is of one of
+1,000,000 elements, then the greatest of all."""
 import collections
 import random
 import sys
 import time
 from array import array
 
-from livevec import Series, rolling
+from livevec import Series, Vector, rolling
 
 try:
     import numpy
@@ -20,7 +21,7 @@ try:
 except ImportError:
     pandas = None
 
-WINDOW, STEPS, BATCHES, BATCH, WHOLE, SHORT = 10_000, 2_000, 100, 100, 1_000_000, 1_000
+WINDOW, STEPS, BATCHES, BATCH, WHOLE, SHORT, CORRECTIONS = 10_000, 2_000, 100, 100, 1_000_000, 1_000, 100
 
 
 def timed(label, turns, work):
@@ -171,6 +172,16 @@ def whole_of(chance):
     column = array("q", (chance.randint(-1000, 1000) for _ in range(WHOLE)))
     told = timed("livevec whole", 1, lambda: rolling(column, SHORT))
     if numpy is not None:
+        into = {kind: numpy.empty(WHOLE, dtype="int64") for kind in ("sum", "greatest")}
+
+        def written():
+            with Series(column) as series:
+                for kind, room in into.items():
+                    series.rolling(kind, SHORT, into=room)
+        timed("livevec whole, into numpy", 1, written)
+        for kind, made in into.items():
+            same(made.tolist(), told[kind].tolist())
+    if numpy is not None:
         def theirs():
             sums = numpy.cumsum(numpy.asarray(column))
             return numpy.concatenate((sums[:SHORT], sums[SHORT:] - sums[:-SHORT]))
@@ -183,6 +194,32 @@ def whole_of(chance):
         same(highs.astype("int64").tolist(), told["greatest"].tolist())
     plain = timed("deque whole, by a queue of candidates", 1, lambda: candidates(column))
     same(plain, told["greatest"].tolist())
+
+
+def corrections_of(chance):
+    column = array("q", (chance.randint(-1000, 1000) for _ in range(WHOLE)))
+    late = [(chance.randrange(WHOLE), chance.randint(-2000, 2000)) for _ in range(CORRECTIONS)]
+    for holder in (Vector, Series):
+        held = holder(column)
+        held.greatest()
+
+        def ours():
+            told = []
+            for place, value in late:
+                held[place] = value
+                told.append(held.greatest())
+            return told
+        told = timed(f"livevec correction of a {holder.__name__}", CORRECTIONS, ours)
+    if numpy is not None:
+        plain = numpy.array(column)
+
+        def theirs():
+            told = []
+            for place, value in late:
+                plain[place] = value
+                told.append(int(plain.max()))
+            return told
+        same(told, timed("numpy correction", CORRECTIONS, theirs))
 
 
 def candidates(column):
@@ -201,5 +238,5 @@ def candidates(column):
 
 if __name__ == "__main__":
     chance = random.Random(9)
-    for part in (steps_of, batches_of, whole_of):
+    for part in (steps_of, batches_of, whole_of, corrections_of):
         part(chance)

@@ -161,6 +161,8 @@ class AsAlone(unittest.TestCase):
                     self.assertEqual(getattr(shared, name)(*given).cells.tolist(), getattr(alone, name)(*given).cells.tolist())
                 self.assertEqual(list(shared.scan_inclusive(1)), list(alone.scan_inclusive(1)))
                 self.assertEqual(list(shared.scan_exclusive(1)), list(alone.scan_exclusive(1)))
+                self.assertEqual((shared[2:4], shared[::3]), ([4, 1], [3, 1, 2]))
+                self.assertRaisesRegex(TypeError, "the index is a whole number", lambda: shared["2"])
                 self.assertEqual((shared.copy() == alone, list(reversed(shared)), shared.ask(), shared.ask().edit), (True, self.ELEMENTS[::-1], alone.ask(), 8))
                 column = array("q", [7, 7, 7])
                 self.assertEqual((shared.value_many("sum", iter([(0, 3), (6, 8)]), into=column), column.tolist()), (2, [6, 8, 7]))

@@ -1,6 +1,7 @@
 """Buffers: those that elements are read from, and those that elements and columns are written into."""
 from __future__ import annotations
 
+import collections.abc
 import ctypes
 import struct
 import sys
@@ -67,10 +68,11 @@ def _array_of(values: Any, what: str) -> array[int]:
     try:
         return array("q", values)
     except (TypeError, OverflowError):
-        if isinstance(values, (list, tuple)):
+        if isinstance(values, collections.abc.Iterable) and not isinstance(values, (str, collections.abc.Iterator)):
+            # what may be gone through again
             for place, value in enumerate(values):
                 _as_i64(value, f"{what}[{place}]")
-        elif isinstance(values, (str, int, float)) or values is None:
+        elif not isinstance(values, collections.abc.Iterator):
             raise TypeError(f"{what} are whole numbers one by one, in a list, a buffer or what else can be gone through, not {values!r}") from None
         raise
 

@@ -7,7 +7,7 @@ import operator
 import threading
 import weakref
 from array import array
-from typing import Any, Callable, Generic, Iterable, Iterator, NamedTuple, Optional, TypeVar, Union, cast
+from typing import Any, Callable, Generic, Iterable, Iterator, NamedTuple, Optional, TypeVar, Union, cast, overload
 
 from ._buffers import _as_buffer, _as_numpy
 from ._by_kind import _ByKind
@@ -138,9 +138,16 @@ class _Shared(_ByKind, Generic[_Of]):
         """The number of the last edit."""
         return self._entered(len)[1]
 
-    def __getitem__(self, index: int) -> int:
-        """The element at an index; of a vector a negative one counts from the end. Raises OutOfRange, NotKept."""
-        place = operator.index(index)
+    @overload
+    def __getitem__(self, index: int) -> int: ...
+    @overload
+    def __getitem__(self, index: slice) -> list[int]: ...
+    def __getitem__(self, index: Union[int, slice]) -> Union[int, list[int]]:
+        """The element at an index, or those of a slice, in a list; of a vector a negative one counts from the end. Raises OutOfRange, NotKept."""
+        if isinstance(index, slice):
+            part = index
+            return self._read(lambda of: of[part])
+        place = _whole(index, "the index")
         return self._read(lambda of: of[place])
 
     def __iter__(self) -> Iterator[int]:
