@@ -3,6 +3,7 @@
 import threading
 import time
 import unittest
+from typing import Any
 
 import livevec
 from livevec import SharedVector, Taken, Vector
@@ -11,7 +12,7 @@ SIZE = 30004
 
 
 class Blocks(unittest.TestCase):
-    def test_batches_come_late(self):
+    def test_batches_come_late(self) -> None:
         vector, blocks = Vector(range(SIZE)), SIZE // 8
         first, again = vector.copy_blocks(), vector.copy_blocks()
         self.assertEqual((len(first), repr(first)), (blocks, f"<livevec.Batch of {blocks} blocks>"))
@@ -27,7 +28,7 @@ class Blocks(unittest.TestCase):
         self.assertEqual(len(vector.copy_blocks(0, 3)), 1)
         self.assertEqual(vector.reduce().values.sum, sum(range(SIZE - 5)) - 17)
 
-    def test_strangers_and_wrong_arguments_change_nothing(self):
+    def test_strangers_and_wrong_arguments_change_nothing(self) -> None:
         other, batch = Vector([5] * 100), Vector(range(SIZE)).copy_blocks(0, 12)
         batch.run()
         self.assertEqual((other.take_in(batch), other.sum()), (Taken(0, 0, 0, 12), 500))
@@ -38,10 +39,10 @@ class Blocks(unittest.TestCase):
         other.close()
         self.assertRaises(livevec.Closed, other.copy_blocks)
 
-    def test_threads_share_the_work_by_ranges_apart(self):
+    def test_threads_share_the_work_by_ranges_apart(self) -> None:
         vector, lock, at, stale = Vector(range(SIZE)), threading.Lock(), [0], []
 
-        def work():
+        def work() -> None:
             while True:
                 with lock:
                     first = at[0]
@@ -65,7 +66,7 @@ class Blocks(unittest.TestCase):
             self.assertEqual(vector.reduce().values.sum, sum(-1 if i % 2048 == 0 else i for i in range(SIZE)))
         self.assertEqual(stale, [1] * 3 * (SIZE // 2048 + 1))
 
-    def test_four_workers_refresh_all_again_and_again(self):
+    def test_four_workers_refresh_all_again_and_again(self) -> None:
         with SharedVector(Vector(range(SIZE))) as shared:
             shared.start_workers(4)
             for turn in range(1, 6):
@@ -84,12 +85,12 @@ class Blocks(unittest.TestCase):
 WRITTEN = 100_000
 
 
-def waves(size):
+def waves(size: Any) -> Any:
     """Elements that rise and fall."""
     return [i * 7919 % 2003 - 1000 for i in range(size)]
 
 
-def folded(elements):
+def folded(elements: Any) -> Any:
     """The sum, the least, the greatest and the best run's sum of a list, by a plain fold."""
     best = run = 0
     for it in elements:
@@ -98,13 +99,13 @@ def folded(elements):
     return sum(elements), min(elements), max(elements), best
 
 
-def told(of, lo, hi):
+def told(of: Any, lo: Any, hi: Any) -> Any:
     values = of.reduce(lo, hi).values
     return values.sum, values.least, values.greatest, values.best
 
 
 class Subtrees(unittest.TestCase):
-    def test_subtrees_come_late(self):
+    def test_subtrees_come_late(self) -> None:
         many = waves(9000)
         vector, other = Vector(many), Vector([5] * 5000)
         self.assertIsNone(vector.copy_subtree(2))
@@ -139,7 +140,7 @@ class Subtrees(unittest.TestCase):
         self.assertIsNone(vector.copy_subtree(0))
         self.assertEqual(len(vector.copy_blocks(0, 512)), 1)
 
-    def test_wrong_arguments_change_nothing(self):
+    def test_wrong_arguments_change_nothing(self) -> None:
         vector = Vector([5] * 5000)
         self.assertRaises(TypeError, vector.take_subtree, vector.copy_blocks())
         self.assertRaises(TypeError, vector.take_in, vector.copy_subtree(0))
@@ -151,7 +152,7 @@ class Subtrees(unittest.TestCase):
         vector.close()
         self.assertRaises(livevec.Closed, vector.copy_subtree, 0)
 
-    def test_workers_get_on_beside_a_writer(self):
+    def test_workers_get_on_beside_a_writer(self) -> None:
         many = waves(WRITTEN)
         with SharedVector(Vector(many)) as shared:
             shared.start_workers(4)
@@ -170,7 +171,7 @@ class Subtrees(unittest.TestCase):
             self.assertEqual((shared.reduce().cells, told(shared, 0, WRITTEN)), (0, folded(many)))
             self.assertEqual(shared.close().refresh(), 0)
 
-    def is_all_fresh(self, shared):
+    def is_all_fresh(self, shared: Any) -> Any:
         with shared.locked() as vector:
             nodes = ((at, at + 8 ** level) for level in (5, 4, 3, 2, 1) for at in range(0, WRITTEN - 8 ** level + 1, 8 ** level))
             return all((did.cells, did.summaries) == (0, 1) for did in (vector.reduce(lo, hi) for lo, hi in nodes))

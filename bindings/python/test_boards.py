@@ -7,18 +7,19 @@ import sys
 import threading
 import unittest
 from array import array
+from typing import Any
 
 import livevec
 from livevec import Board, Finished, Kind, Refreshed
 
 
-def alone(kind="sum", **limits):
+def alone(kind: Any = "sum", **limits: Any) -> Any:
     """A board and its only seat."""
     board = Board(kind, seats=1, **limits)
     return board, board.sit()
 
 
-def insist(call, *arguments):
+def insist(call: Any, *arguments: Any) -> Any:
     """Makes a call again until no other seat's edit stands in its way."""
     while True:
         with contextlib.suppress(livevec.Outrun):
@@ -26,7 +27,7 @@ def insist(call, *arguments):
 
 
 class Boards(unittest.TestCase):
-    def test_a_board_has_limits_and_seats(self):
+    def test_a_board_has_limits_and_seats(self) -> None:
         for limits in [dict(seats=0), dict(seats=9), dict(most_buckets=0), dict(most_buckets=10), dict(most_edits=0), dict(most_edits=2**24)]:
             with self.assertRaises(livevec.BadLimits):
                 Board("sum", **limits)
@@ -41,7 +42,7 @@ class Boards(unittest.TestCase):
             board.sit()
         self.assertEqual((repr(board), repr(one)), ("<livevec.Board of kind least>", "<livevec.Seat of kind least, closed>"))
 
-    def test_each_edit_answers(self):
+    def test_each_edit_answers(self) -> None:
         board, seat = alone(most_buckets=1, most_edits=13)
         with self.assertRaises(livevec.Empty):
             seat.pop()
@@ -66,7 +67,7 @@ class Boards(unittest.TestCase):
         with self.assertRaises(OverflowError):
             seat.pop(tries=-1)
 
-    def test_a_board_reduces_by_its_kind(self):
+    def test_a_board_reduces_by_its_kind(self) -> None:
         # as worked out in bindings/c/tests.c
         wanted = {"sum": (2050, 0), "least": (-6, None), "greatest": (1027, None), "best": (2052, None), "affine": ((0, 3949), (1, 0)),
                   "automaton": ((7,) * 8, tuple(range(8)))}
@@ -80,7 +81,7 @@ class Boards(unittest.TestCase):
             with self.assertRaises(livevec.OutOfRange):
                 seat.reduce(0, 5)
 
-    def test_a_refresh_saves_reads(self):
+    def test_a_refresh_saves_reads(self) -> None:
         _board, seat = alone("greatest")
         for element in range(9):
             seat.push(element)
@@ -88,7 +89,7 @@ class Boards(unittest.TestCase):
         with self.assertRaises(livevec.OutOfRange):
             seat.refresh(1)
 
-    def test_a_board_ends_once_its_seats_are_closed(self):
+    def test_a_board_ends_once_its_seats_are_closed(self) -> None:
         with Board(seats=2) as board:
             with board.sit() as seat:
                 seat.push(11)
@@ -106,7 +107,7 @@ class Boards(unittest.TestCase):
         with self.assertRaises(TypeError):
             pickle.dumps(seat)
 
-    def test_a_seat_serves_one_thread_at_a_time(self):
+    def test_a_seat_serves_one_thread_at_a_time(self) -> None:
         _board, seat = alone()
         with seat._one:
             for call in [seat.pop, seat.close, lambda: seat[0]]:
@@ -114,22 +115,22 @@ class Boards(unittest.TestCase):
                     call()
         self.assertEqual(seat.push(1), 0)
 
-    def test_refusals_have_their_numbers(self):
+    def test_refusals_have_their_numbers(self) -> None:
         for refusal, number, base in [(livevec.TooWide, 16, OverflowError), (livevec.Contended, 17, livevec.Outrun), (livevec.Overtaken, 18, livevec.Outrun),
                                       (livevec.NoSeat, 105, RuntimeError), (livevec.SeatsOut, 106, RuntimeError)]:
             self.assertEqual((refusal.number, issubclass(refusal, base), issubclass(refusal, livevec.Refusal)), (number, True, True))
         self.assertEqual(str(livevec.Contended(3)), "contended: edit 3 came first")
 
-    def test_eight_threads_share_one_list_of_edits(self):
+    def test_eight_threads_share_one_list_of_edits(self) -> None:
         rounds, board, played, failed = 200, Board("sum", seats=8), {}, []
 
-        def sums(seat):
+        def sums(seat: Any) -> Any:
             size = len(seat)
             told = insist(seat.reduce, 0, size)
             self.assertTrue(size <= told.value <= size * 108, (size, told))
             return told.edit
 
-        def play(number, seat):
+        def play(number: Any, seat: Any) -> None:
             try:
                 with seat:
                     places, last = [], 0

@@ -9,6 +9,7 @@ import pickle
 import random
 import unittest
 from array import array
+from typing import Any
 
 import livevec
 from livevec import BadRange, Kind, NotKept, OutOfRange, Samples, Series, ShortBuffer, Summary, Vector, rolling
@@ -27,7 +28,7 @@ GONE = 7
 CELLS = {Kind.SUM: ("q", 1), Kind.LEAST: ("q", 1), Kind.GREATEST: ("q", 1), Kind.BEST: ("q", 2), Kind.AFFINE: ("I", 2), Kind.AUTOMATON: ("B", 8)}
 
 
-def cell(kind, elements):
+def cell(kind: Any, elements: Any) -> Any:
     """A cell of a column, as a list of its numbers."""
     value = value_of(kind, elements)
     if kind is Kind.BEST:
@@ -36,7 +37,7 @@ def cell(kind, elements):
     return list(value) if isinstance(value, tuple) else [value or 0]
 
 
-def drawn(seed, count):
+def drawn(seed: Any, count: Any) -> Any:
     chance = random.Random(seed)
     return [chance.choice((2**63 - 1, -2**63, *(chance.randint(-1000, 1000) for _ in range(10)))) for _ in range(count)]
 
@@ -44,14 +45,14 @@ def drawn(seed, count):
 class Many(unittest.TestCase):
     """Values of many ranges, into a column, of a vector and of a series whose first elements expired."""
 
-    def setUp(self):
+    def setUp(self) -> None:
         self.all = drawn(11, 300)
         self.vector, self.series = Vector(self.all), Series(self.all)
         self.series.expire(GONE)
         chance = random.Random(3)
         self.ranges = [sorted(chance.randint(GONE, 300) for _ in range(2)) for _ in range(50)] + [[9, 9], [GONE, 300]]
 
-    def test_into_a_column(self):
+    def test_into_a_column(self) -> None:
         for kind, (of, count) in CELLS.items():
             wanted = [number for lo, hi in self.ranges for number in cell(kind, self.all[lo:hi])]
             flat = [end for pair in self.ranges for end in pair]
@@ -65,7 +66,7 @@ class Many(unittest.TestCase):
                 self.assertEqual(holder.value_many(kind, read), [value_of(kind, self.all[lo:hi]) for lo, hi in self.ranges])
                 self.assertEqual(holder.value_many(kind, [], into=array(of)), 0)
 
-    def test_what_is_refused_leaves_the_column(self):
+    def test_what_is_refused_leaves_the_column(self) -> None:
         for holder, refusal in ((self.vector, OutOfRange), (self.series, NotKept)):
             for code in "qIi":
                 room = array("q", [7] * 3)
@@ -89,7 +90,7 @@ class Many(unittest.TestCase):
             self.series.value_many("sum", ends)
         self.assertEqual(caught.exception.place, 0)
 
-    def test_exact_totals(self):
+    def test_exact_totals(self) -> None:
         self.assertEqual(self.vector.total(), sum(self.all))
         self.assertEqual(self.series.total(), sum(self.all[GONE:]))
         for lo, hi in self.ranges:
@@ -105,15 +106,15 @@ class Many(unittest.TestCase):
 
 
 class Rolling(unittest.TestCase):
-    def setUp(self):
+    def setUp(self) -> None:
         self.all = drawn(5, 200)
         self.vector, self.series = Vector(self.all), Series(self.all)
         self.series.expire(GONE)
 
-    def wanted(self, kind, window, lo, hi, first):
+    def wanted(self, kind: Any, window: Any, lo: Any, hi: Any, first: Any) -> Any:
         return [number for i in range(lo, hi) for number in cell(kind, self.all[max(first, i + 1 - window):i + 1])]
 
-    def test_windows_of_elements(self):
+    def test_windows_of_elements(self) -> None:
         for kind in CELLS:
             for holder, first in ((self.vector, 0), (self.series, GONE)):
                 for window in (1, 2, 8, 199, 200, 10**30):
@@ -135,7 +136,7 @@ class Rolling(unittest.TestCase):
         for lo, hi in ((20, 201), (201, 201), (0, 2**32 - 1)):
             self.assertRaises(OutOfRange, self.vector.rolling, "sum", 3, lo, hi)
 
-    def test_windows_of_time(self):
+    def test_windows_of_time(self) -> None:
         chance, times = random.Random(2), []
         for _ in self.all:
             times.append((times[-1] if times else -50) + chance.choice((0, 0, 1, 2, 30)))
@@ -154,7 +155,7 @@ class Rolling(unittest.TestCase):
         # the last one's window is that of `last`
         self.assertEqual(load.rolling_span("sum", 60)[1][-1], load.value_of_last("sum", 60))
 
-    def test_a_column_at_once(self):
+    def test_a_column_at_once(self) -> None:
         told = rolling([3, 1, 4, 1, 5], 2, "least")
         self.assertEqual({name: column.tolist() for name, column in told.items()}, {"least": [3, 1, 1, 1, 1]})
         told = rolling([5, 6, 7], 10, ["sum", Kind.LEAST], times=[0, 9, 10])
@@ -167,7 +168,7 @@ class Rolling(unittest.TestCase):
 class Alike(unittest.TestCase):
     """What a series and samples have as a list, or a vector, has it."""
 
-    def test_slices(self):
+    def test_slices(self) -> None:
         elements = list(range(100, 130))
         for gone in (0, 1, 7, 30):
             series = Series(elements)
@@ -190,7 +191,7 @@ class Alike(unittest.TestCase):
             self.assertRaises(ValueError, lambda: series[::0])
             self.assertRaises(TypeError, lambda: series["a":])
 
-    def test_copies_and_equals(self):
+    def test_copies_and_equals(self) -> None:
         series = Series([20, 22, 19, 25])
         series.expire(2)
         for other in (series.copy(), copy.copy(series), copy.deepcopy(series), pickle.loads(pickle.dumps(series))):
@@ -209,7 +210,7 @@ class Alike(unittest.TestCase):
 
         self.assertIs(type(copy.copy(Own([1]))), Own)
 
-    def test_copies_of_samples(self):
+    def test_copies_of_samples(self) -> None:
         load = Samples([0, 90, 91], [7, 4, 9])
         load.expire(1)
         for other in (load.copy(), copy.copy(load), copy.deepcopy(load), pickle.loads(pickle.dumps(load))):
@@ -226,14 +227,14 @@ class Alike(unittest.TestCase):
 class Said(unittest.TestCase):
     """A caller's mistake is named: which argument, what was given, what there is."""
 
-    def said(self, wanted, kind, call, *arguments, **named):
+    def said(self, wanted: Any, kind: Any, call: Any, *arguments: Any, **named: Any) -> None:
         with self.assertRaises(kind) as caught:
             call(*arguments, **named)
         self.assertEqual(str(caught.exception), wanted)
         if isinstance(caught.exception, livevec.Refusal):
             self.assertEqual(str(pickle.loads(pickle.dumps(caught.exception))), wanted)
 
-    def test_of_a_vector(self):
+    def test_of_a_vector(self) -> None:
         v = Vector([1, 2, 3, 4])
         self.said("index 7: out of range: the size is 4", IndexError, lambda: v[7])
         self.said("index -9: out of range: the size is 4", IndexError, lambda: v[-9])
@@ -252,7 +253,7 @@ class Said(unittest.TestCase):
         self.said("the column is to have whole numbers of 64 bits, and its format is 'd'", TypeError, v.value_many, "sum", [(0, 1)], into=array("d", [0]))
         self.said("'mean' is not a kind: a kind is a livevec.Kind, or one of these names: sum, least, greatest, best, affine, automaton", ValueError, v.value, "mean")
 
-    def test_of_a_series(self):
+    def test_of_a_series(self) -> None:
         s = Series([1, 2, 3, 4])
         s.expire(2)
         self.said("index 1: out of range: kept are the indices from 2 up to 4", IndexError, lambda: s[1])
@@ -265,7 +266,7 @@ class Said(unittest.TestCase):
         self.said("the range 9 to 3: a range whose start is past its end", BadRange, Samples([1], [2]).value_between, "sum", 9, 3)
         self.said("until is a whole number, not None, which is a NoneType", TypeError, Samples().between, 9, None)
 
-    def test_of_a_shared_vector(self):
+    def test_of_a_shared_vector(self) -> None:
         with livevec.SharedVector(Vector([1, 2])) as shared:
             self.said("index -3: out of range: the size is 2", OutOfRange, shared.write, -3, 7)
             self.said("the range 1 to 3: out of range: the size is 2", OutOfRange, shared.sum, 1, 3)
@@ -274,7 +275,7 @@ class Said(unittest.TestCase):
 
 @unittest.skipIf(numpy is None, "there is no numpy")
 class Numpy(unittest.TestCase):
-    def test_out(self):
+    def test_out(self) -> None:
         series, vector = Series([1, 2, 3]), Vector([4, 5])
         series.expire(1)
         for holder, wanted in ((series, [2, 3]), (vector, [4, 5]), (Samples([7], [8]), [8]), (Vector(), [])):
@@ -286,7 +287,7 @@ class Numpy(unittest.TestCase):
         self.assertEqual(vector[0], 4)
         self.assertRaises(ValueError, vector.__array__, copy=False)
 
-    def test_columns_without_a_copy(self):
+    def test_columns_without_a_copy(self) -> None:
         sums = numpy.asarray(Series(range(10)).rolling("sum", 3).cells)
         self.assertEqual((sums.dtype, sums.tolist()), (numpy.int64, [sum(range(max(0, i - 2), i + 1)) for i in range(10)]))
         ends = numpy.arange(1, 11)
@@ -301,7 +302,7 @@ class Numpy(unittest.TestCase):
         Series(range(10)).value_many("affine", ranges, into=maps)
         self.assertEqual(maps.tolist(), [list(value_of(Kind.AFFINE, range(*pair))) for pair in ranges.tolist()])
 
-    def test_what_is_no_column(self):
+    def test_what_is_no_column(self) -> None:
         for wrong, said in ((numpy.zeros(3), "format is 'd'"), (numpy.zeros(3, dtype="datetime64[s]"), "astype"), (numpy.zeros((2, 2), dtype="int64"), "2 dimensions")):
             with self.assertRaisesRegex(TypeError, said):
                 Vector(wrong)
@@ -309,7 +310,7 @@ class Numpy(unittest.TestCase):
 
 @unittest.skipIf(pandas is None, "there is no pandas")
 class Pandas(unittest.TestCase):
-    def test_in(self):
+    def test_in(self) -> None:
         column = pandas.Series([3, 1, 4], name="load")
         times = pandas.to_datetime(["2024-01-01", "2024-01-02", "2024-01-03"]).to_series()
         for made in (Vector(column), Series(column), Vector(column.astype("Int64")), Vector(column.astype("int32")), Samples(times.astype("int64"), column)):
@@ -322,11 +323,11 @@ class Pandas(unittest.TestCase):
         self.assertEqual(Vector(column).value_many("sum", frame), [4, 5])
         self.assertEqual(Series(column).value_many("sum", frame[["lo", "hi"]]), [4, 5])
 
-    def test_out(self):
+    def test_out(self) -> None:
         for made in (pandas.Series(Vector([3, 1])), pandas.Series(Series([3, 1])), pandas.DataFrame({"it": Series([3, 1])})["it"]):
             self.assertEqual((str(made.dtype), made.tolist()), ("int64", [3, 1]))
 
-    def test_rolling_as_pandas_does(self):
+    def test_rolling_as_pandas_does(self) -> None:
         chance = random.Random(1)
         frame = pandas.DataFrame({"load": [chance.randint(-50, 50) for _ in range(500)]})
         told = frame.assign(**rolling(frame["load"], 24, ["sum", "least", "greatest"]))

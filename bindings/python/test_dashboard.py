@@ -13,6 +13,7 @@ import tempfile
 import threading
 import time
 import unittest
+from typing import Any
 
 from livevec_dashboard.connections import Connections, holder_of
 from livevec_dashboard.lines import Lines
@@ -26,16 +27,16 @@ LAST = {"charts": [{"name": "a", "last": 1000, "columns": 500}], "watches": []}
 
 
 class Serving(unittest.TestCase):
-    def client(self, url, **how):
+    def client(self, url: Any, **how: Any) -> Any:
         made = Client(url, **how)
         self.addCleanup(made.close)
         return made.hello()
 
-    def write(self, pipe, text):
+    def write(self, pipe: Any, text: Any) -> None:
         pipe.write(text)
         pipe.flush()
 
-    def test_two_viewers_a_stop_and_the_end_of_the_stream(self):
+    def test_two_viewers_a_stop_and_the_end_of_the_stream(self) -> None:
         with dashboard() as (pipe, url):
             one, two = self.client(url), self.client(url)
             self.write(pipe, b"".join(b"a %d\n" % number for number in range(5_000)))
@@ -51,7 +52,7 @@ class Serving(unittest.TestCase):
             self.assertEqual(two.until(lambda page: page.stream["state"] == "ended").stream["lines"], 5_001)
             self.assertEqual(ask(one.host, "GET", "/"), 200)
 
-    def test_a_thousand_names_and_no_more(self):
+    def test_a_thousand_names_and_no_more(self) -> None:
         with dashboard() as (pipe, url):
             viewer = self.client(url)
             self.write(pipe, b"".join(b"name%d %d\n" % (number % 1_200, number) for number in range(12_000)))
@@ -61,7 +62,7 @@ class Serving(unittest.TestCase):
             page = viewer.until(lambda page: len(page.charts) == 24)
             self.assertEqual(page.charts["name999"]["numbers"]["sum"], str(sum(range(999, 12_000, 1_200))))
 
-    def test_damaged_and_hostile_streams_leave_it_serving(self):
+    def test_damaged_and_hostile_streams_leave_it_serving(self) -> None:
         chance = random.Random(3)
         hostile = [bytes(chance.randrange(256) for _ in range(50_000)), b"x" * 3_000_000 + b"\n", b"\0" * 100_000 + b"\n", b"<script>alert(1)</script> 5\n",
                    b"a 99999999999999999999999999\n", b"a 1e99999\n", b"\n" * 10_000, b"a " * 100_000 + b"\n", b"{" * 100_000 + b"\n", b"\xef\xbb\xbf,,,\n", b'"\n"\n']
@@ -76,7 +77,7 @@ class Serving(unittest.TestCase):
                 self.assertEqual(page.charts["zz"]["numbers"]["sum"], "14")
                 self.assertGreater(page.stream["bad"], 5)
 
-    def test_requests_have_bounds(self):
+    def test_requests_have_bounds(self) -> None:
         with dashboard() as (pipe, url):
             viewer = self.client(url)
             self.write(pipe, b"a 1\n")
@@ -94,7 +95,7 @@ class Serving(unittest.TestCase):
                 other.close()
             self.assertEqual(viewer.until(lambda page: "a" in page.charts).charts["a"]["now"], "1")
 
-    def test_pages_from_elsewhere_take_no_seats(self):
+    def test_pages_from_elsewhere_take_no_seats(self) -> None:
         with dashboard() as (pipe, url):
             viewer = self.client(url)
             for site in ("cross-site", "same-site"):
@@ -108,7 +109,7 @@ class Serving(unittest.TestCase):
             self.assertEqual(ask(viewer.host, "GET", "/events", Origin=f"http://{viewer.host}", Sec_Fetch_Site="same-origin"), 200)
             self.assertEqual(viewer.look(LAST, Sec_Fetch_Site="same-origin"), 204)
 
-    def test_it_serves_the_address_that_it_was_told_and_no_name_of_others(self):
+    def test_it_serves_the_address_that_it_was_told_and_no_name_of_others(self) -> None:
         for host in ("127.0.0.1", "127.0.0.2", "localhost", "LOCALHOST"):
             with dashboard("--host", host) as (_, url):
                 viewer = self.client(url)
@@ -117,7 +118,7 @@ class Serving(unittest.TestCase):
                 for name, status in ((viewer.host, 200), (f"{host}:{port}", 200), (host, 200), (f"localhost:{port}", 200), (f"evil.example:{port}", 403), (f"{host}.evil.example", 403)):
                     self.assertEqual(ask(viewer.host, "GET", "/", Host=name), status, name)
 
-    def test_an_address_of_version_6_is_served_however_it_is_written(self):
+    def test_an_address_of_version_6_is_served_however_it_is_written(self) -> None:
         for host, others in (("::1", ("[0:0:0:0:0:0:0:1]",)), ("::ffff:127.0.0.1", ("[::ffff:7f00:1]", "[::FFFF:127.0.0.1]"))):
             try:
                 server = self.serving(60, host=host)[0]
@@ -127,7 +128,7 @@ class Serving(unittest.TestCase):
             for name, status in ((served, 200), *((f"{other}:{server.server_address[1]}", 200) for other in others), ("[::2]", 403), ("evil.example", 403)):
                 self.assertEqual(ask(served, "GET", "/", Host=name), status, name)
 
-    def slow(self, server_host, text=b"GET /events HTTP/1.1\r\nHost: "):
+    def slow(self, server_host: Any, text: Any = b"GET /events HTTP/1.1\r\nHost: ") -> Any:
         """A connection whose request has begun, and is not at its end."""
         name, port = server_host.split(":")
         made = socket.create_connection((name, int(port)), SECONDS)
@@ -135,7 +136,7 @@ class Serving(unittest.TestCase):
         made.sendall(text)
         return made
 
-    def test_who_sends_slowly_shuts_nobody_out(self):
+    def test_who_sends_slowly_shuts_nobody_out(self) -> None:
         with dashboard() as (pipe, url):
             viewer = self.client(url)
             self.write(pipe, b"a 1\n")
@@ -149,7 +150,7 @@ class Serving(unittest.TestCase):
             self.assertEqual(viewer.look(LAST), 204)
             self.assertEqual(viewer.until(lambda page: "a" in page.charts).charts["a"]["now"], "1")
 
-    def test_a_whole_request_has_a_deadline(self):
+    def test_a_whole_request_has_a_deadline(self) -> None:
         server, _ = self.serving(60, request=0.5)
         host = server.url.split("/")[2]
         viewer, began, ended = self.client(server.url), time.monotonic(), {}
@@ -176,7 +177,7 @@ class Serving(unittest.TestCase):
             time.sleep(0.01)
         self.assertEqual(len(server.connections), 1)
 
-    def test_both_bounds_of_connections_are_options(self):
+    def test_both_bounds_of_connections_are_options(self) -> None:
         with dashboard("--connections", "3", "--deadline", "2") as (pipe, url):
             viewers, began = [self.client(url) for _ in range(2)], time.monotonic()
             slow = self.slow(viewers[0].host)
@@ -197,7 +198,7 @@ class Serving(unittest.TestCase):
                 time.sleep(0.1)
             self.fail("the place of a viewer that has left is not free")
 
-    def test_a_header_that_is_too_long_is_cut_off(self):
+    def test_a_header_that_is_too_long_is_cut_off(self) -> None:
         server, _ = self.serving(60)
         host = server.url.split("/")[2]
         for count, answer in ((1, b"HTTP/1.0 200 OK\r\n"), (20, b"")):
@@ -207,14 +208,14 @@ class Serving(unittest.TestCase):
                 told = self.slow(host, header).makefile("rb").readline()
             self.assertEqual(told, answer)
 
-    def test_an_address_has_so_many_connections(self):
+    def test_an_address_has_so_many_connections(self) -> None:
         bounds, pairs = Bounds(connections=20, of_this_machine=8, of_another=5), [socket.socketpair() for _ in range(60)]
         for one in pairs:
             self.addCleanup(one[0].close)
             self.addCleanup(one[1].close)
         some, open_ones = iter(pairs), Connections(bounds)
 
-        def come(address, heard=True):
+        def come(address: Any, heard: Any = True) -> Any:
             mine, theirs = next(some)
             theirs.settimeout(0)
             admitted = open_ones.admit(mine, address)
@@ -235,7 +236,7 @@ class Serving(unittest.TestCase):
         self.assertEqual(len(open_ones), 20)
         self.assertEqual([holder_of(it) for it in ("10.0.0.1", "::ffff:10.0.0.1", "fe80::1%lo", "2001:db8::5")], ["10.0.0.1", "10.0.0.1", "fe80::/64", "2001:db8::/64"])
 
-    def printed(self, *arguments):
+    def printed(self, *arguments: Any) -> Any:
         """What the command writes in the terminal up to the first line that isn't its usage."""
         told = subprocess.Popen([sys.executable, "-m", "livevec_dashboard", *arguments, "--port", "0"], cwd=HERE, stdin=subprocess.DEVNULL, stderr=subprocess.PIPE)
         try:
@@ -248,7 +249,7 @@ class Serving(unittest.TestCase):
             told.wait(SECONDS)
             told.stderr.close()
 
-    def test_what_it_prints_moves_no_terminal(self):
+    def test_what_it_prints_moves_no_terminal(self) -> None:
         shown = "a\\x1b]0;owned\\x07\\u202e\\u2066\\u200f\\x9b31m\\nb"
         with tempfile.TemporaryDirectory() as folder:
             file = os.path.join(folder, EVIL)
@@ -259,7 +260,7 @@ class Serving(unittest.TestCase):
                 self.assertTrue(text.replace("\n", "").isprintable(), text)
                 self.assertIn(shown, text)
 
-    def serving(self, patience, host="127.0.0.1", **bounds):
+    def serving(self, patience: Any, host: Any = "127.0.0.1", **bounds: Any) -> Any:
         """A server in this process, and its store."""
         store = Store()
         server = Server(host, 0, store, bounds=Bounds(patience=patience, **bounds))
@@ -268,7 +269,7 @@ class Serving(unittest.TestCase):
         self.addCleanup(server.shutdown)
         return server, store
 
-    def test_a_viewer_that_stalls_holds_nothing_and_then_gets_the_latest(self):
+    def test_a_viewer_that_stalls_holds_nothing_and_then_gets_the_latest(self) -> None:
         server, store = self.serving(60)
         lines, view = Lines(store.admit), {"charts": [{"name": name, "last": 1000, "columns": 2000} for name in "abcdef"], "watches": []}
         stalled, reading = self.client(server.url, receive=4096), self.client(server.url)
@@ -276,7 +277,7 @@ class Serving(unittest.TestCase):
         reading.look(view)
         got = {"stalled": [], "reading": []}
 
-        def follow(viewer, who):
+        def follow(viewer: Any, who: Any) -> None:
             while not got[who] or got[who][-1] < 50_000:
                 got[who] += [chart["edit"] for chart in viewer.next()[1].get("charts", []) if chart["name"] == "f"]
 
@@ -297,7 +298,7 @@ class Serving(unittest.TestCase):
         self.assertLess(len(got["stalled"]), len(got["reading"]) / 2)
         self.assertGreater(len(got["reading"]), 10)
 
-    def test_a_viewer_that_takes_nothing_is_closed(self):
+    def test_a_viewer_that_takes_nothing_is_closed(self) -> None:
         server, store = self.serving(0.5)
         lines = Lines(store.admit)
         viewer = self.client(server.url, receive=4096)

@@ -8,6 +8,7 @@ import os
 import random
 import re
 import unittest
+from typing import Any
 
 import chromium
 from plain import best
@@ -19,7 +20,7 @@ NAMES = ("queue length", "latency, ms", "price of tin", "temperature, mK")
 HOSTILE = '<img src=x onerror="window.struck=1"><b>loud</b> & \u05d0'
 
 
-def feed():
+def feed() -> Any:
     """Four names' samples, the same in every run: a queue, latencies with peaks, a price that wanders, a slow wave."""
     chance = random.Random(11)
     samples, queue, price = {name: [] for name in NAMES}, 40, 21_450
@@ -32,12 +33,12 @@ def feed():
     return samples
 
 
-def lines_of(samples):
+def lines_of(samples: Any) -> Any:
     """The samples as lines, one of each name in turn."""
     return "".join(f"{name} {value}\n" for row in zip(*samples.values()) for name, value in zip(samples, row)).encode()
 
 
-def shown(values):
+def shown(values: Any) -> Any:
     """The numbers of a range as the page writes them: the best run only where it is another number than the sum and the greatest."""
     thousandths = (2_000 * sum(values) + len(values)) // (2 * len(values))
     run = {} if best(values) in (sum(values), max(values)) else {"best run": f"{best(values):,}"}
@@ -50,31 +51,31 @@ CARD = "[...document.querySelectorAll('.card')].find(card => card.querySelector(
 @unittest.skipUnless(chromium.found(), "there is no Chromium")
 class InABrowser(unittest.TestCase):
     @classmethod
-    def setUpClass(cls):
+    def setUpClass(cls) -> None:
         os.makedirs(PICTURES, exist_ok=True)
         cls.browser = chromium.Chromium(chromium.found())
         cls.addClassCleanup(cls.browser.close)
 
-    def card(self, name):
+    def card(self, name: Any) -> Any:
         return CARD.format(name=name)
 
-    def numbers(self, tab, name):
+    def numbers(self, tab: Any, name: Any) -> Any:
         """What numbers a card shows, and after which edits."""
         pairs = tab.run(f"[...{self.card(name)}.querySelectorAll('.numbers > div:not([hidden])')].map(it => [...it.children].map(it => it.textContent))")
         return dict(pairs), re.findall("edit [0-9,]+", tab.run(f"{self.card(name)}.innerText"))
 
-    def middle(self, tab, name):
+    def middle(self, tab: Any, name: Any) -> Any:
         """Where the chart of a card is: left, right and middle height."""
         return tab.run(f"(() => {{ const box = {self.card(name)}.querySelector('.plot').getBoundingClientRect(); return [box.left, box.right, box.top + box.height / 2]; }})()")
 
-    def press(self, tab, last):
+    def press(self, tab: Any, last: Any) -> None:
         tab.run(f"document.querySelector('#lasts button[value=\"{last}\"]').click()")
 
-    def edited(self, tab, name, edit, length):
+    def edited(self, tab: Any, name: Any, edit: Any, length: Any) -> None:
         """Waits until a card shows so many samples after that edit."""
         tab.until(f"(() => {{ const told = state.cards.get({name!r})?.told; return told && told.edit === {edit} && told.length === {length}; }})()")
 
-    def test_numbers_queries_notes_and_a_reload(self):
+    def test_numbers_queries_notes_and_a_reload(self) -> None:
         samples = feed()
         each = LINES // 4
         with dashboard("--title", "shop floor") as (pipe, url):
@@ -100,7 +101,7 @@ class InABrowser(unittest.TestCase):
             self.look_around(tab, url)
             tab.close()
 
-    def choose_by_mouse(self, tab, samples):
+    def choose_by_mouse(self, tab: Any, samples: Any) -> None:
         """A range is dragged over, and watched."""
         name = NAMES[0]
         self.edited(tab, name, LINES // 4, 10_000)
@@ -113,7 +114,7 @@ class InABrowser(unittest.TestCase):
         self.assertEqual(tab.run("document.querySelector('#watches li').innerText.split('\\n')[0]"), f"sum of {name}, {lo:,}..{hi:,}")
         self.assertEqual(tab.run("document.querySelector('#watches b').textContent"), f"{sum(samples[name][lo:hi]):,}")
 
-    def watch_by_keyboard(self, tab):
+    def watch_by_keyboard(self, tab: Any) -> None:
         """A range is chosen by keys, another one is typed, and a third is refused with a word."""
         tab.run(f"{self.card(NAMES[2])}.querySelector('.plot').focus()")
         tab.key("ArrowLeft", 37)
@@ -132,7 +133,7 @@ class InABrowser(unittest.TestCase):
         tab.until("state.watches.length === 3 && state.watches[2].told")
         self.assertTrue(tab.run(f"{self.card(NAMES[1])}.querySelector('.error').hidden"))
 
-    def see_a_note(self, tab, pipe, samples, each):
+    def see_a_note(self, tab: Any, pipe: Any, samples: Any, each: Any) -> None:
         """More lines come, and what they change is told, and nothing else."""
         before, peak = max(samples[NAMES[1]][-500:]), 117
         for name, value in zip(NAMES, (97, peak, 21_300, 293_400)):
@@ -147,7 +148,7 @@ class InABrowser(unittest.TestCase):
             self.edited(tab, name, each + 1, 10_000)
             self.assertEqual(self.numbers(tab, name)[0], shown(samples[name][-10_000:]))
 
-    def read_the_table(self, tab, samples):
+    def read_the_table(self, tab: Any, samples: Any) -> None:
         """Behind a chart is a table of the same numbers."""
         name = NAMES[3]
         tab.run(f"{self.card(name)}.querySelector('details').open = true")
@@ -163,7 +164,7 @@ class InABrowser(unittest.TestCase):
         self.assertEqual(total, 10_000)
         tab.run(f"{self.card(name)}.querySelector('details').open = false")
 
-    def reload(self, tab, samples):
+    def reload(self, tab: Any, samples: Any) -> None:
         """What was looked at and watched is there again."""
         watched = tab.run("[...document.querySelectorAll('#watches b')].map(it => it.textContent)")
         tab.call("Page.reload")
@@ -174,7 +175,7 @@ class InABrowser(unittest.TestCase):
         tab.run("document.querySelector('#watches button').click()")
         tab.until("document.querySelectorAll('#watches li').length === 2")
 
-    def look_around(self, tab, url):
+    def look_around(self, tab: Any, url: Any) -> None:
         """Pictures, dark and as narrow as a phone; nothing is wider than the window."""
         tab.scheme(True)
         tab.run("new Promise(done => requestAnimationFrame(() => requestAnimationFrame(done)))")
@@ -188,7 +189,7 @@ class InABrowser(unittest.TestCase):
             self.assertEqual(phone.complaints(), [])
             phone.close()
 
-    def test_names_are_text_and_never_markup(self):
+    def test_names_are_text_and_never_markup(self) -> None:
         with dashboard() as (pipe, url):
             pipe.write(f"{HOSTILE} 5\n<script>window.struck=1</script>\n".encode())
             pipe.flush()
@@ -204,7 +205,7 @@ class InABrowser(unittest.TestCase):
             self.assertEqual(tab.complaints(), [])
             tab.close()
 
-    def test_the_best_run_is_shown_where_it_says_something(self):
+    def test_the_best_run_is_shown_where_it_says_something(self) -> None:
         with dashboard("--scale", "10") as (pipe, url):
             tab, values = self.browser.open(url), []
             for some, run in (((1,), None), ((-5, -7), None), ((20, -3, 25), "4.2"), ((100,), "14.2"), ((-200, 900), None), ((3,), "90.3")):
@@ -222,7 +223,7 @@ class InABrowser(unittest.TestCase):
             self.assertEqual(tab.complaints(), [])
             tab.close()
 
-    def test_the_axis_has_the_times_of_the_feed(self):
+    def test_the_axis_has_the_times_of_the_feed(self) -> None:
         start = 1_764_280_800
         with dashboard() as (pipe, url):
             tab = self.browser.open(url, 1240, 800)
@@ -250,12 +251,12 @@ class InABrowser(unittest.TestCase):
             self.assertEqual(tab.complaints(), [])
             tab.close()
 
-    def ticks(self, tab, name):
+    def ticks(self, tab: Any, name: Any) -> Any:
         """The times below a chart, once it is drawn."""
         tab.run("new Promise(done => requestAnimationFrame(() => requestAnimationFrame(done)))")
         return tab.run(f"[...{self.card(name)}.querySelectorAll('.times span')].map(it => it.textContent)")
 
-    def test_a_feed_that_stops_and_goes_on_and_a_server_that_goes(self):
+    def test_a_feed_that_stops_and_goes_on_and_a_server_that_goes(self) -> None:
         with dashboard("--scale", "100") as (pipe, url):
             tab = self.browser.open(url)
             pipe.write(b"a 1.25\n")
@@ -271,7 +272,7 @@ class InABrowser(unittest.TestCase):
         tab.until("document.getElementById('state').textContent.startsWith('connection lost')")
         tab.close()
 
-    def test_a_thousand_names(self):
+    def test_a_thousand_names(self) -> None:
         with dashboard() as (pipe, url):
             pipe.write(b"".join(b"name%d %d\n" % (number, number) for number in range(1_000)))
             pipe.flush()

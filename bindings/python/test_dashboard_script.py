@@ -9,6 +9,7 @@ import re
 import shutil
 import subprocess
 import unittest
+from typing import Any
 
 from livevec_dashboard.lines import Lines
 from livevec_dashboard.store import Store
@@ -20,7 +21,7 @@ SCRIPTS = ("page_in_node.js", *(os.path.join("livevec_dashboard", name) for name
 DRIVER = "process.stdout.write(JSON.stringify(shownOf(take, state.cards, JSON.parse(require('fs').readFileSync(0, 'utf8')))), () => process.exit());"
 
 
-def script():
+def script() -> Any:
     """The page's script as the page has it, after what a browser would have for it."""
     parts = []
     for name in SCRIPTS:
@@ -31,7 +32,7 @@ def script():
 
 @unittest.skipUnless(shutil.which("node"), "there is no node")
 class Cards(unittest.TestCase):
-    def shown(self, *blocks, last=1_000, digits=0, **how):
+    def shown(self, *blocks: Any, last: Any = 1_000, digits: Any = 0, **how: Any) -> Any:
         """What the cards of the names in some lines show after the last of them."""
         store = Store()
         lines, viewer, frames = Lines(store.admit, **how), Viewer(store, digits), []
@@ -43,7 +44,7 @@ class Cards(unittest.TestCase):
         self.assertEqual((ran.returncode, ran.stderr), (0, ""))
         return json.loads(ran.stdout)
 
-    def test_the_axis_has_times_where_the_feed_has_them(self):
+    def test_the_axis_has_times_where_the_feed_has_them(self) -> None:
         feed = b"".join(b'{"a": %d, "time": %d}\n{"c": 7}\n' % (number % 90, 1_764_280_800 + 2 * number) for number in range(1_600))
         cards = self.shown(feed)
         # 22:00 of the 27th in Greenwich is 3:30 of the 28th there; sample 600 was taken 1,200 seconds later
@@ -56,12 +57,12 @@ class Cards(unittest.TestCase):
         self.assertEqual(cards["a"]["times"], ["03:30:00", "", "", "", ""])
         self.assertIn("1,600 samples up to 04:23:18", cards["a"]["texts"])
 
-    def test_a_card_has_its_edit_once(self):
+    def test_a_card_has_its_edit_once(self) -> None:
         cards = self.shown(b"a 1\n" * 1_599 + b"b 5\n", b"a -2\n")
         for name, edit in (("a", "1,600"), ("b", "1")):
             self.assertEqual(re.findall(r"edit [0-9,]+|[0-9,]+(?:st|th) edit", " ".join(cards[name]["texts"])), [f"edit {edit}"])
 
-    def test_the_best_run_is_shown_where_it_says_something(self):
+    def test_the_best_run_is_shown_where_it_says_something(self) -> None:
         values = []
         for some, run in (((1,), None), ((-5, -7), None), ((20, -3, 25), "4.2"), ((100,), "14.2"), ((-200, 900), None), ((3,), "90.3")):
             values += some

@@ -8,6 +8,7 @@ import threading
 import time
 import unittest
 from array import array
+from typing import Any
 
 from livevec_dashboard.lines import Lines
 from livevec_dashboard.pace import Pace
@@ -20,7 +21,7 @@ from viewers import SECONDS, Page
 
 
 class Vectors(unittest.TestCase):
-    def test_answers_are_plain_and_numbers_rise_over_renewals(self):
+    def test_answers_are_plain_and_numbers_rise_over_renewals(self) -> None:
         chance, series, plain, edits, firsts = random.Random(5), Series(), [], [], []
         for _ in range(300):
             values = [chance.randrange(-1000, 1000) for _ in range(chance.randrange(1, 90))]
@@ -38,7 +39,7 @@ class Vectors(unittest.TestCase):
         self.assertEqual((edits, firsts), (sorted(set(edits)), sorted(firsts)))
         self.assertGreater(len(set(firsts)), 30)
 
-    def test_a_vector_is_renewed_before_its_room_ends(self):
+    def test_a_vector_is_renewed_before_its_room_ends(self) -> None:
         store = Store()
         lines = Lines(store.admit)
         series, block = None, b"".join(b"a %d\n" % number for number in range(10_000))
@@ -50,7 +51,7 @@ class Vectors(unittest.TestCase):
         self.assertGreaterEqual(series.held, 1_000_000)
         self.assertGreater(series.first, 0)
 
-    def test_names_share_the_room(self):
+    def test_names_share_the_room(self) -> None:
         store = Store(keep=1_000, most_samples=5_000)
         lines = Lines(store.admit)
         for name in range(50):
@@ -59,7 +60,7 @@ class Vectors(unittest.TestCase):
         for series in store.series.values():
             self.assertEqual((series.end, series.answer(2_950, 3_000).total), (3_000, sum(range(2_950, 3_000))))
 
-    def test_sums_beyond_64_bits_are_whole_or_not_told(self):
+    def test_sums_beyond_64_bits_are_whole_or_not_told(self) -> None:
         series = Series()
         series.take(array("q", [2**63 - 1] * 5 + [-(2**63)] * 3), keep=10, room=10)
         self.assertEqual((series.answer(0, 5).total, series.answer(0, 8).total, series.answer(5, 8).best), (5 * (2**63 - 1), 5 * (2**63 - 1) - 3 * 2**63, -(2**63)))
@@ -72,7 +73,7 @@ class Vectors(unittest.TestCase):
         one.take(array("q", [1] * 300_000 + [2**63 - 1] + [1] * 300_000), keep=700_000, room=700_000)
         self.assertEqual(one.answer(0, 600_001).total, 600_000 + 2**63 - 1)
 
-    def test_columns_are_plain_however_many_are_asked_at_once(self):
+    def test_columns_are_plain_however_many_are_asked_at_once(self) -> None:
         chance, series = random.Random(6), Series()
         plain = [chance.choice((2**63 - 1, -(2**63), 2**61, 5, -7, 0)) for _ in range(3_000)]
         series.take(array("q", plain), keep=2_000, room=2_500)
@@ -89,7 +90,7 @@ class Vectors(unittest.TestCase):
                 self.assertIn(column.total, (sum(part),) if hi - lo <= 3 else (sum(part), None))
                 self.assertEqual(copied.column(lo, hi), (min(part), max(part), sum(part)))
 
-    def test_names_that_grow_fewer_samples_each_have_room_for_all(self):
+    def test_names_that_grow_fewer_samples_each_have_room_for_all(self) -> None:
         chance, store = random.Random(7), Store(keep=300, most_samples=2_000)
         lines = Lines(store.admit)
         plain = {}
@@ -104,7 +105,7 @@ class Vectors(unittest.TestCase):
             self.assertEqual((series.end, series.answer(series.first, series.end).total), (len(values), sum(values[series.first:])))
             self.assertGreaterEqual(series.held, min(len(values), 8))
 
-    def test_times_stay_with_their_samples_over_renewals(self):
+    def test_times_stay_with_their_samples_over_renewals(self) -> None:
         series = Series()
         series.take(array("q", range(10)), keep=20, room=30)
         self.assertEqual((series.has_times, series.time(3)), (False, None))
@@ -115,7 +116,7 @@ class Vectors(unittest.TestCase):
             self.assertEqual(series.time(sample), None if sample % 5 == 4 else 1000 * sample)
 
 
-def plain_columns(values, lo, hi, width):
+def plain_columns(values: Any, lo: Any, hi: Any, width: Any) -> Any:
     """The same from nothing."""
     made = {}
     for number in range(lo // width, (hi - 1) // width + 1):
@@ -127,26 +128,26 @@ def plain_columns(values, lo, hi, width):
 class Lock:
     """A lock that measures how long the thread that holds it works meanwhile, and does something when it is free again."""
 
-    def __init__(self, after=lambda: None):
+    def __init__(self, after: Any = lambda: None) -> None:
         self.lock, self.after, self.longest = threading.Lock(), after, 0.0
 
-    def acquire(self, *how):
+    def acquire(self, *how: Any) -> Any:
         got = self.lock.acquire(*how)
         if got:
             self.since = time.thread_time()
         return got
 
-    def release(self):
+    def release(self) -> None:
         self.longest = max(self.longest, time.thread_time() - self.since)
         self.lock.release()
         after, self.after = self.after, lambda: None
         after()
         self.after = after
 
-    def __enter__(self):
+    def __enter__(self) -> Any:
         return self.acquire()
 
-    def __exit__(self, *_):
+    def __exit__(self, *_: Any) -> None:
         self.release()
 
 
@@ -155,14 +156,14 @@ class Rests(Pace):
 
     slept = 0.0
 
-    def rest(self, worked):
+    def rest(self, worked: Any) -> None:
         began = time.monotonic()
         super().rest(worked)
         self.slept += time.monotonic() - began
 
 
 class Views(unittest.TestCase):
-    def test_what_is_sent_adds_up_to_what_is_there(self):
+    def test_what_is_sent_adds_up_to_what_is_there(self) -> None:
         chance, store, plain = random.Random(9), Store(keep=900), []
         store.admit("a")
         viewer, page, lines = Viewer(store, 0), Page(), Lines(store.admit)
@@ -184,7 +185,7 @@ class Views(unittest.TestCase):
                 self.assertAlmostEqual(float(chart["numbers"]["mean"]), sum(part) / len(part), places=3)
         self.assertGreater(store.series["a"].first, 0)
 
-    def test_only_what_changed_is_sent(self):
+    def test_only_what_changed_is_sent(self) -> None:
         store = Store()
         lines, viewer, page = Lines(store.admit), Viewer(store, 0), Page()
         store.take(lines.take(b"a 1\n" * 100_000 + b"b 5\n"))
@@ -196,7 +197,7 @@ class Views(unittest.TestCase):
         frame = viewer.frame()
         self.assertEqual(([chart["name"] for chart in frame["charts"]], len(frame["charts"][0]["columns"]) <= 3), (["a"], True))
 
-    def test_a_standing_query_tells_when_its_answer_changes(self):
+    def test_a_standing_query_tells_when_its_answer_changes(self) -> None:
         store = Store(keep=20)
         lines, viewer, page = Lines(store.admit), Viewer(store, 1), Page()
         viewer.look(view_of({"charts": [], "watches": [{"id": 1, "name": "a", "kind": "sum", "lo": 0, "hi": 4}, {"id": 2, "name": "a", "kind": "greatest", "last": 2},
@@ -208,7 +209,7 @@ class Views(unittest.TestCase):
         self.assertEqual([(it["edit"], it["value"]) for it in page.watches[2]], [(1, "0.5"), (4, "0.2"), (35, "0.7")])
         self.assertEqual([(it["edit"], it["value"]) for it in page.watches[3]], [(1, None), (3, "0.0000"), (4, "0.1000"), (35, None)])
 
-    def test_a_chart_has_the_times_of_its_ends_and_columns(self):
+    def test_a_chart_has_the_times_of_its_ends_and_columns(self) -> None:
         store = Store(keep=40)
         lines, viewer, page = Lines(store.admit), Viewer(store, 0), Page()
         viewer.look(view_of({"charts": [{"name": "a", "last": 16, "columns": 10}, {"name": "b", "last": 16, "columns": 10}], "watches": []}))
@@ -224,7 +225,7 @@ class Views(unittest.TestCase):
         self.assertNotIn("times", page.charts["b"])
         self.assertEqual({len(column) for column in page.columns["b"].values()}, {3})
 
-    def test_the_lock_is_held_for_a_small_part_of_a_chart_at_a_time(self):
+    def test_the_lock_is_held_for_a_small_part_of_a_chart_at_a_time(self) -> None:
         store, lock = Store(), Lock()
         store.admit("a")
         store.series["a"].take(array("q", range(520_000)), keep=600_000, room=700_000, times=range(520_000))
@@ -241,11 +242,11 @@ class Views(unittest.TestCase):
             # it is less than a seventh; where columns are computed by who holds it, it is a half
             self.assertLess(min(parts), 0.25, last)
 
-    def test_a_chart_whose_samples_are_dropped_in_the_middle_is_whole_again(self):
+    def test_a_chart_whose_samples_are_dropped_in_the_middle_is_whole_again(self) -> None:
         chance, store, plain, page, lost = random.Random(10), Store(keep=8_000), [], Page(), 0
         lines = Lines(store.admit)
 
-        def feed():
+        def feed() -> None:
             values = [chance.randrange(-50, 50) for _ in range(6_000)]
             plain.extend(values)
             store.take(lines.take(b"".join(b"a %d\n" % value for value in values)))
@@ -268,12 +269,12 @@ class Views(unittest.TestCase):
                 self.assertEqual(page.columns["a"], wanted)
         self.assertGreater(lost, 0)
 
-    def test_a_viewer_within_its_bounds_leaves_the_feed_most_of_the_time(self):
+    def test_a_viewer_within_its_bounds_leaves_the_feed_most_of_the_time(self) -> None:
         store, text = Store(), b"".join(b"name%d %d\n" % (number % 24, number) for number in range(24_000))
         store.pace = Rests()
         viewer, ended = Viewer(store, 0), threading.Event()
 
-        def look():
+        def look() -> None:
             turn = 0
             while not store.pace.feed_has_more:
                 time.sleep(0.001)
@@ -303,7 +304,7 @@ class Views(unittest.TestCase):
         self.assertGreater(slept, 6 * worked)
         self.assertGreater(worked, 0.02)
 
-    def test_views_out_of_bounds_are_refused(self):
+    def test_views_out_of_bounds_are_refused(self) -> None:
         chart, watch = {"name": "a", "last": 10, "columns": 100}, {"id": 1, "name": "a", "kind": "sum", "lo": 0, "hi": 5}
         view_of({"charts": [chart], "watches": [watch]})
         for bad in (None, [], {}, {"charts": []}, {"charts": [1], "watches": []}, {"charts": [chart] * 2, "watches": []}, {"charts": [], "watches": [watch] * 2},

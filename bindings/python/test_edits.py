@@ -9,7 +9,7 @@ from livevec import Vector
 
 
 class Edits(unittest.TestCase):
-    def test_each_edit_answers(self):
+    def test_each_edit_answers(self) -> None:
         v = Vector()
         self.assertEqual((len(v), v.capacity, v.edits), (0, 0, 0))
         self.assertEqual((v.push(4), v.push(-(2**63)), v.append(7)), (0, 1, None))
@@ -17,7 +17,7 @@ class Edits(unittest.TestCase):
         v[-1] = 2**63 - 1
         self.assertEqual((list(v), v.capacity, v.edits), ([-6, 2**63 - 1], 24, 7))
 
-    def test_two_elements_change_places_and_the_end_is_cut(self):
+    def test_two_elements_change_places_and_the_end_is_cut(self) -> None:
         v = Vector([4, 6, 9])
         self.assertEqual((v.swap(0, -1), v.swap(1, 1), list(v)), (9, 6, [9, 6, 4]))
         with self.assertRaises(livevec.OutOfRange):
@@ -26,7 +26,7 @@ class Edits(unittest.TestCase):
         with self.assertRaises(livevec.OutOfRange):
             v.truncate(2)
 
-    def test_what_is_refused_changes_nothing(self):
+    def test_what_is_refused_changes_nothing(self) -> None:
         v = Vector(most_buckets=1, most_edits=10)
         for refused, call in [(livevec.Empty, v.pop), (livevec.OutOfRange, lambda: v.write(0, 1)), (livevec.TooLarge, lambda: v.reserve(9))]:
             with self.assertRaises(refused):
@@ -39,7 +39,7 @@ class Edits(unittest.TestCase):
             v[0] = 5
         self.assertEqual(list(v), [1] * 6)
 
-    def test_verdicts_are_what_the_edits_answer(self):
+    def test_verdicts_are_what_the_edits_answer(self) -> None:
         v = Vector(most_buckets=1, most_edits=14)
         asked = [(v.why_not_push, v.push, 7), (v.why_not_pop, v.pop), (v.why_not_write, v.write, 2, 5), (v.why_not_write, v.write, -1, 5),
                  (v.why_not_reserve, v.reserve, 9), (v.why_not_swap, v.swap, 0, -4), (v.why_not_truncate, v.truncate, 6)]
@@ -62,7 +62,7 @@ class Edits(unittest.TestCase):
         v.close()
         self.assertRaises(livevec.Closed, v.why_not_pop)
 
-    def test_refusals_are_the_exceptions_that_python_knows(self):
+    def test_refusals_are_the_exceptions_that_python_knows(self) -> None:
         v = Vector([5])
         with self.assertRaises(IndexError) as caught:
             v[1]
@@ -76,7 +76,7 @@ class Edits(unittest.TestCase):
         again = pickle.loads(pickle.dumps(caught.exception))
         self.assertEqual((type(again), again.detail), (livevec.OutOfRange, 1))
 
-    def test_what_is_no_element_is_never_cut(self):
+    def test_what_is_no_element_is_never_cut(self) -> None:
         v = Vector()
         for call in (lambda: v.push(2**63), lambda: v.extend([1, -(2**63) - 1]), lambda: v.reserve(2**32), lambda: v.refresh(-1)):
             with self.assertRaises(OverflowError):
@@ -89,7 +89,7 @@ class Edits(unittest.TestCase):
                 v[index]
         self.assertEqual((len(v), v.edits), (0, 0))
 
-    def test_extend_from_what_holds_numbers(self):
+    def test_extend_from_what_holds_numbers(self) -> None:
         numbers = array("q", range(-5, 5))
         for values in (numbers, list(numbers), tuple(numbers), (x for x in numbers), array("i", numbers), Vector(numbers), dict.fromkeys(numbers)):
             self.assertEqual(list(Vector(values)), list(range(-5, 5)))
@@ -100,7 +100,7 @@ class Edits(unittest.TestCase):
         self.assertEqual((list(v), v.edits), ([7], 1))
         numbers.append(5)  # nothing holds the array any longer
 
-    def test_extend_from_buffers_of_64_bits(self):
+    def test_extend_from_buffers_of_64_bits(self) -> None:
         numbers = array("q", range(-5, 5))
         unwritable = memoryview(numbers.tobytes()).cast("q")
         for values in (memoryview(numbers), memoryview(numbers).toreadonly(), unwritable, (ctypes.c_int64 * 10)(*numbers), memoryview(bytearray(numbers)).cast("l")):
@@ -109,7 +109,7 @@ class Edits(unittest.TestCase):
             for values in (memoryview(numbers), unwritable):
                 self.assertEqual(list(Vector(values[part])), numbers[part].tolist())
 
-    def test_extend_from_buffers_of_other_whole_numbers(self):
+    def test_extend_from_buffers_of_other_whole_numbers(self) -> None:
         self.assertEqual(list(Vector(b"\x01\xff")), [1, 255])
         self.assertEqual(list(Vector(memoryview(array("i", range(10)))[::-3])), [9, 6, 3, 0])
         self.assertEqual(list(Vector((ctypes.c_int16 * 3)(-1, 2, -3))), [-1, 2, -3])
@@ -119,7 +119,7 @@ class Edits(unittest.TestCase):
         with self.assertRaises(OverflowError):
             Vector(array("Q", [1, 2**63]))
 
-    def test_buffers_that_are_refused(self):
+    def test_buffers_that_are_refused(self) -> None:
         v = Vector()
         for values in (array("d", [1.0]), memoryview(bytes(8)).cast("d"), memoryview(b"ab").cast("c"), array("f"), "12", memoryview(bytes(8)).cast("P")):
             with self.assertRaises(TypeError):
@@ -130,7 +130,7 @@ class Edits(unittest.TestCase):
             v.extend(array("d", [1.0]))
         self.assertEqual(v.edits, 0)
 
-    def test_extend_from_numpy(self):
+    def test_extend_from_numpy(self) -> None:
         try:
             import numpy
         except ImportError:
@@ -154,7 +154,7 @@ class Edits(unittest.TestCase):
         room = numpy.zeros(5, dtype=numpy.int64)
         self.assertEqual((Vector([1, 2]).read_into(room[2:]), room.tolist()), (2, [0, 0, 1, 2, 0]))
 
-    def test_an_extend_that_is_refused_takes_nothing(self):
+    def test_an_extend_that_is_refused_takes_nothing(self) -> None:
         v = Vector(most_buckets=1)
         v.extend([1, 2, 3])
         with self.assertRaises(livevec.Full) as caught:

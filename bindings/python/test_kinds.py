@@ -12,7 +12,7 @@ from plain import value_of
 
 
 class ByKind(unittest.TestCase):
-    def test_values_and_many_writes_beside_a_list(self):
+    def test_values_and_many_writes_beside_a_list(self) -> None:
         chance, plain, v, edits = random.Random(5), [], Vector(), 0
         for _ in range(150):
             more = [chance.choice([chance.randrange(-9, 9), chance.randrange(-(2**63), 2**63)]) for _ in range(chance.randrange(9))]
@@ -38,7 +38,7 @@ class ByKind(unittest.TestCase):
                 self.assertEqual([v.value(kind.name.lower(), lo, hi) for lo, hi in pairs], wanted)
         self.assertEqual(list(v), plain)
 
-    def test_ranges_are_taken_as_one_is(self):
+    def test_ranges_are_taken_as_one_is(self) -> None:
         v = Vector([1, 20, 300])
         self.assertEqual(v.value_many("sum", [(0, 3), (-2, None), (0, -1), (None, 1), (-9, 2), (3, 3)]), [321, 320, 21, 1, 21, 0])
         self.assertEqual(v.value_many("least", ((lo, lo + 1) for lo in range(3))), [1, 20, 300])
@@ -47,7 +47,7 @@ class ByKind(unittest.TestCase):
         self.assertEqual(v.value_many("sum", memoryview(array("q", [-1, 3, 0, -1])).cast("B").cast("q", [2, 2])), [300, 21])
         self.assertEqual((v.value("affine"), v.value("sum", -1), v.edits), (v.ask().values.affine, 300, 3))
 
-    def test_many_from_numpy(self):
+    def test_many_from_numpy(self) -> None:
         try:
             import numpy
         except ImportError:
@@ -62,7 +62,7 @@ class ByKind(unittest.TestCase):
         v.write_many(numpy.arange(0, 10, 2), numpy.full(5, -1))
         self.assertEqual(list(v), [-1, 1, -1, 3, -1, 5, -1, 7, -1, 9])
 
-    def test_what_is_refused_tells_where(self):
+    def test_what_is_refused_tells_where(self) -> None:
         v = Vector([3, 1, 2], most_buckets=1, most_edits=6)
         for refused, place, detail, pairs in [
                 (livevec.OutOfRange, 1, 3, [(0, 3), (1, 4), (2, 1)]), (livevec.BadRange, 2, 0, [(0, 3), (1, 3), (2, 1), (0, 9)]),
@@ -92,13 +92,13 @@ class ByKind(unittest.TestCase):
         again = pickle.loads(pickle.dumps(caught.exception))
         self.assertEqual((type(again), again.place), (livevec.Worn, 1))
 
-    def test_a_closed_vector(self):
+    def test_a_closed_vector(self) -> None:
         v = Vector([1])
         v.close()
         for call in (lambda: v.value("sum", 0, 1), lambda: v.value_many("sum", []), lambda: v.write_many([], []), lambda: v.extend([])):
             self.assertRaises(livevec.Closed, call)
 
-    def test_a_vector_that_another_call_is_at(self):
+    def test_a_vector_that_another_call_is_at(self) -> None:
         v = Vector([1, 2])
         v._slot.busy_ = 1
         for call in (lambda: v.value("sum"), lambda: v.value_many("sum", []), lambda: v.write_many([], []), v.why_not_pop, v.close, lambda: v.extend([])):
@@ -107,12 +107,12 @@ class ByKind(unittest.TestCase):
         v._slot.busy_ = 0
         self.assertEqual(v.sum(), 3)
 
-    def test_other_threads_run_meanwhile(self):
+    def test_other_threads_run_meanwhile(self) -> None:
         v = Vector(range(3000))
         pairs = [(lo, 3000) for lo in range(3000)] * 10
         told = []
 
-        def ask():
+        def ask() -> None:
             while not told:
                 with contextlib.suppress(livevec.Busy):
                     told.append(v.value_many("best", pairs))

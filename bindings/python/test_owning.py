@@ -15,7 +15,7 @@ from livevec import Became, Board, Delivered, Kind, Node, Reduced, Vector
 
 
 class Refresh(unittest.TestCase):
-    def test_an_outcome_is_installed_held_stale_or_a_strangers(self):
+    def test_an_outcome_is_installed_held_stale_or_a_strangers(self) -> None:
         ours, theirs = Vector([1] * 8), Vector([2] * 8)
         job = ours.claim()
         self.assertEqual((job.node, job.version, ours.claim()), (Node(1, 0), 8, None))
@@ -31,7 +31,7 @@ class Refresh(unittest.TestCase):
         self.assertEqual(ours.sum(), 12)
         self.assertRaises(TypeError, ours.deliver, job)
 
-    def test_claims_are_forgotten_and_refreshed_in_place(self):
+    def test_claims_are_forgotten_and_refreshed_in_place(self) -> None:
         v = Vector([1] * 64)
         first = v.claim()
         v.forget_claims()
@@ -41,7 +41,7 @@ class Refresh(unittest.TestCase):
 
 
 class Owning(unittest.TestCase):
-    def test_a_closed_vector_says_so(self):
+    def test_a_closed_vector_says_so(self) -> None:
         with Vector([1]) as v:
             pass
         for call in (v.pop, lambda: v.push(1), lambda: len(v), v.sum, v.claim, lambda: v[0], lambda: list(v), lambda: v.extend([]), v.to_array):
@@ -50,7 +50,7 @@ class Owning(unittest.TestCase):
         self.assertEqual(repr(v), "<livevec.Vector, closed>")
 
     @unittest.skipUnless(os.path.exists("/proc/self/statm"), "this system doesn't tell how much memory a process has")
-    def test_want_of_memory_changes_nothing(self):
+    def test_want_of_memory_changes_nothing(self) -> None:
         program = """
 import resource, livevec
 vector = livevec.Vector([5])
@@ -69,7 +69,7 @@ print(vector.edits)
         said = subprocess.run([sys.executable, "-c", program], cwd=os.path.dirname(os.path.abspath(__file__)), capture_output=True, text=True)
         self.assertEqual((said.stdout, said.stderr), ("6 1 1 5\n2\n", ""))
 
-    def test_a_copy_has_elements_limits_and_table(self):
+    def test_a_copy_has_elements_limits_and_table(self) -> None:
         # state 1 says: a remainder of 3 was seen
         v = Vector([3, 0], most_buckets=1, most_edits=9, table=[[0, 0, 0, 1], *[[0] * 4] * 7])
         v[1] = 7
@@ -83,7 +83,7 @@ print(vector.edits)
             copied.extend(range(5))
             self.assertRaises(livevec.Worn, copied.clear)
 
-    def test_a_vector_of_one_kind(self):
+    def test_a_vector_of_one_kind(self) -> None:
         v = Vector([4, -6, 9], most_buckets=2, kind="least")
         self.assertEqual((v.kind, v.least(), v.where_least(), v.value("least", 1, 1)), (Kind.LEAST, -6, (1, -6), None))
         self.assertEqual((v.value_many("least", [(0, 1), (2, 3)]), v.scan_inclusive_by("least").cells.tolist()), ([4, 9], [4, -6, -6]))
@@ -103,7 +103,7 @@ print(vector.edits)
         self.assertRaises(ValueError, Vector, kind="median")
         self.assertRaises(ValueError, Vector, kind="automaton", table=[[0] * 4] * 8)
 
-    def test_equal_by_elements(self):
+    def test_equal_by_elements(self) -> None:
         self.assertTrue(Vector() == Vector() and Vector([1, 2]) == Vector([1, 2], most_edits=5) and not Vector([1]) != Vector([1]))
         for other in (Vector([1]), Vector([1, 3]), Vector([1, 2, 3]), [1, 2], array("q", [1, 2]), None):
             self.assertTrue(Vector([1, 2]) != other and not Vector([1, 2]) == other)
@@ -113,7 +113,7 @@ print(vector.edits)
         for call in (lambda: closed == Vector(), lambda: Vector() == closed, closed.copy, lambda: pickle.dumps(closed), closed.clear):
             self.assertRaises(livevec.Closed, call)
 
-    def test_what_is_of_one_process_is_never_copied(self):
+    def test_what_is_of_one_process_is_never_copied(self) -> None:
         v, board = Vector([1] * 8), Board(seats=1)
         job, seat = v.claim(), board.sit()
         for it in (job, board, seat, job.run()):
@@ -121,33 +121,33 @@ print(vector.edits)
                 with self.assertRaisesRegex(TypeError, f"a.? {type(it).__name__} can't be copied"):
                     call(it)
 
-    def test_a_subclass_stays_one(self):
+    def test_a_subclass_stays_one(self) -> None:
         class Prices(Vector):
             __slots__ = ()
 
         self.assertEqual((type(Prices([1]).copy()), type(Prices([1]).__enter__())), (Prices, Prices))
 
-    def test_a_job_of_nothing_is_shown_and_not_run(self):
+    def test_a_job_of_nothing_is_shown_and_not_run(self) -> None:
         job = livevec.Job()
         self.assertEqual(repr(job), "<livevec.Job of nothing>")
         with self.assertRaises(livevec.Closed):
             job.run()
 
-    def test_jobs_outlive_their_vector(self):
+    def test_jobs_outlive_their_vector(self) -> None:
         v = Vector([1] * 8)
         job = v.claim()
         v.close()
         job.run()
 
-    def test_arguments_that_are_wrong_leave_nothing_behind(self):
+    def test_arguments_that_are_wrong_leave_nothing_behind(self) -> None:
         self.assertRaises(TypeError, Vector, [1], 2)
         self.assertRaises(TypeError, Vector, most_buckets="3")
 
-    def test_threads_share_a_vector(self):
+    def test_threads_share_a_vector(self) -> None:
         v, before = Vector(), sys.getswitchinterval()
         sys.setswitchinterval(1e-5)
         try:
-            def pushes():
+            def pushes() -> None:
                 for x in range(2000):
                     v.push(x)
                     v.sum()
@@ -161,10 +161,10 @@ print(vector.edits)
             sys.setswitchinterval(before)
         self.assertEqual((len(v), v.edits, v.sum()), (8000, 8000, 4 * 1999 * 1000))
 
-    def test_workers_run_jobs(self):
+    def test_workers_run_jobs(self) -> None:
         v, done = Vector(range(512)), []
 
-        def work():
+        def work() -> None:
             while (job := v.claim()) is not None:
                 done.append(v.deliver(job.run()).became)
 

@@ -6,21 +6,22 @@ import io
 import os
 import re
 import unittest
+from typing import Any
 
 import livevec
 
 
 class Package(unittest.TestCase):
-    def test_it_has_the_version_of_the_repository(self):
+    def test_it_has_the_version_of_the_repository(self) -> None:
         with open(os.path.join(os.path.dirname(os.path.abspath(__file__)), "..", "..", "VERSION"), encoding="utf-8") as file:
             self.assertEqual(livevec.__version__, file.read().strip())
 
-    def test_it_says_that_it_has_types(self):
+    def test_it_says_that_it_has_types(self) -> None:
         self.assertTrue(os.path.isfile(os.path.join(os.path.dirname(livevec.__file__), "py.typed")))
 
 
 class Page(unittest.TestCase):
-    def test_its_programs_print_what_they_say(self):
+    def test_its_programs_print_what_they_say(self) -> None:
         with open(os.path.join(os.path.dirname(os.path.abspath(__file__)), "README.md"), encoding="utf-8") as file:
             page = file.read()
         programs = [it for it in re.findall(r"^```python\n(.*?)^```$", page, re.M | re.S) if "import numpy" not in it]
@@ -33,7 +34,7 @@ class Page(unittest.TestCase):
             self.assertEqual(said.getvalue().splitlines(), wanted)
 
 
-def load_tests(loader, tests, _pattern):
+def load_tests(loader: Any, tests: Any, _pattern: Any) -> Any:
     import doctest
 
     tests.addTests(doctest.DocTestSuite(livevec))

@@ -4,6 +4,7 @@ usage: python3 -m unittest test_places
 """
 import random
 import unittest
+from typing import Any
 
 import livevec
 from livevec import Samples, Series, Vector
@@ -12,7 +13,7 @@ MOST, LEAST = 2**63 - 1, -(2**63)
 
 
 class Places(unittest.TestCase):
-    def look(self, asked, xs, lo, hi, wanted, bound):
+    def look(self, asked: Any, xs: Any, lo: Any, hi: Any, wanted: Any, bound: Any) -> None:
         """All searches of a range, by some numbers."""
         inside = range(lo, hi)
         runs = [(sum(xs[start:end]), -end, start) for start in inside for end in range(start + 1, hi + 1)]
@@ -26,7 +27,7 @@ class Places(unittest.TestCase):
         self.assertEqual((asked.where_first_at_least(bound, lo, hi), asked.where_last_at_least(bound, lo, hi)), ends(at_least))
         self.assertEqual((asked.where_first_at_most(bound, lo, hi), asked.where_last_at_most(bound, lo, hi)), ends(at_most))
 
-    def test_they_are_as_plain_loops_find_them(self):
+    def test_they_are_as_plain_loops_find_them(self) -> None:
         draw, vector, series, samples, xs = random.Random(5), Vector(), Series(), Samples(), []
         for at in range(150):
             xs.append(draw.choice((MOST, LEAST, *range(-4, 5), *range(-4, 5))))
@@ -45,12 +46,12 @@ class Places(unittest.TestCase):
                     lo, hi = sorted((draw.randrange(first, at + 2), draw.randrange(first, at + 2)))
                     self.look(asked, xs, lo, hi, draw.choice((draw.randrange(-3, 30), MOST, LEAST)), draw.choice((draw.randrange(-5, 6), MOST, LEAST)))
 
-    def test_sums_are_exact_past_64_bits(self):
+    def test_sums_are_exact_past_64_bits(self) -> None:
         for asked in (Vector([MOST, MOST, LEAST]), Series([MOST, MOST, LEAST]), Samples([1, 1, 2], [MOST, MOST, LEAST])):
             self.assertEqual((asked.where_best(), asked.where_reaches(MOST), asked.where_reaches(LEAST, 2), asked.where_reaches(1, 2)), ((0, 2, 2 * MOST), 1, 2, None))
             self.assertEqual((asked.where_reaches_back(MOST - 1), asked.where_reaches_back(0, 1), asked.where_reaches_back(1, 1)), (0, 3, None))
 
-    def test_what_is_refused(self):
+    def test_what_is_refused(self) -> None:
         series = Series([4, 7, 1])
         series.expire(1)
         for asked, refused, past in ((Vector([1, 2, 3]), livevec.OutOfRange, (0, 4)), (series, livevec.NotKept, (1, 4)), (series, livevec.NotKept, (0, 3)),
@@ -71,7 +72,7 @@ class Places(unittest.TestCase):
             self.assertRaises(livevec.Closed, call)
 
 
-def ends(found):
+def ends(found: Any) -> Any:
     """The first and the last of some indices, or none twice."""
     return (found[0], found[-1]) if found else (None, None)
 

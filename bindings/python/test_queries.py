@@ -11,7 +11,7 @@ from plain import value_of
 class Standing(unittest.TestCase):
     """Standing queries, beside a plain list of what each was told last."""
 
-    def test_notes_are_those_of_a_plain_list(self):
+    def test_notes_are_those_of_a_plain_list(self) -> None:
         chance = random.Random(7)
         vector, row, queries, told = Vector(), [], livevec.Queries(), {}
         for _ in range(700):
@@ -45,7 +45,7 @@ class Standing(unittest.TestCase):
                 self.assertEqual(queries.notes(vector), wanted)
                 self.assertEqual(queries.notes(vector), [])
 
-    def test_what_is_refused_changes_nothing(self):
+    def test_what_is_refused_changes_nothing(self) -> None:
         queries, sums, all_kinds = livevec.Queries(), Vector([4], kind="sum"), Vector([3, -5])
         for name in ("", "A", "a b", "\u00e9", "a\0b", "\ud800", "seventeen_bytes_17"):
             for call in (lambda: queries.watch(name, "sum", 5, 3), lambda: queries.unwatch(name), lambda: queries.answer(sums, name)):
@@ -72,7 +72,7 @@ class Standing(unittest.TestCase):
             queries.watch("more", "sum")
         self.assertEqual(len(queries.notes(all_kinds)), 62)
 
-    def test_it_ends(self):
+    def test_it_ends(self) -> None:
         with livevec.Queries() as queries:
             queries.watch("a", "sum")
             self.assertEqual(repr(queries), "<livevec.Queries a>")

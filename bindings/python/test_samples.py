@@ -7,6 +7,7 @@ import random
 import unittest
 from array import array
 from bisect import bisect_left
+from typing import Any
 
 import livevec
 from livevec import BadRange, Earlier, Kind, NotKept, Sample, Samples, Window
@@ -23,17 +24,17 @@ MOST, LEAST = 2**63 - 1, -(2**63)
 class Twin(unittest.TestCase):
     """Samples, and `all` with the time and the value under index i at all[i], from `first` on."""
 
-    def setUp(self):
+    def setUp(self) -> None:
         self.random, self.load, self.times, self.all, self.first, self.edits = random.Random(11), Samples(), [], [], 0, 0
         self.addCleanup(self.load.close)
 
-    def since(self, time):
+    def since(self, time: Any) -> Any:
         return bisect_left(self.times, time, self.first)
 
-    def kept(self):
+    def kept(self) -> Any:
         return self.times[self.first:]
 
-    def push(self, time, value):
+    def push(self, time: Any, value: Any) -> None:
         if self.kept() and time < self.times[-1]:
             with self.assertRaises(Earlier) as caught:
                 self.load.push(time, value)
@@ -44,11 +45,11 @@ class Twin(unittest.TestCase):
         self.all.append(value)
         self.edits += 1
 
-    def drop_before(self, index, dropped):
+    def drop_before(self, index: Any, dropped: Any) -> None:
         self.assertEqual(dropped, index - self.first)
         self.first, self.edits = index, self.edits + 1
 
-    def look(self):
+    def look(self) -> None:
         load, near = self.load, self.kept() or [0]
         since, until = sorted(self.random.choice((self.random.choice(near) + self.random.randint(-3, 3), LEAST, MOST)) for _ in range(2))
         lo, hi, kind = self.since(since), self.since(until), self.random.choice(list(Kind))
@@ -66,7 +67,7 @@ class Twin(unittest.TestCase):
 
 
 class Windows(Twin):
-    def one_edit(self):
+    def one_edit(self) -> None:
         load, choice = self.load, self.random.randrange(12 if self.kept() else 1)
         if choice == 11:
             time = self.times[self.first] + self.random.randint(0, 3)
@@ -85,7 +86,7 @@ class Windows(Twin):
             near = self.times[-1] if self.kept() else -50
             self.push(near + self.random.choice((0, 0, 0, 1, 2, 5, -1)), self.random.choice((MOST, LEAST, *(self.random.randint(-1000, 1000) for _ in range(9)))))
 
-    def test_they_are_those_of_plain_lists(self):
+    def test_they_are_those_of_plain_lists(self) -> None:
         self.look()
         for turn in range(1500):
             self.one_edit()
@@ -95,7 +96,7 @@ class Windows(Twin):
                 self.assertEqual(list(self.load), self.all[self.first:])
                 self.assertEqual(self.load.sample(len(self.all) - 1) if self.kept() else None, (self.times[-1], self.all[-1]) if self.kept() else None)
 
-    def test_times_at_both_ends(self):
+    def test_times_at_both_ends(self) -> None:
         load = Samples([LEAST, LEAST, -1, MOST], [1, 2, 3, 4])
         self.assertEqual((load.between(LEAST, MOST), load.between(LEAST + 1, -1), load.between(-1, 0)), ((0, 3), (2, 2), (2, 3)))
         self.assertEqual((load.last(0), load.last(1), load.last(2**64 - 1)), ((4, 4), (3, 4), (2, 4)))
@@ -104,7 +105,7 @@ class Windows(Twin):
                      lambda: load.between(0, 2**63), lambda: load.expire_before(2**63), lambda: load.value_of_last("sum", -1)):
             self.assertRaises(OverflowError, call)
 
-    def test_pushes_end_with_the_first_that_is_refused(self):
+    def test_pushes_end_with_the_first_that_is_refused(self) -> None:
         load = Samples()
         load.push_many(array("q", [0, 90]), [7, 4])
         for times, pushed, newest in (([91, 91, 90, 99], 2, 91), ([90], 0, 91)):
@@ -120,7 +121,7 @@ class Windows(Twin):
         load.push_many([], [])
         self.assertEqual((load.times().tolist(), list(load), load.edits), ([0, 90, 91, 91], [7, 4, 1, 1], 4))
 
-    def test_they_are_gone_through_and_end(self):
+    def test_they_are_gone_through_and_end(self) -> None:
         load = Samples([1, 2, 2], [5, 6, 7])
         with self.assertRaises(RuntimeError):
             for _ in load:
@@ -137,7 +138,7 @@ class Windows(Twin):
             self.assertRaises(livevec.Closed, call)
         self.assertEqual(repr(load), "<livevec.Samples, closed>")
 
-    def test_reads_of_times(self):
+    def test_reads_of_times(self) -> None:
         load = Samples(range(100), range(0, 1000, 10))
         load.expire_before(10)
         room, read = array("q", bytes(8 * 7)), []
@@ -153,7 +154,7 @@ class Windows(Twin):
         self.assertRaises(TypeError, load.times_into, bytes(8))
 
     @unittest.skipIf(numpy is None, "there is no numpy")
-    def test_numpy(self):
+    def test_numpy(self) -> None:
         times, values = numpy.arange(2000, dtype="int64")[::2], numpy.arange(1000, dtype="int32")
         load = Samples(times, values)
         self.assertEqual((numpy.asarray(load.times()).tolist(), numpy.asarray(load.to_array()).tolist()), (times.tolist(), values.tolist()))

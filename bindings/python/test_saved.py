@@ -6,6 +6,7 @@ import random
 import struct
 import unittest
 from array import array
+from typing import Any
 
 import livevec
 from livevec import BadRange, Earlier, NotSaved, Samples, Series
@@ -14,13 +15,13 @@ from livevec import BadRange, Earlier, NotSaved, Samples, Series
 USUAL = bytes((2 * state + rest) % 8 for rest in range(4) for state in range(8))
 
 
-def laid_out(first, edits, values, times=None, states=USUAL):
+def laid_out(first: Any, edits: Any, values: Any, times: Any = None, states: Any = USUAL) -> Any:
     head = struct.pack("<5Q", 1, 1 if times is None else 2, first, edits, len(values))
     numbers = [*values, *(times or ())]
     return sealed(b"livevec:" + head + states + struct.pack(f"<{len(numbers)}q", *numbers))
 
 
-def sealed(saved):
+def sealed(saved: Any) -> Any:
     """Bytes with their checksum behind them."""
     checksum = 0xcbf29ce484222325
     for byte in saved:
@@ -28,7 +29,7 @@ def sealed(saved):
     return bytes(saved) + struct.pack("<Q", checksum)
 
 
-def are_saved(saved, is_timed):
+def are_saved(saved: Any, is_timed: Any) -> Any:
     """Whether bytes with a right checksum are those of a series, or of samples."""
     if len(saved) < 88 or len(saved) % 8:
         return False
@@ -40,7 +41,7 @@ def are_saved(saved, is_timed):
 
 
 class Saved(unittest.TestCase):
-    def both(self, count, gone):
+    def both(self, count: Any, gone: Any) -> Any:
         """A series and samples whose first elements are gone, each with the bytes that it should have."""
         drawn = random.Random(13)
         values = [drawn.choice((2**63 - 1, -2**63, *range(-9, 10))) for _ in range(count)]
@@ -52,7 +53,7 @@ class Saved(unittest.TestCase):
         values, times = values[gone:], times[gone:]
         return (series, laid_out(gone, count + 1, values)), (samples, laid_out(gone, count + 1, values, times))
 
-    def test_bytes_are_as_they_are_laid_out(self):
+    def test_bytes_are_as_they_are_laid_out(self) -> None:
         for count, gone in ((0, 0), (1, 0), (1, 1), (9, 3), (300, 41)):
             for some, saved in self.both(count, gone):
                 self.assertEqual((some.save(), some.saved_length), (saved, len(saved)))
@@ -62,7 +63,7 @@ class Saved(unittest.TestCase):
                         pieces += room[:many]
                     self.assertEqual(pieces, saved)
 
-    def test_what_is_loaded_goes_on(self):
+    def test_what_is_loaded_goes_on(self) -> None:
         for some, saved in self.both(70, 12):
             of = type(some)
             for back in (of.load(saved), of.load(bytearray(saved)), of.load(memoryview(saved)), of.load(array("q", saved)),
@@ -78,13 +79,13 @@ class Saved(unittest.TestCase):
                     self.assertEqual((back.push(2**63 - 1, 5), back.edits), (70, 72))
                 back.close()
 
-    def test_a_class_of_ones_own_is_loaded(self):
+    def test_a_class_of_ones_own_is_loaded(self) -> None:
         class Readings(Series):
             pass
 
         self.assertIs(type(Readings.load(Series([1]).save())), Readings)
 
-    def test_other_bytes_are_refused(self):
+    def test_other_bytes_are_refused(self) -> None:
         (_, of_series), (_, of_samples) = self.both(9, 2)
         for of, saved in ((Series, of_series), (Samples, of_samples)):
             for at in range(len(saved)):
@@ -102,7 +103,7 @@ class Saved(unittest.TestCase):
         self.assertRaises(TypeError, Series.load, "livevec:")
         self.assertRaises(TypeError, Series.load_pieces, [of_series, 7])
 
-    def test_forged_bytes_are_loaded_where_they_are_those_of_some(self):
+    def test_forged_bytes_are_loaded_where_they_are_those_of_some(self) -> None:
         drawn, loaded = random.Random(17), [0, 0]
         for turn in range(6000):
             count, is_timed = drawn.randrange(5), turn % 2
@@ -124,7 +125,7 @@ class Saved(unittest.TestCase):
                 self.assertEqual((back.first, back.edits, tuple(back), back.save()), (first, edits, values, forged))
         self.assertGreater(min(loaded), 500)
 
-    def test_other_automata_and_the_last_indices(self):
+    def test_other_automata_and_the_last_indices(self) -> None:
         states = bytes(range(7, -1, -1)) + bytes(8) + bytes([3] * 8) + bytes(range(8))
         back = Series.load(laid_out(0, 3, [4, 8, 11], states=states))
         self.assertEqual(back.value("automaton"), tuple(range(8)))
@@ -140,7 +141,7 @@ class Saved(unittest.TestCase):
                 self.assertRaises(livevec.Worn, call)
             self.assertEqual((list(back), of.load(back.save()).edits), ([1], 2**64 - 1))
 
-    def test_places_and_buffers_that_are_refused(self):
+    def test_places_and_buffers_that_are_refused(self) -> None:
         series = Series([1, 2])
         self.assertRaises(BadRange, series.save_into, bytearray(8), 4)
         self.assertRaises(OverflowError, series.save_into, bytearray(8), -8)

@@ -11,7 +11,7 @@ from livevec import Kind, Vector
 
 
 class Scans(unittest.TestCase):
-    def test_scans(self):
+    def test_scans(self) -> None:
         v = Vector([3, -5, 4])
         inclusive, exclusive = v.scan_inclusive(), v.scan_exclusive()
         self.assertEqual((inclusive.sums(), exclusive.sums(), inclusive.edit), ([3, -2, 2], [0, 3, -2], 3))
@@ -19,7 +19,7 @@ class Scans(unittest.TestCase):
         self.assertEqual([x.least for x in exclusive], [None, 3, -5])
         self.assertEqual((inclusive[-1].best, len(inclusive[1:]), len(v.scan_inclusive(1, 1)), v.scan_inclusive(1, 1).sums()), (4, 2, 0, []))
 
-    def test_scans_by_one_kind_are_columns(self):
+    def test_scans_by_one_kind_are_columns(self) -> None:
         v = Vector([3, -5, 4])
         sums, before = v.scan_inclusive_by("sum"), v.scan_exclusive_by(Kind.SUM, -2)
         self.assertEqual((sums.edit, sums.cells.tolist(), sums.cells.format, before.cells.tolist()), (3, [3, -2, 2], "q", [0, -5]))
@@ -37,7 +37,7 @@ class Scans(unittest.TestCase):
                               (ValueError, lambda: v.scan_inclusive_by("median"))]:
             self.assertRaises(refused, call)
 
-    def test_scans_by_one_kind_go_into_buffers(self):
+    def test_scans_by_one_kind_go_into_buffers(self) -> None:
         v = Vector([3, -5, 4])
         for room in (array("q", [7] * 4), array("Q", [7] * 4), (ctypes.c_int64 * 4)(7, 7, 7, 7)):
             self.assertEqual((v.scan_inclusive_into("sum", room), memoryview(room).cast("B").cast("q").tolist()), (3, [3, -2, 2, 7]))
@@ -53,7 +53,7 @@ class Scans(unittest.TestCase):
                             ("affine", array("I", [0] * 5)), ("best", memoryview(bytearray(48)).cast("q", [2, 3])), ("automaton", array("b", [0] * 24))]:
             self.assertRaises(TypeError, v.scan_inclusive_into, kind, wrong)
 
-    def test_columns_beside_plain_loops(self):
+    def test_columns_beside_plain_loops(self) -> None:
         chance, plain = random.Random(5), [random.Random(6).randrange(-(2**63), 2**63) for _ in range(600)]
         v = Vector(plain)
         for _ in range(20):
@@ -65,7 +65,7 @@ class Scans(unittest.TestCase):
             self.assertEqual([x % 2**64 for x in v.scan_inclusive_by("sum", lo, hi).cells], [x % 2**64 for x in itertools.accumulate(part)])
             self.assertEqual(v.scan_exclusive_by("greatest", lo, hi).cells.tolist(), [0, *itertools.accumulate(part, max)][: hi - lo])
 
-    def test_columns_for_numpy(self):
+    def test_columns_for_numpy(self) -> None:
         try:
             import numpy
         except ImportError:
@@ -78,11 +78,11 @@ class Scans(unittest.TestCase):
         for wrong in (numpy.zeros(3), numpy.zeros(3, dtype=">i8"), numpy.zeros(6, dtype=numpy.int64)[::2], numpy.ma.zeros(3, dtype=numpy.int64)):
             self.assertRaises(TypeError, v.scan_inclusive_into, "sum", wrong)
 
-    def test_other_threads_run_during_a_scan(self):
+    def test_other_threads_run_during_a_scan(self) -> None:
         v = Vector(range(300_000))
         told = []
 
-        def scan():
+        def scan() -> None:
             for _ in range(20):
                 told.append(v.scan_inclusive_by("best").edit)
 

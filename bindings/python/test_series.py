@@ -7,6 +7,7 @@ import pickle
 import random
 import unittest
 from array import array
+from typing import Any
 
 import livevec
 from livevec import BadRange, Empty, NotKept, Series
@@ -19,7 +20,7 @@ except ImportError:
 SHARD = 32_760
 
 
-def plain_best(elements):
+def plain_best(elements: Any) -> Any:
     best = ending = None
     for x in elements:
         ending = x if ending is None or ending < 0 else ending + x
@@ -27,36 +28,36 @@ def plain_best(elements):
     return best
 
 
-def wrapped(total):
+def wrapped(total: Any) -> Any:
     return (total + (1 << 63)) % (1 << 64) - (1 << 63)
 
 
 class Twin(unittest.TestCase):
     """A series, and `all` with the element under index i at all[i], from `first` on."""
 
-    def setUp(self):
+    def setUp(self) -> None:
         self.random, self.series, self.all, self.first, self.edits = random.Random(5), Series(), [], 0, 0
         self.addCleanup(self.series.close)
 
-    def element(self):
+    def element(self) -> Any:
         return self.random.choice((2**63 - 1, -2**63, *(self.random.randint(-1000, 1000) for _ in range(10))))
 
-    def alike(self, values, elements):
+    def alike(self, values: Any, elements: Any) -> None:
         self.assertEqual(values.sum, wrapped(sum(elements)))
         self.assertEqual((values.least, values.greatest), (min(elements, default=None), max(elements, default=None)))
         self.assertEqual(values.best, plain_best(elements))
 
-    def not_kept(self, call, *arguments):
+    def not_kept(self, call: Any, *arguments: Any) -> None:
         with self.assertRaises(NotKept) as caught:
             call(*arguments)
         self.assertEqual((caught.exception.first, caught.exception.size, caught.exception.number), (self.first, len(self.all), 3))
 
-    def push_some(self, elements):
+    def push_some(self, elements: Any) -> None:
         self.series.extend(elements)
         self.all += elements
         self.edits += len(elements)
 
-    def look(self):
+    def look(self) -> None:
         series, size = self.series, len(self.all)
         self.assertEqual((series.first, series.size, series.edits, len(series)), (self.first, size, self.edits, size - self.first))
         lo = self.random.randint(self.first, size)
@@ -69,7 +70,7 @@ class Twin(unittest.TestCase):
 
 
 class Edits(Twin):
-    def one_edit(self):
+    def one_edit(self) -> Any:
         series, size, x = self.series, len(self.all), self.element()
         i, j = self.random.randint(self.first, size + 2), self.random.randint(0, size + 1)
         kept = [self.first <= at < size for at in (i, j)]
@@ -99,7 +100,7 @@ class Edits(Twin):
             self.assertEqual(series.expire(self.first), dropped)
         self.edits += 1
 
-    def test_random_edits(self):
+    def test_random_edits(self) -> None:
         with self.assertRaises(Empty):
             self.series.pop()
         for turn in range(2000):
@@ -110,7 +111,7 @@ class Edits(Twin):
         for i in range(self.first, len(self.all)):
             self.assertEqual(self.series[i], self.all[i])
 
-    def test_a_window_slides_over_shards(self):
+    def test_a_window_slides_over_shards(self) -> None:
         while len(self.all) < 5 * SHARD:
             self.push_some([self.element() for _ in range(8190)])
             if len(self.all) > 2 * SHARD:
@@ -125,7 +126,7 @@ class Edits(Twin):
         self.alike(self.series.ask().values, self.all[self.first:])
         self.assertEqual(self.series.best(self.first, self.first + 50), plain_best(self.all[self.first:self.first + 50]))
 
-    def test_it_is_gone_through_from_either_end_after_expiry(self):
+    def test_it_is_gone_through_from_either_end_after_expiry(self) -> None:
         series = Series([10, 20, 30, 40])
         series.expire(1)
         self.assertEqual((list(series), list(reversed(series)), 10 in series), ([20, 30, 40], [40, 30, 20], False))
@@ -144,7 +145,7 @@ class Edits(Twin):
                     series.expire(701)
             self.assertEqual(len(seen), 1)
 
-    def test_ends(self):
+    def test_ends(self) -> None:
         series = Series([4, -6])
         series += array("q", [9])
         series.append(1)
@@ -173,13 +174,13 @@ class Edits(Twin):
 
 
 class Pieces(Twin):
-    def setUp(self):
+    def setUp(self) -> None:
         super().setUp()
         self.push_some([self.element() for _ in range(SHARD + 2000)])
         self.series.expire(700)
         self.first, self.lo, self.hi = 700, SHARD - 900, SHARD + 1000
 
-    def read_by(self, piece):
+    def read_by(self, piece: Any) -> None:
         read, lo = [], self.lo
         while lo < self.hi:
             many = self.series.read_into(piece, lo, self.hi)
@@ -187,7 +188,7 @@ class Pieces(Twin):
             lo += many
         self.assertEqual(read, self.all[self.lo:self.hi])
 
-    def test_reads(self):
+    def test_reads(self) -> None:
         self.read_by(array("q", bytes(8 * 300)))
         room = array("q", [-5] * 302)
         self.assertEqual(self.series.read_into(memoryview(room)[1:301], self.lo, self.hi), 300)
@@ -200,7 +201,7 @@ class Pieces(Twin):
                 self.series.read_into(wrong)
 
     @unittest.skipIf(numpy is None, "there is no numpy")
-    def test_numpy(self):
+    def test_numpy(self) -> None:
         self.read_by(numpy.zeros(333, dtype="int64"))
         more = numpy.arange(2000, dtype="int64")[::2]
         self.push_some(more.tolist())
@@ -208,7 +209,7 @@ class Pieces(Twin):
         self.series.extend(more)
         self.assertEqual(numpy.asarray(self.series.to_array(len(self.all) - 1000)).tolist(), more.tolist())
 
-    def test_scans(self):
+    def test_scans(self) -> None:
         elements = self.all[self.lo:self.hi]
         sums = [wrapped(total) for total in itertools.accumulate(elements)]
         whole = self.series.scan_inclusive(self.lo, self.hi)

@@ -10,6 +10,7 @@ import subprocess
 import sys
 import unittest
 from array import array
+from typing import Any
 
 import livevec
 from livevec import BadRange, Column, Kind, NotKept, Series
@@ -27,20 +28,20 @@ SIZE = SHARD + 900
 class Kinds(unittest.TestCase):
     """A series whose first elements have expired, and `all` with the element under index i at all[i]."""
 
-    def setUp(self):
+    def setUp(self) -> None:
         drawn = random.Random(7)
         self.all = [drawn.choice((2**63 - 1, -2**63, *(drawn.randint(-1000, 1000) for _ in range(10)))) for _ in range(SIZE)]
         self.series = Series(self.all)
         self.addCleanup(self.series.close)
         self.series.expire(GONE)
 
-    def not_kept(self, place, call, *arguments, **named):
+    def not_kept(self, place: Any, call: Any, *arguments: Any, **named: Any) -> None:
         with self.assertRaises(NotKept) as caught:
             call(*arguments, **named)
         self.assertEqual((caught.exception.first, caught.exception.size, caught.exception.place), (GONE, SIZE, place))
         self.assertEqual(pickle.loads(pickle.dumps(caught.exception)).place, place)
 
-    def test_values(self):
+    def test_values(self) -> None:
         ranges = [(GONE, SIZE), (GONE, GONE), (GONE + 7, GONE + 8), (SHARD - 50, SHARD + 60), (SHARD, SIZE)]
         for kind in Kind:
             wanted = [value_of(kind, self.all[lo:hi]) for lo, hi in ranges]
@@ -52,7 +53,7 @@ class Kinds(unittest.TestCase):
         self.series[SHARD] = 12
         self.assertEqual(self.series.value("sum", SHARD, SHARD + 2), value_of(Kind.SUM, [12, self.all[SHARD + 1]]))
 
-    def test_what_is_refused(self):
+    def test_what_is_refused(self) -> None:
         self.not_kept(0, self.series.value, "sum", GONE - 1)
         self.not_kept(0, self.series.value, "least", -1, SIZE)
         self.not_kept(0, self.series.scan_inclusive_by, "sum", GONE, SIZE + 1)
@@ -73,7 +74,7 @@ class Kinds(unittest.TestCase):
         for call in (lambda: self.series.value("sum", 0, 0), lambda: self.series.value_many("sum", [(0, 0)])):
             self.assertRaises(livevec.Closed, call)
 
-    def wanted(self, kind, elements):
+    def wanted(self, kind: Any, elements: Any) -> Any:
         """The cells of a column's beginnings, as flat numbers."""
         cells = []
         for k in range(len(elements) + 1):
@@ -85,7 +86,7 @@ class Kinds(unittest.TestCase):
                 cells.append(list(value) if isinstance(value, tuple) else value or 0)
         return cells
 
-    def test_columns(self):
+    def test_columns(self) -> None:
         lo, hi = SHARD - 60, SHARD + 70
         for kind in Kind:
             cells = self.wanted(kind, self.all[lo:hi])
@@ -102,7 +103,7 @@ class Kinds(unittest.TestCase):
                 self.assertEqual(pieces, of)
             self.assertEqual(self.series.scan_inclusive_by(kind, lo, hi, at=hi).cells.tolist(), [])
 
-    def test_columns_into_buffers(self):
+    def test_columns_into_buffers(self) -> None:
         lo, hi = SHARD - 60, SHARD + 70
         sums = self.wanted(Kind.SUM, self.all[lo:hi])
         room, at, pieces = array("q", [5] * 52), lo, []
@@ -122,7 +123,7 @@ class Kinds(unittest.TestCase):
                 self.series.scan_inclusive_into("sum", wrong, lo, hi)
 
     @unittest.skipIf(numpy is None, "there is no numpy")
-    def test_numpy(self):
+    def test_numpy(self) -> None:
         lo, hi = SHARD - 60, SHARD + 70
         held = numpy.asarray(self.series.scan_inclusive_by("least", lo, hi).cells)
         self.assertEqual((held.dtype, held.tolist(), held.flags.owndata), (numpy.int64, self.wanted(Kind.LEAST, self.all[lo:hi])[1:], False))
@@ -137,7 +138,7 @@ class Kinds(unittest.TestCase):
 
 
 class AllOrNone(unittest.TestCase):
-    def test_pushes(self):
+    def test_pushes(self) -> None:
         series = Series([5, 7])
         self.addCleanup(series.close)
         self.assertEqual((series.edits, list(series)), (2, [5, 7]))
@@ -147,7 +148,7 @@ class AllOrNone(unittest.TestCase):
         self.assertRaises(OverflowError, series.extend, [1, 2**63])
         self.assertEqual((series.edits, list(series)), (5, [5, 7, 97, 98, 99]))
 
-    def test_writes(self):
+    def test_writes(self) -> None:
         series = Series([9, 20, 22, 19, 25])
         self.addCleanup(series.close)
         series.prepare("sum")
@@ -166,7 +167,7 @@ class AllOrNone(unittest.TestCase):
         self.assertEqual((series.edits, list(series), series.sum()), (9, [21, 22, 19, 23], 85))
 
     @unittest.skipUnless(os.path.exists("/proc/self/statm"), "this system doesn't tell how much memory a process has")
-    def test_want_of_memory_changes_nothing(self):
+    def test_want_of_memory_changes_nothing(self) -> None:
         program = """
 import resource, livevec
 from array import array

@@ -9,23 +9,24 @@ import re
 import threading
 import time
 import unittest
+from typing import Any
 
 import livevec
 from livevec import Kind, Queries, Receipt, SharedVector, Vector
 from plain import value_of
 
 
-def watching(kind="sum"):
+def watching(kind: Any = "sum") -> Any:
     queries = Queries()
     queries.watch("all", kind)
     return queries
 
 
-def values(notes):
+def values(notes: Any) -> Any:
     return [(note.edit, note.value) for note in notes]
 
 
-def until(is_so):
+def until(is_so: Any) -> None:
     """Waits for what another thread does soon."""
     start = time.monotonic()
     while not is_so():
@@ -34,11 +35,11 @@ def until(is_so):
         time.sleep(0.001)
 
 
-def beside(*calls):
+def beside(*calls: Any) -> Any:
     """Runs each call in a thread of its own; what they raise is raised."""
     wrong, threads = [], []
 
-    def guarded(call):
+    def guarded(call: Any) -> None:
         try:
             call()
         except BaseException as error:
@@ -48,7 +49,7 @@ def beside(*calls):
         threads.append(threading.Thread(target=guarded, args=(call,)))
         threads[-1].start()
 
-    def join():
+    def join() -> None:
         for thread in threads:
             thread.join()
         if wrong:
@@ -57,7 +58,7 @@ def beside(*calls):
     return join
 
 
-def feed(shared, seed, rounds, receipts):
+def feed(shared: Any, seed: Any, rounds: Any, receipts: Any) -> None:
     """Edits of all forms; into the receipts go those that weren't refused, each with what a plain list does."""
     pick = random.Random(seed)
     for _ in range(rounds):
@@ -89,12 +90,12 @@ def feed(shared, seed, rounds, receipts):
                 receipts.append((shared.push(value).edit, lambda rows, x=value: rows.append(x)))
 
 
-def exchange(rows, i, j):
+def exchange(rows: Any, i: Any, j: Any) -> None:
     rows[i], rows[j] = rows[j], rows[i]
 
 
 class Threads(unittest.TestCase):
-    def test_nothing_is_lost(self):
+    def test_nothing_is_lost(self) -> None:
         shared, receipts, told = SharedVector(), [[] for _ in range(4)], ([], [])
         shared.start_workers(2)
         names = [self.names(seed) for seed in (3, 4)]
@@ -102,7 +103,7 @@ class Threads(unittest.TestCase):
         subscribers[0].pause = 0
         listeners = beside(*(lambda i=i: told[i].extend(subscribers[i]) for i in range(2)))
 
-        def edits(i):
+        def edits(i: Any) -> None:
             feed(shared, 11 + i, 300, receipts[i])
             until(lambda: all(told))
             feed(shared, 21 + i, 300, receipts[i])
@@ -120,19 +121,19 @@ class Threads(unittest.TestCase):
             self.check_told(some, of, did)
 
     @staticmethod
-    def names(seed):
+    def names(seed: Any) -> Any:
         pick = random.Random(seed)
         starts = [pick.randrange(400) for _ in range(16)]
         return {f"q{i}": (Kind(i % 6), lo, lo + 1 + pick.randrange(500)) for i, lo in enumerate(starts)}
 
     @staticmethod
-    def queries(names):
+    def queries(names: Any) -> Any:
         queries = Queries()
         for name, (kind, lo, hi) in names.items():
             queries.watch(name, kind, lo, hi)
         return queries
 
-    def check_told(self, told, names, did):
+    def check_told(self, told: Any, names: Any, did: Any) -> None:
         """Each note is the plain value at its edit, edits rise, and the last told are the values at the end."""
         rows, at, last = [], 0, {name: value_of(kind, []) for name, (kind, _, _) in names.items()}
         for notes in told:
@@ -150,10 +151,10 @@ class Threads(unittest.TestCase):
         self.assertGreater(len(told), 1)
         self.assertEqual(last, {name: value_of(kind, rows[lo:hi]) for name, (kind, lo, hi) in names.items()})
 
-    def test_it_is_gone_through_as_it_was_after_one_edit(self):
+    def test_it_is_gone_through_as_it_was_after_one_edit(self) -> None:
         shared, ended = SharedVector(Vector(range(3000))), threading.Event()
 
-        def edit():
+        def edit() -> None:
             while not ended.is_set():
                 shared.truncate(0)
                 shared.extend([len(shared)] * 3000)
@@ -182,7 +183,7 @@ class Threads(unittest.TestCase):
         for way in (iter, reversed):
             self.assertRaises(livevec.Closed, way, shared)
 
-    def test_a_subscriber_looks_sleeps_and_has_the_last_notes(self):
+    def test_a_subscriber_looks_sleeps_and_has_the_last_notes(self) -> None:
         shared = SharedVector(Vector([4, 5]))
         alerts, late = shared.subscribe(watching()), shared.subscribe(watching("least"))
         self.assertEqual(shared.push(6), Receipt(3, 2))
@@ -205,7 +206,7 @@ class Threads(unittest.TestCase):
                      lambda: shared.subscribe(watching()), lambda: shared.locked().__enter__()):
             self.assertRaises(livevec.Closed, call)
 
-    def test_what_is_refused_changes_nothing(self):
+    def test_what_is_refused_changes_nothing(self) -> None:
         shared = SharedVector(Vector(most_buckets=1, most_edits=20))
         alerts = shared.subscribe(watching())
         for refusal, call in ((livevec.Empty, shared.pop), (livevec.OutOfRange, lambda: shared.write(0, 1)), (livevec.OutOfRange, lambda: shared.swap(0, -1)),
@@ -232,7 +233,7 @@ class Threads(unittest.TestCase):
         self.assertRaises(StopIteration, next, late)
         self.assertRaises(TypeError, copy.copy, shared)
 
-    def test_an_exception_within_stops_nobody(self):
+    def test_an_exception_within_stops_nobody(self) -> None:
         shared = SharedVector()
         shared.start_workers()
         alerts = shared.subscribe(watching())
@@ -244,7 +245,7 @@ class Threads(unittest.TestCase):
             raise ZeroDivisionError("within")
         self.assertEqual((values(next(alerts)), shared.push(4), values(next(alerts))), ([(1, 3)], Receipt(2, 1), [(2, 7)]))
 
-    def test_workers_compute_stop_and_start_again(self):
+    def test_workers_compute_stop_and_start_again(self) -> None:
         with SharedVector() as shared:
             shared.start_workers(2)
             for turn in range(1, 4):
@@ -256,7 +257,7 @@ class Threads(unittest.TestCase):
                 shared.start_workers(turn + 1)
             self.assertEqual(shared.close().sum(), 3 * 1999000)
 
-    def test_subscribers_come_and_go_while_edits_go_on(self):
+    def test_subscribers_come_and_go_while_edits_go_on(self) -> None:
         with SharedVector() as shared:
             shared.start_workers()
             join = beside(*[lambda: [shared.push(2) for _ in range(1000)]] * 2)
@@ -265,7 +266,7 @@ class Threads(unittest.TestCase):
             join()
             self.assertEqual((shared.sum(), shared.total(), shared.total(-1)), (4000, 4000, shared[-1]))
 
-    def test_what_is_let_go_ends_its_threads(self):
+    def test_what_is_let_go_ends_its_threads(self) -> None:
         before = threading.active_count()
         shared, told = SharedVector(), []
         shared.start_workers(2)
@@ -280,7 +281,7 @@ class Threads(unittest.TestCase):
 
 
 class Page(unittest.TestCase):
-    def test_its_program_prints_what_it_says(self):
+    def test_its_program_prints_what_it_says(self) -> None:
         with open(os.path.join(os.path.dirname(os.path.abspath(__file__)), "README.md"), encoding="utf-8") as file:
             program = re.search(r"^```py\n(.*?)^```$", file.read(), re.M | re.S)[1]
         said = io.StringIO()

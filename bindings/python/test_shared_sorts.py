@@ -8,17 +8,18 @@ import threading
 import time
 import unittest
 from array import array
+from typing import Any
 
 import livevec
 from livevec import Busy, Kind, LongReduced, Queries, Receipt, Sample, Samples, Series, SharedSamples, SharedSeries, SharedVector, Vector
 
 
-def values(notes):
+def values(notes: Any) -> Any:
     return [(note.name, note.edit, note.value) for note in notes]
 
 
 class OfSeries(unittest.TestCase):
-    def test_each_call(self):
+    def test_each_call(self) -> None:
         shared = SharedSeries(Series([4, 5]))
         alerts, late = shared.subscribe({"all": "sum", "front": ("least", 0, 2)}), shared.subscribe({"most": (Kind.GREATEST, 0, None)})
         self.assertEqual((shared.push(6), len(shared), shared[2], shared.edits), (Receipt(3, 2), 3, 6, 3))
@@ -53,7 +54,7 @@ class OfSeries(unittest.TestCase):
         for call in (lambda: shared.push(1), lambda: len(shared), lambda: shared.subscribe({}), lambda: shared.sum()):
             self.assertRaises(livevec.Closed, call)
 
-    def test_what_can_not_be_watched(self):
+    def test_what_can_not_be_watched(self) -> None:
         shared = SharedSeries()
         for wrong, asked in ((livevec.BadName, {"seventeen letters": "sum"}), (livevec.BadRange, {"back": ("sum", 2, 1)}), (ValueError, {"of": "median"}),
                              (ValueError, {"of": ("sum", -1, 2)}), (livevec.TooMany, {f"q{i}": "sum" for i in range(65)}), (TypeError, {5: "sum"})):
@@ -64,7 +65,7 @@ class OfSeries(unittest.TestCase):
         self.assertRaises(TypeError, SharedSamples, Series())
         self.assertRaises(TypeError, SharedVector, Series())
 
-    def test_threads_push_and_listen(self):
+    def test_threads_push_and_listen(self) -> None:
         shared, told = SharedSeries(), []
         alerts = shared.subscribe({"all": "sum"})
         alerts.pause = 0
@@ -83,7 +84,7 @@ class OfSeries(unittest.TestCase):
 
 
 class OfSamples(unittest.TestCase):
-    def test_each_call(self):
+    def test_each_call(self) -> None:
         with SharedSamples(Samples([0, 12], [20, 22])) as load:
             alerts = load.subscribe({"most": "greatest"})
             self.assertEqual((load.push(61, 30), load.push_many([75, 80], [26, 28]), load.sample(3), load[3]), (Receipt(3, 2), 5, Sample(75, 26), 26))
@@ -96,7 +97,7 @@ class OfSamples(unittest.TestCase):
 
 
 class Renewed(unittest.TestCase):
-    def test_a_vector_of_few_edits_goes_on(self):
+    def test_a_vector_of_few_edits_goes_on(self) -> None:
         shared, queries = SharedVector(Vector(most_buckets=1, most_edits=6, kind="sum")), Queries()
         queries.watch("all", "sum")
         alerts, wanted = shared.subscribe(queries), []
@@ -124,14 +125,14 @@ class Renewed(unittest.TestCase):
         self.assertLessEqual(first.edits, 6)
         self.assertRaises(livevec.Closed, shared.renew)
 
-    def test_it_is_refused_with_nothing_changed(self):
+    def test_it_is_refused_with_nothing_changed(self) -> None:
         shared = SharedVector(Vector([1, 1], most_edits=3))
         shared.push(1)
         shared.renew()
         self.assertEqual((shared.edits, list(shared)), (3, [1, 1, 1]))
         self.assertRaises(livevec.Worn, shared.pop)
 
-    def test_it_answers_by_the_same_table(self):
+    def test_it_answers_by_the_same_table(self) -> None:
         table = [[(state + letter) % 8 for letter in range(4)] for state in range(8)]
         shared = SharedVector(Vector([1, 2, 3], table=table))
         shared.renew()
@@ -147,12 +148,12 @@ class AsAlone(unittest.TestCase):
              ("value_many", "sum", [(0, 3), (2, 8)]), ("to_array", 2, 5), ("least", 3), ("best",))
     CELLS = (("rolling", "greatest", 3), ("scan_inclusive_by", "sum", 2), ("scan_exclusive_by", "least"))
 
-    def forms(self):
+    def forms(self) -> Any:
         yield SharedVector(Vector(self.ELEMENTS)), Vector(self.ELEMENTS)
         yield SharedSeries(Series(self.ELEMENTS)), Series(self.ELEMENTS)
         yield SharedSamples(Samples(self.TIMES, self.ELEMENTS)), Samples(self.TIMES, self.ELEMENTS)
 
-    def test_each_question(self):
+    def test_each_question(self) -> None:
         for shared, alone in self.forms():
             with self.subTest(shared=shared), shared:
                 for name, *given in self.ASKED:
@@ -172,7 +173,7 @@ class AsAlone(unittest.TestCase):
                 self.assertEqual((shared.clear().told, len(shared)), (8, 0))
                 self.assertIsNone(shared.where_least())
 
-    def test_what_one_form_has(self):
+    def test_what_one_form_has(self) -> None:
         vector, series, load = (shared for shared, _ in self.forms())
         self.assertEqual((vector.capacity, vector.summary(0, 3).total), (8, 6))
         vector.append(7)
@@ -185,11 +186,11 @@ class AsAlone(unittest.TestCase):
 
 
 class Ends(unittest.TestCase):
-    def test_a_signal_ends_the_wait_for_a_turn(self):
+    def test_a_signal_ends_the_wait_for_a_turn(self) -> None:
         shared = SharedVector(Vector([1]))
         inside, done = threading.Event(), threading.Event()
 
-        def hold():
+        def hold() -> None:
             with shared.locked():
                 inside.set()
                 done.wait(20)
@@ -210,7 +211,7 @@ class Ends(unittest.TestCase):
         self.assertEqual(shared.close().to_array().tolist(), [1, 3])
         self.assertRaises(livevec.Closed, shared.push, 5)
 
-    def test_a_signal_wakes_who_sleeps(self):
+    def test_a_signal_wakes_who_sleeps(self) -> None:
         alerts = SharedSeries().subscribe({"all": "sum"})
         shared = SharedVector()
         queries = Queries()
@@ -221,7 +222,7 @@ class Ends(unittest.TestCase):
         # what was let go at once has ended
         self.assertRaises(StopIteration, next, alerts)
 
-    def test_what_is_let_go_at_work_ends(self):
+    def test_what_is_let_go_at_work_ends(self) -> None:
         before = threading.active_count()
         for _ in range(100):
             shared = SharedVector(Vector(range(2000)))
@@ -231,7 +232,7 @@ class Ends(unittest.TestCase):
         while threading.active_count() > before:
             time.sleep(0.001)
 
-    def test_a_program_ends_that_closes_nothing(self):
+    def test_a_program_ends_that_closes_nothing(self) -> None:
         program = ("from livevec import SharedVector, SharedSeries, Vector\n"
                    "shared = SharedVector(Vector(range(100000)))\nshared.start_workers(3)\nother = SharedSeries()\nalerts = other.subscribe({'all': 'sum'})\n"
                    "shared.push(1)\nother.push(2)\nprint(alerts.look()[0].value)\n")

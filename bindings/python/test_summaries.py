@@ -2,13 +2,14 @@
 import copy
 import pickle
 import unittest
+from typing import Any
 
 import livevec
 from livevec import Summary, Vector
 from plain import plain_values
 
 
-def forged(summary, place, word):
+def forged(summary: Any, place: Any, word: Any) -> Any:
     """The bytes of a summary with another word in the place of one, and the checksum, FNV-1a, that belongs to them."""
     changed = bytearray(bytes(summary))
     changed[8 * place:8 * place + 8] = word.to_bytes(8, "little")
@@ -19,7 +20,7 @@ def forged(summary, place, word):
 
 
 class Summaries(unittest.TestCase):
-    def test_a_join_is_the_summary_of_the_lists_end_to_end(self):
+    def test_a_join_is_the_summary_of_the_lists_end_to_end(self) -> None:
         numbers = [5, -3, 4, -10, 2, 1 << 40, -7, -(2**63), 2**63 - 1, 300]
         for cut in range(len(numbers) + 1):
             joined = Vector(numbers[:cut]).summary().join(Vector(numbers[cut:]).summary())
@@ -28,7 +29,7 @@ class Summaries(unittest.TestCase):
         one, two, three = Summary(numbers[:2]), Summary(numbers[2:7]), Summary(numbers[7:])
         self.assertEqual((one.join(two).join(three), one.extended(numbers[2:7]).join(three)), (one.join(two.join(three)), Summary(numbers)))
 
-    def test_a_summary_of_a_range_names_its_edit(self):
+    def test_a_summary_of_a_range_names_its_edit(self) -> None:
         v = Vector([4, 6, 9])
         v[1] = -6
         part = v.summary(1)
@@ -42,12 +43,12 @@ class Summaries(unittest.TestCase):
         v.close()
         self.assertRaises(livevec.Closed, v.summary)
 
-    def test_the_empty_one_changes_nothing(self):
+    def test_the_empty_one_changes_nothing(self) -> None:
         nothing, some = Summary(), Summary([7, -7])
         self.assertEqual((nothing.count, nothing.edit, nothing.values), (0, None, (0, None, None, None, (1, 0), tuple(range(8)))))
         self.assertEqual((nothing.join(some), some.join(nothing), nothing.extended([])), (some, some, nothing))
 
-    def test_tables_must_agree(self):
+    def test_tables_must_agree(self) -> None:
         table = [[1, 0, 0, 0]] * 8
         own = Vector([4, 5], table=table).summary()
         self.assertEqual((own.table, own.values.automaton), (((1, 0, 0, 0),) * 8, (0,) * 8))
@@ -56,7 +57,7 @@ class Summaries(unittest.TestCase):
         self.assertRaises(livevec.BadTable, Summary, table=[[8] * 4] * 8)
         self.assertRaises(TypeError, own.join, bytes(own))
 
-    def test_it_goes_by_its_bytes(self):
+    def test_it_goes_by_its_bytes(self) -> None:
         part = Vector(range(9)).summary(2)
         self.assertEqual(len(bytes(part)), livevec.SUMMARY_BYTES)
         self.assertEqual([int.from_bytes(bytes(part)[at:at + 8], "little") for at in range(0, 40, 8)], [1, 7, 1, 9, 35])
@@ -64,7 +65,7 @@ class Summaries(unittest.TestCase):
             self.assertEqual((again, hash(again), again.edit), (part, hash(part), 9))
         self.assertNotEqual(part, Summary(range(2, 9)))
 
-    def test_damaged_bytes_are_refused(self):
+    def test_damaged_bytes_are_refused(self) -> None:
         summary = Summary([4, 6, -3])
         for place in range(livevec.SUMMARY_BYTES):
             changed = bytearray(bytes(summary))
@@ -79,7 +80,7 @@ class Summaries(unittest.TestCase):
         for wrong in (5, "x", None):
             self.assertRaises(TypeError, Summary.from_bytes, wrong)
 
-    def test_more_elements_than_2_to_the_62_are_refused(self):
+    def test_more_elements_than_2_to_the_62_are_refused(self) -> None:
         most = Summary([0])
         for _ in range(62):
             most = most.join(most)

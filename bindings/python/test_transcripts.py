@@ -1,5 +1,6 @@
 """The journal and transcripts. The texts and what an audit says of them are rows of examples/rows."""
 import unittest
+from typing import Any
 
 import livevec
 from livevec import JournalEdit, Kind, Recorded, Vector, Verdict, audit, audit_front, journal, restore, transcript
@@ -17,13 +18,13 @@ end
 """
 
 
-def asked(vector, kind, lo=0, hi=None):
+def asked(vector: Any, kind: Any, lo: Any = 0, hi: Any = None) -> Any:
     """An answer as it is recorded."""
     return Recorded(vector.edits, kind, lo, len(vector) if hi is None else hi, vector.value(kind, lo, hi))
 
 
 class Journals(unittest.TestCase):
-    def test_each_edit(self):
+    def test_each_edit(self) -> None:
         vector = Vector([-4, 6])
         vector[1] = -(1 << 63)
         vector.swap(0, 1)
@@ -38,7 +39,7 @@ class Journals(unittest.TestCase):
         with self.assertRaises(OverflowError):
             journal(vector, -1)
 
-    def test_many(self):
+    def test_many(self) -> None:
         vector = Vector(range(10_000))
         self.assertEqual([it.value for it in journal(vector)], list(range(10_000)))
         vector.close()
@@ -47,7 +48,7 @@ class Journals(unittest.TestCase):
 
 
 class Texts(unittest.TestCase):
-    def test_each_kind(self):
+    def test_each_kind(self) -> None:
         vector = Vector([513])
         answers = [asked(vector, Kind.SUM)]
         vector.push(768)
@@ -60,7 +61,7 @@ class Texts(unittest.TestCase):
         with self.assertRaises(livevec.NotInOrder):
             transcript(vector, answers[::-1])
 
-    def test_wide_and_none(self):
+    def test_wide_and_none(self) -> None:
         vector = Vector()
         none = [asked(vector, kind) for kind in ("least", "greatest", "best")]
         vector.extend([-5, (1 << 63) - 1, (1 << 63) - 1])
@@ -69,17 +70,17 @@ class Texts(unittest.TestCase):
         self.assertIn("a 0 best 0 0 none\na 3 best 0 3 18446744073709551614\na 3 best 0 1 -5\na 3 sum 0 1 18446744073709551611\n", text)
         self.assertTrue(audit(text))
 
-    def test_nothing(self):
+    def test_nothing(self) -> None:
         self.assertEqual(transcript(Vector()), "livevec 1\nend\n")
 
 
 class Audits(unittest.TestCase):
-    def test_transcripts(self):
+    def test_transcripts(self) -> None:
         self.assertEqual(audit(b"livevec 1\nj pop\nnonsense\n"), Verdict("no", 2))
         self.assertEqual(audit("livevec 1\nj push 5\na 1 sum 0 1 5\nj push 6\nend\n"), Verdict("bad", 4))
         self.assertFalse(audit(""))
 
-    def test_fronts(self):
+    def test_fronts(self) -> None:
         self.assertEqual(audit_front("livev"), Verdict("yes"))
         self.assertEqual(audit_front("livevec 1\nj push 5\na 1 sum 0 1 5\nj push 6\na 2 sum 0 2 11\na 2 least 0 2 5\nend\n"), Verdict("yes", 0, 2, 3))
         self.assertEqual(audit_front("livevec 1\nj push 5\na 1 sum 0 1 6\nj push 6\n"), Verdict("no", 3))
@@ -87,19 +88,19 @@ class Audits(unittest.TestCase):
 
 
 class Restores(unittest.TestCase):
-    def test_goes_on(self):
+    def test_goes_on(self) -> None:
         vector = restore("livevec 1\nj push 5\na 1 sum 0 1 5\nj push 6\na 2 su")
         self.assertEqual((vector.push(9), vector.edits, vector.sum()), (2, 3, 20))
         self.assertEqual(restore(transcript(vector)), vector)
         self.assertEqual(vector.copy(), vector)
 
-    def test_of_one_kind(self):
+    def test_of_one_kind(self) -> None:
         vector = restore(SOUND, kind="least")
         self.assertEqual((vector.kind, vector.least()), (Kind.LEAST, 513))
         with self.assertRaises(livevec.BadKind):
             vector.sum()
 
-    def test_refusals(self):
+    def test_refusals(self) -> None:
         with self.assertRaises(livevec.NoFront) as caught:
             restore("livevec 1\nj push 5\nj pop\nj pop\n")
         self.assertEqual(caught.exception.verdict, Verdict("no", 4))

@@ -10,6 +10,7 @@ import subprocess
 import sys
 import time
 from urllib.parse import urlsplit
+from typing import Any
 
 HERE = os.path.dirname(os.path.abspath(__file__))
 SECONDS = 30
@@ -18,10 +19,10 @@ SECONDS = 30
 class Page:
     """What the page makes of frames, in few words: columns and numbers of each chart, and the standing queries' answers."""
 
-    def __init__(self):
+    def __init__(self) -> None:
         self.names, self.columns, self.charts, self.watches, self.stream, self.sent = [], {}, {}, {}, {}, 0
 
-    def take(self, frame):
+    def take(self, frame: Any) -> None:
         self.names += frame.get("names", [])
         self.stream = frame.get("stream", self.stream)
         for chart in frame.get("charts", []):
@@ -37,7 +38,7 @@ class Page:
 class Client:
     """A viewer without a browser."""
 
-    def __init__(self, url, receive=None):
+    def __init__(self, url: Any, receive: Any = None) -> None:
         self.host = urlsplit(url).netloc
         name, port = self.host.split(":")
         self.socket = socket.socket()
@@ -51,7 +52,7 @@ class Client:
         while self.file.readline().strip():
             pass
 
-    def next(self):
+    def next(self) -> Any:
         """The next event's kind and data."""
         lines = []
         while True:
@@ -62,16 +63,16 @@ class Client:
                 return lines[0].split(b": ", 1)[1].decode().strip(), json.loads(lines[1].split(b": ", 1)[1])
             lines.append(line)
 
-    def hello(self):
+    def hello(self) -> Any:
         kind, data = self.next()
         assert kind == "hello"
         self.key = data["viewer"]
         return self
 
-    def look(self, view, **how):
+    def look(self, view: Any, **how: Any) -> Any:
         return ask(self.host, "POST", f"/view?{self.key}", json.dumps(view), **how)
 
-    def until(self, done):
+    def until(self, done: Any) -> Any:
         """Takes frames until something is so."""
         end = time.monotonic() + SECONDS
         while not done(self.page):
@@ -82,12 +83,12 @@ class Client:
                 raise TimeoutError
         return self.page
 
-    def close(self):
+    def close(self) -> None:
         self.file.close()
         self.socket.close()
 
 
-def ask(host, method, path, body=None, **headers):
+def ask(host: Any, method: Any, path: Any, body: Any = None, **headers: Any) -> Any:
     """The status of a request."""
     asked = http.client.HTTPConnection(host, timeout=SECONDS)
     given = {"Content-Type": "application/json"} if method == "POST" else {}
@@ -99,7 +100,7 @@ def ask(host, method, path, body=None, **headers):
 
 
 @contextlib.contextmanager
-def dashboard(*arguments):
+def dashboard(*arguments: Any) -> Any:
     """The command, which reads from a pipe; gives the pipe and where it serves."""
     process = subprocess.Popen([sys.executable, "-m", "livevec_dashboard", "-", "--port", "0", *arguments], cwd=HERE, stdin=subprocess.PIPE, stderr=subprocess.PIPE)
     try:

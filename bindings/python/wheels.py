@@ -8,6 +8,7 @@ import io
 import pathlib
 import tarfile
 import zipfile
+from typing import Any
 
 HERE = pathlib.Path(__file__).resolve().parent
 PACKAGES = "livevec", "livevec_dashboard"
@@ -33,31 +34,31 @@ Tag: {tag}
 """
 
 
-def said(name, file):
+def said(name: Any, file: Any) -> Any:
     """What a line of a file says of a name, between quotes."""
     return next(line.split('"')[1] for line in (HERE / file).read_text().splitlines() if line.startswith(f"{name} = "))
 
 
-def version():
+def version() -> Any:
     return said("__version__", "livevec/__init__.py")
 
 
-def modules():
+def modules() -> Any:
     """The files of the package by the names that they have in a wheel."""
     packaged = (file for package in PACKAGES for file in sorted((HERE / package).iterdir()) if file.suffix in BROUGHT)
     return {str(file.relative_to(HERE)): file.read_bytes() for file in (HERE / "livevec_mpi.py", *packaged)}
 
 
-def metadata():
+def metadata() -> Any:
     return METADATA.format(version=version(), summary=said("description", "pyproject.toml"), page=(HERE / "README.md").read_text()).encode()
 
 
-def row(name, content):
+def row(name: Any, content: Any) -> Any:
     digest = base64.urlsafe_b64encode(hashlib.sha256(content).digest()).rstrip(b"=").decode()
     return f"{name},sha256={digest},{len(content)}\n"
 
 
-def write(folder, tag, files):
+def write(folder: Any, tag: Any, files: Any) -> Any:
     """Writes a wheel of some files, and tells its name."""
     about, name = f"livevec-{version()}.dist-info", f"livevec-{version()}-{tag}.whl"
     files = {
@@ -78,15 +79,15 @@ def write(folder, tag, files):
 # What pip calls.
 
 
-def build_wheel(wheel_directory, config_settings=None, metadata_directory=None):
+def build_wheel(wheel_directory: Any, config_settings: Any = None, metadata_directory: Any = None) -> Any:
     return write(wheel_directory, "py3-none-any", modules())
 
 
-def build_editable(wheel_directory, config_settings=None, metadata_directory=None):
+def build_editable(wheel_directory: Any, config_settings: Any = None, metadata_directory: Any = None) -> Any:
     return write(wheel_directory, "py3-none-any", {"livevec_here.pth": f"{HERE}\n".encode()})
 
 
-def build_sdist(sdist_directory, config_settings=None):
+def build_sdist(sdist_directory: Any, config_settings: Any = None) -> Any:
     named = f"livevec-{version()}"
     beside = {name: (HERE / name).read_bytes() for name in ("README.md", "pyproject.toml", "wheels.py")}
     with tarfile.open(pathlib.Path(sdist_directory) / f"{named}.tar.gz", "w:gz") as packed:

@@ -7,13 +7,14 @@ usage: alerts.py
 """
 import queue
 import threading
+from typing import Any
 
 from livevec import Kind, Queries, SharedVector, Vector
 
 RACKS, SENSORS, HOURS, HOT = 4, 250, 8, 90
 
 
-def feed(shared, rack, hour):
+def feed(shared: Any, rack: Any, hour: Any) -> None:
     """What a rack's sensors measure in an hour: now and then something hot."""
     state = 1 + rack + RACKS * hour
     for sensor in range(rack * SENSORS, (rack + 1) * SENSORS):
@@ -21,7 +22,7 @@ def feed(shared, rack, hour):
         shared[sensor] = 40 + (state >> 33) % 41 + (50 if (state >> 40) % 600 == 0 else 0)
 
 
-def racks():
+def racks() -> Any:
     """The greatest of each rack, by its name."""
     queries = Queries()
     for rack in range(RACKS):
@@ -29,7 +30,7 @@ def racks():
     return queries
 
 
-def listen(news, alarms):
+def listen(news: Any, alarms: Any) -> None:
     """Sends a rack's name whenever it gets hot, or calm again."""
     hot, last = {}, 0
     for notes in news:
@@ -42,7 +43,7 @@ def listen(news, alarms):
             hot[note.name] = is_hot
 
 
-def measure(shared, hour):
+def measure(shared: Any, hour: Any) -> None:
     """All racks feed at once."""
     feeders = [threading.Thread(target=feed, args=(shared, rack, hour)) for rack in range(RACKS)]
     for feeder in feeders:
@@ -51,7 +52,7 @@ def measure(shared, hour):
         feeder.join()
 
 
-def cool(shared, rack):
+def cool(shared: Any, rack: Any) -> Any:
     """Cools what is too hot in a rack, sensor by sensor, under one lock; tells how many there were."""
     cooled = 0
     with shared.locked() as sensors:
@@ -63,7 +64,7 @@ def cool(shared, rack):
             cooled += 1
 
 
-def main():
+def main() -> None:
     with SharedVector(Vector([50] * (RACKS * SENSORS))) as shared:
         shared.start_workers(2)
         alarms = queue.Queue()

@@ -1,5 +1,6 @@
 """What the rolling windows of rolling.py and rolling_plain.py are of: batches of rows for a data frame, with late corrections; and what is printed."""
 import random
+from typing import Any
 
 import pandas
 
@@ -7,7 +8,7 @@ BATCHES, ROWS, LATE = 300, 40, 6
 HOUR = 3600
 
 
-def run(windows):
+def run(windows: Any) -> None:
     """Hands batches of rows to what keeps windows, which gives each batch back with its windows; prints what they came to."""
     chance, now, size, alerts = random.Random(4), 0, 0, 0
     for number in range(BATCHES):

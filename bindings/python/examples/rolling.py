@@ -7,19 +7,20 @@ usage: rolling.py
 """
 import feed
 from livevec import Samples
+from typing import Any
 
 
 class Windows:
-    def __init__(self):
+    def __init__(self) -> None:
         self.loads = Samples()
 
-    def take(self, rows):
+    def take(self, rows: Any) -> Any:
         start = self.loads.size
         self.loads.push_many(rows["time"], rows["load"])
         kinds = {"hour": "sum", "peak": "greatest", "lowest": "least"}
         return rows.assign(**{name: self.loads.rolling_span(kind, feed.HOUR, start).cells for name, kind in kinds.items()})
 
-    def correct(self, row, load):
+    def correct(self, row: Any, load: Any) -> None:
         self.loads[row] = load
 
 

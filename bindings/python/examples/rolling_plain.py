@@ -5,13 +5,14 @@ usage: rolling_plain.py
 """
 import feed
 import pandas
+from typing import Any
 
 
 class Windows:
-    def __init__(self):
+    def __init__(self) -> None:
         self.frame = pandas.DataFrame({"time": [], "load": []}, dtype="int64")
 
-    def take(self, rows):
+    def take(self, rows: Any) -> Any:
         self.frame = pandas.concat([self.frame, rows], ignore_index=True)
         since = self.frame["time"].searchsorted(rows["time"].iloc[0] - feed.HOUR, side="right")
         hour = self.frame.iloc[since:]
@@ -19,7 +20,7 @@ class Windows:
         windows = {"hour": rolled.sum(), "peak": rolled.max(), "lowest": rolled.min()}
         return rows.assign(**{name: column.tail(len(rows)).astype("int64").to_numpy() for name, column in windows.items()})
 
-    def correct(self, row, load):
+    def correct(self, row: Any, load: Any) -> None:
         self.frame.loc[row, "load"] = load
 
 
