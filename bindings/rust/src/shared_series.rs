@@ -54,7 +54,7 @@ impl Watched {
         Ok(Watched { name: padded, kind, lo: within(lo), hi: within(hi), bound: None, told: Value::of_none(kind) })
     }
 
-    /// The same, told only when the answer begins or ceases to be at least `bound`. No answer, as the least of no elements, a map or states, is.
+    /// The same, told only when the answer begins or ceases to be at least `bound`. The least of no elements, a map and states never are.
     ///
     /// ```
     /// use livevec::{Kind, Samples, Shared, Value, Watched};
@@ -62,14 +62,14 @@ impl Watched {
     /// # fn main() -> Result<(), livevec::Refusal> {
     /// let load = Shared::new(Samples::new()?);
     /// let mut hot = load.subscribe(vec![Watched::new("hot", Kind::Greatest, ..)?.at_least(90)])?;
-    /// let mut heard = |time, value| {
+    /// let mut told = Vec::new();
+    /// for (time, value) in [(0, 40), (30, 95), (60, 99), (119, 70), (121, 60)] {
     ///     load.push(time, value)?;
     ///     load.expire_before(time - 60)?;
-    ///     Ok(hot.look()?.first().map(|note| note.value))
-    /// };
-    /// let told = [(0, 40), (30, 95), (60, 99), (119, 70), (121, 60)].map(|(time, value)| heard(time, value));
-    /// assert_eq!(told, [Ok(None), Ok(Some(Value::Greatest(Some(95)))), Ok(None), Ok(None), Ok(Some(Value::Greatest(Some(70))))]);
-    /// # Ok::<(), livevec::Refusal>(())
+    ///     told.extend(hot.look()?.iter().map(|note| (time, note.value)));
+    /// }
+    /// assert_eq!(told, [(30, Value::Greatest(Some(95))), (121, Value::Greatest(Some(70)))]);
+    /// # Ok(())
     /// # }
     /// ```
     pub fn at_least(self, bound: i64) -> Watched {

@@ -99,7 +99,7 @@ fn many_are_refused_by_the_first_that_is() {
     assert_eq!(vector.write_many(&[0, 9, 1], &[7, 7, 7]), Err(RefusedAt { place: 1, done: 0, refusal: size }));
     assert_eq!((vector.to_vec().unwrap(), vector.edits()), (vec![3, 1, 2], 3));
     assert_eq!(vector.write_many(&[0, 1], &[5]).unwrap_err().refusal, Refusal::ShortBuffer { wanted: 2 });
-    assert_eq!((vector.write_many(&[0, 0], &[5, 6]), vector.write_many(&[], &[])), (Ok(5), Ok(5)));
+    assert_eq!((vector.write_many(&[0, 0], &[5, 6]), vector.write_many::<u32>(&[], &[])), (Ok(5), Ok(5)));
     let worn = vector.write_many(&[0, 1], &[7, 7]).unwrap_err();
     assert_eq!(
         (worn, worn.to_string()),
