@@ -114,15 +114,6 @@ impl<V: Source> fmt::Debug for Through<V> {
     }
 }
 
-impl<'a> IntoIterator for &'a Vector {
-    type Item = i64;
-    type IntoIter = Elements<'a>;
-
-    fn into_iter(self) -> Elements<'a> {
-        self.iter()
-    }
-}
-
 impl IntoIterator for Vector {
     type Item = i64;
     type IntoIter = IntoElements;

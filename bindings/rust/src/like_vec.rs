@@ -1,6 +1,6 @@
 //! What a vector has as `std`'s `Vec` has it, where it can: made of elements, emptied, cloned, compared.
 
-use crate::{Refusal, RefusedAt, Truncated, Vector};
+use crate::{Refusal, Truncated, Vector};
 
 /// Made of elements, and into them again.
 impl Vector {
@@ -68,98 +68,111 @@ impl Vector {
     }
 }
 
-/// What an extension that can't be refused says of a refusal.
-fn pushed(answer: Result<u32, RefusedAt>) {
-    if let Err(refused) = answer {
-        panic!("{refused}");
-    }
+/// What `Vec` has and panics, where a call of the type's own says why it is refused; and what compares elements.
+macro_rules! is_like_vec {
+    ($of:ident, $equal:literal) => {
+        /// Panics if an element is refused, or there is no memory, as `Vec` does. `try_extend` never panics.
+        impl Extend<i64> for $of {
+            fn extend<I: IntoIterator<Item = i64>>(&mut self, values: I) {
+                if let Err(refused) = self.try_extend(values) {
+                    panic!("{refused}");
+                }
+            }
+        }
+
+        /// Panics if an element is refused, or there is no memory, as `Vec` does. `extend_from_slice` never panics.
+        impl<'a> Extend<&'a i64> for $of {
+            fn extend<I: IntoIterator<Item = &'a i64>>(&mut self, values: I) {
+                self.extend(values.into_iter().copied());
+            }
+        }
+
+        /// Panics if an element is refused, or there is no memory, as `Vec` does. `try_from_iter` never panics.
+        impl FromIterator<i64> for $of {
+            fn from_iter<I: IntoIterator<Item = i64>>(values: I) -> $of {
+                $of::try_from_iter(values).unwrap_or_else(|refusal| panic!("{refusal}"))
+            }
+        }
+
+        /// Panics as that of `i64`. `TryFrom` of a slice never panics.
+        impl<'a> FromIterator<&'a i64> for $of {
+            fn from_iter<I: IntoIterator<Item = &'a i64>>(values: I) -> $of {
+                values.into_iter().copied().collect()
+            }
+        }
+
+        /// Refused with `Full` (of a vector), `NoMemory`, where nothing is left.
+        impl TryFrom<&[i64]> for $of {
+            type Error = crate::Refusal;
+
+            fn try_from(values: &[i64]) -> Result<$of, crate::Refusal> {
+                let mut made = $of::new()?;
+                made.extend_from_slice(values)?;
+                Ok(made)
+            }
+        }
+
+        impl<const LENGTH: usize> TryFrom<&[i64; LENGTH]> for $of {
+            type Error = crate::Refusal;
+
+            fn try_from(values: &[i64; LENGTH]) -> Result<$of, crate::Refusal> {
+                $of::try_from(values.as_slice())
+            }
+        }
+
+        impl<const LENGTH: usize> TryFrom<[i64; LENGTH]> for $of {
+            type Error = crate::Refusal;
+
+            fn try_from(values: [i64; LENGTH]) -> Result<$of, crate::Refusal> {
+                $of::try_from(values.as_slice())
+            }
+        }
+
+        impl TryFrom<Vec<i64>> for $of {
+            type Error = crate::Refusal;
+
+            fn try_from(values: Vec<i64>) -> Result<$of, crate::Refusal> {
+                $of::try_from(values.as_slice())
+            }
+        }
+
+        impl<'a> IntoIterator for &'a $of {
+            type Item = i64;
+            type IntoIter = crate::Through<&'a $of>;
+
+            fn into_iter(self) -> crate::Through<&'a $of> {
+                self.iter()
+            }
+        }
+
+        #[doc = $equal]
+        impl PartialEq for $of {
+            fn eq(&self, other: &$of) -> bool {
+                self.len() == other.len() && self.iter().eq(other)
+            }
+        }
+
+        impl Eq for $of {}
+
+        impl PartialEq<[i64]> for $of {
+            fn eq(&self, other: &[i64]) -> bool {
+                u64::from(self.len()) == other.len() as u64 && self.iter().eq(other.iter().copied())
+            }
+        }
+
+        impl<const LENGTH: usize> PartialEq<[i64; LENGTH]> for $of {
+            fn eq(&self, other: &[i64; LENGTH]) -> bool {
+                *self == other[..]
+            }
+        }
+
+        impl PartialEq<Vec<i64>> for $of {
+            fn eq(&self, other: &Vec<i64>) -> bool {
+                *self == other[..]
+            }
+        }
+    };
 }
+pub(crate) use is_like_vec;
 
-/// Panics where an element is refused, as `Vec` does where it has no room. [`try_extend`](Vector::try_extend) never panics.
-impl Extend<i64> for Vector {
-    fn extend<I: IntoIterator<Item = i64>>(&mut self, values: I) {
-        pushed(self.try_extend(values));
-    }
-}
-
-/// Panics where an element is refused, as `Vec` does where it has no room. [`extend_from_slice`](Vector::extend_from_slice) never panics.
-impl<'a> Extend<&'a i64> for Vector {
-    fn extend<I: IntoIterator<Item = &'a i64>>(&mut self, values: I) {
-        pushed(self.try_extend(values.into_iter().copied()));
-    }
-}
-
-/// Panics where the vector or an element is refused. [`try_from_iter`](Vector::try_from_iter) never panics.
-impl FromIterator<i64> for Vector {
-    fn from_iter<I: IntoIterator<Item = i64>>(values: I) -> Vector {
-        Vector::try_from_iter(values).unwrap_or_else(|refusal| panic!("{refusal}"))
-    }
-}
-
-impl<'a> FromIterator<&'a i64> for Vector {
-    fn from_iter<I: IntoIterator<Item = &'a i64>>(values: I) -> Vector {
-        values.into_iter().copied().collect()
-    }
-}
-
-/// Refused with `Full`, `NoMemory`, where nothing is left.
-impl TryFrom<&[i64]> for Vector {
-    type Error = Refusal;
-
-    fn try_from(values: &[i64]) -> Result<Vector, Refusal> {
-        let mut made = Vector::new()?;
-        made.extend_from_slice(values)?;
-        Ok(made)
-    }
-}
-
-impl<const LENGTH: usize> TryFrom<&[i64; LENGTH]> for Vector {
-    type Error = Refusal;
-
-    fn try_from(values: &[i64; LENGTH]) -> Result<Vector, Refusal> {
-        Vector::try_from(values.as_slice())
-    }
-}
-
-impl<const LENGTH: usize> TryFrom<[i64; LENGTH]> for Vector {
-    type Error = Refusal;
-
-    fn try_from(values: [i64; LENGTH]) -> Result<Vector, Refusal> {
-        Vector::try_from(values.as_slice())
-    }
-}
-
-impl TryFrom<Vec<i64>> for Vector {
-    type Error = Refusal;
-
-    fn try_from(values: Vec<i64>) -> Result<Vector, Refusal> {
-        Vector::try_from(values.as_slice())
-    }
-}
-
-/// By elements: limits, edits and tables may differ. Linear.
-impl PartialEq for Vector {
-    fn eq(&self, other: &Vector) -> bool {
-        self.len() == other.len() && self.iter().eq(other)
-    }
-}
-
-impl Eq for Vector {}
-
-impl PartialEq<[i64]> for Vector {
-    fn eq(&self, other: &[i64]) -> bool {
-        self.len() as usize == other.len() && self.iter().eq(other.iter().copied())
-    }
-}
-
-impl<const LENGTH: usize> PartialEq<[i64; LENGTH]> for Vector {
-    fn eq(&self, other: &[i64; LENGTH]) -> bool {
-        *self == other[..]
-    }
-}
-
-impl PartialEq<Vec<i64>> for Vector {
-    fn eq(&self, other: &Vec<i64>) -> bool {
-        *self == other[..]
-    }
-}
+is_like_vec!(Vector, "By elements: limits, edits and tables may differ. Linear.");

@@ -2,6 +2,7 @@
 
 use crate::elements::Through;
 use crate::indices::Indices;
+use crate::like_vec::is_like_vec;
 use crate::series::{Dropped, Elements, IntoElements};
 use crate::{Refusal, RefusedAt, Series, raw};
 
@@ -93,84 +94,7 @@ impl Series {
     }
 }
 
-/// What an extension that can't be refused says of a refusal.
-fn pushed(answer: Result<u64, RefusedAt>) {
-    if let Err(refused) = answer {
-        panic!("{refused}");
-    }
-}
-
-/// Panics where memory is wanting, as `Vec` does. [`try_extend`](Series::try_extend) never panics.
-impl Extend<i64> for Series {
-    fn extend<I: IntoIterator<Item = i64>>(&mut self, values: I) {
-        pushed(self.try_extend(values));
-    }
-}
-
-/// Panics where memory is wanting, as `Vec` does. [`extend_from_slice`](Series::extend_from_slice) never panics.
-impl<'a> Extend<&'a i64> for Series {
-    fn extend<I: IntoIterator<Item = &'a i64>>(&mut self, values: I) {
-        pushed(self.try_extend(values.into_iter().copied()));
-    }
-}
-
-/// Panics where memory is wanting, as `Vec` does. [`try_from_iter`](Series::try_from_iter) never panics.
-impl FromIterator<i64> for Series {
-    fn from_iter<I: IntoIterator<Item = i64>>(values: I) -> Series {
-        Series::try_from_iter(values).unwrap_or_else(|refusal| panic!("{refusal}"))
-    }
-}
-
-/// Panics where memory is wanting, as `Vec` does. `TryFrom` of a slice never panics.
-impl<'a> FromIterator<&'a i64> for Series {
-    fn from_iter<I: IntoIterator<Item = &'a i64>>(values: I) -> Series {
-        values.into_iter().copied().collect()
-    }
-}
-
-/// Refused with `NoMemory`.
-impl TryFrom<&[i64]> for Series {
-    type Error = Refusal;
-
-    fn try_from(values: &[i64]) -> Result<Series, Refusal> {
-        let mut made = Series::new()?;
-        made.extend_from_slice(values)?;
-        Ok(made)
-    }
-}
-
-impl<const LENGTH: usize> TryFrom<&[i64; LENGTH]> for Series {
-    type Error = Refusal;
-
-    fn try_from(values: &[i64; LENGTH]) -> Result<Series, Refusal> {
-        Series::try_from(values.as_slice())
-    }
-}
-
-impl<const LENGTH: usize> TryFrom<[i64; LENGTH]> for Series {
-    type Error = Refusal;
-
-    fn try_from(values: [i64; LENGTH]) -> Result<Series, Refusal> {
-        Series::try_from(values.as_slice())
-    }
-}
-
-impl TryFrom<Vec<i64>> for Series {
-    type Error = Refusal;
-
-    fn try_from(values: Vec<i64>) -> Result<Series, Refusal> {
-        Series::try_from(values.as_slice())
-    }
-}
-
-impl<'a> IntoIterator for &'a Series {
-    type Item = i64;
-    type IntoIter = Elements<'a>;
-
-    fn into_iter(self) -> Elements<'a> {
-        self.iter()
-    }
-}
+is_like_vec!(Series, "By elements: their indices, and edits, may differ. Linear.");
 
 impl IntoIterator for Series {
     type Item = i64;
@@ -179,32 +103,5 @@ impl IntoIterator for Series {
     fn into_iter(self) -> IntoElements {
         let (first, size) = (self.first(), self.size());
         Through::new(self, first, size)
-    }
-}
-
-/// By elements: their indices, and edits, may differ. Linear.
-impl PartialEq for Series {
-    fn eq(&self, other: &Series) -> bool {
-        self.len() == other.len() && self.iter().eq(other)
-    }
-}
-
-impl Eq for Series {}
-
-impl PartialEq<[i64]> for Series {
-    fn eq(&self, other: &[i64]) -> bool {
-        self.len() == other.len() as u64 && self.iter().eq(other.iter().copied())
-    }
-}
-
-impl<const LENGTH: usize> PartialEq<[i64; LENGTH]> for Series {
-    fn eq(&self, other: &[i64; LENGTH]) -> bool {
-        *self == other[..]
-    }
-}
-
-impl PartialEq<Vec<i64>> for Series {
-    fn eq(&self, other: &Vec<i64>) -> bool {
-        *self == other[..]
     }
 }
