@@ -203,9 +203,9 @@ class element_iterator {
 /** The digits of an integer of 128 bits, which no stream prints. */
 inline std::string to_string(int128 number)
 {
+    __extension__ typedef unsigned __int128 from_zero;
     std::string digits;
-    __extension__ unsigned __int128 rest = number;
-    for (rest = number < 0 ? -rest : rest; rest || digits.empty(); rest /= 10)
+    for (from_zero rest = number < 0 ? -static_cast<from_zero>(number) : static_cast<from_zero>(number); rest || digits.empty(); rest /= 10)
         digits.insert(digits.begin(), static_cast<char>('0' + static_cast<int>(rest % 10)));
     return number < 0 ? '-' + digits : digits;
 }
