@@ -186,6 +186,10 @@ class AsAlone(unittest.TestCase):
 
 
 class Ends(unittest.TestCase):
+    def setUp(self) -> None:
+        # one that is started in the background ignores it
+        self.addCleanup(signal.signal, signal.SIGINT, signal.signal(signal.SIGINT, signal.default_int_handler))
+
     def test_a_signal_ends_the_wait_for_a_turn(self) -> None:
         shared = SharedVector(Vector([1]))
         inside, done = threading.Event(), threading.Event()
