@@ -3,6 +3,7 @@ mod common;
 mod desks;
 mod failing_streams;
 mod held_jobs;
+mod held_logs;
 mod held_scans;
 mod late_workers;
 mod sessions;

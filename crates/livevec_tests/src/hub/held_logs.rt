@@ -1,0 +1,286 @@
+//! Tests that a hub's lock is free while the file of its log is written, and that no reply goes out before what it tells is there.
+ghost use Rattle.std.specs.Prelude.{◌≡◌, None, Some};
+
+use super::common::*;
+use crate::same::assert_same;
+use lv_bodies::Six;
+use lv_geometry::Limits;
+use lv_hub::*;
+use lv_script::{Claimed, Fault};
+use std::alloc::Global;
+use std::io::{Read, Write};
+use std::marker::Brand;
+use std::process::Abort;
+use std::sync::atomic::{AtomicBool, Ordering};
+use std::sync::ledger::Blank;
+use std::sync::{Mutex, Wait};
+use std::test::Fail;
+use std::thread::Threads;
+use std::{io, thread};
+
+// Where the first write of a log's file stands, until another session was answered. Whether a write has ended, and whether a reply to
+// what it records came first.
+#[derive(Drop)]
+struct Stage {
+    latch: Latch,
+    written: AtomicBool,
+    early: AtomicBool,
+}
+
+impl Stage {
+    fn new() -> Stage {
+        Stage {
+            latch: Latch::new(),
+            written: AtomicBool::new(false),
+            early: AtomicBool::new(false),
+        }
+    }
+
+    // Whether no wait took too long, and whether a reply came too early.
+    fn was_kept(&self) -> (bool, bool) {
+        (self.latch.was_in_time(), self.early.load(Ordering::SeqCst))
+    }
+}
+
+// The file of a log, whose first write stands until it is released.
+#[derive(Drop)]
+struct HeldFile<'a> {
+    stage: &'a Stage,
+    bytes: Vec<u8>,
+}
+
+impl Write for HeldFile<'_> {
+    fn write(&mut self, buf: &[u8]) -> io::Result<usize> {
+        self.stage.latch.stand();
+        let written = self.bytes.write(buf);
+        self.stage.written.store(true, Ordering::SeqCst);
+        written
+    }
+
+    fn flush(&mut self) -> io::Result<()> {
+        Ok(())
+    }
+}
+
+// The replies of the session whose edit is recorded. Notes whether they come before the file was written.
+#[derive(Drop)]
+struct LateReplies<'a> {
+    stage: &'a Stage,
+    bytes: Vec<u8>,
+}
+
+impl Write for LateReplies<'_> {
+    fn write(&mut self, buf: &[u8]) -> io::Result<usize> {
+        if !self.stage.written.load(Ordering::SeqCst) {
+            self.stage.early.store(true, Ordering::SeqCst);
+        }
+        self.bytes.write(buf)
+    }
+
+    fn flush(&mut self) -> io::Result<()> {
+        Ok(())
+    }
+}
+
+// Lines that come once the file's first write stands.
+#[derive(Drop)]
+struct LateLines<'a> {
+    stage: &'a Stage,
+    rest: &'static [u8],
+}
+
+impl Read for LateLines<'_> {
+    fn read(&mut self, buf: &mut [u8]) -> io::Result<usize> {
+        self.stage.latch.wait_for_it();
+        self.rest.read(buf)
+    }
+}
+
+// Replies that release the file's write.
+#[derive(Drop)]
+struct ReleasingReplies<'a> {
+    stage: &'a Stage,
+    bytes: Vec<u8>,
+}
+
+impl Write for ReleasingReplies<'_> {
+    fn write(&mut self, buf: &[u8]) -> io::Result<usize> {
+        let written = self.bytes.write(buf);
+        self.stage.latch.release();
+        written
+    }
+
+    fn flush(&mut self) -> io::Result<()> {
+        Ok(())
+    }
+}
+
+// How a session ends, and its replies.
+type Heard = (Result<Vec<Claimed>, Fault>, Vec<u8>);
+
+// Sees that a session answered no reduction, and what it replied.
+fn assert_heard(rt: &impl Abort, heard: Heard, replies: &[u8]) {
+    let (ended, bytes) = heard;
+    assert_same(rt, &ended.map(|answers| answers.len()), &Ok(0));
+    assert_same(rt, &bytes.as_slice(), &replies);
+}
+
+// Holds a session that pushes, on a share of its own, which it hands back.
+fn hold_pushing<N: WithBody<Six>, K: Begun, R: Wait>(
+    rt: &R,
+    alloc: Global,
+    hub: &Hub<Six, N>,
+    log: &Mutex<OperationLog<N, HeldFile<'_>, K>>,
+    share: Share<N>,
+    stage: &Stage,
+) -> (Share<N>, Heard)
+    ensures { result.0.parts ≡ share.parts }
+{
+    let mut share = share;
+    let mut reader = b"push 5\n".as_slice();
+    let mut replies = LateReplies {
+        stage,
+        bytes: Vec::new(alloc),
+    };
+    let place = SessionPlace {
+        rt,
+        hub,
+        alloc,
+        most: usize::MAX,
+    };
+    let ended = run_session(place, log, &mut share, &mut reader, &mut replies);
+    (share, (ended, replies.bytes))
+}
+
+// Holds a session that scans while the file is written, on a share of its own, which it hands back. A scan isn't recorded.
+fn hold_scanning<N: WithBody<Six>, K: Begun, R: Wait>(
+    rt: &R,
+    alloc: Global,
+    hub: &Hub<Six, N>,
+    log: &Mutex<OperationLog<N, HeldFile<'_>, K>>,
+    share: Share<N>,
+    stage: &Stage,
+) -> (Share<N>, Heard)
+    ensures { result.0.parts ≡ share.parts }
+{
+    let mut share = share;
+    let mut reader = LateLines {
+        stage,
+        rest: b"inc sum 0 1\n",
+    };
+    let mut replies = ReleasingReplies {
+        stage,
+        bytes: Vec::new(alloc),
+    };
+    let place = SessionPlace {
+        rt,
+        hub,
+        alloc,
+        most: usize::MAX,
+    };
+    let ended = run_session(place, log, &mut share, &mut reader, &mut replies);
+    (share, (ended, replies.bytes))
+}
+
+// Holds both, each in a thread of its own; both shares together are handed back.
+fn hold_two<N: WithBody<Six> + Send + Sync, K: Begun + Send + Sync, R: Threads + Wait + Sync>(
+    rt: &R,
+    alloc: Global,
+    hub: &Hub<Six, N>,
+    log: &Mutex<OperationLog<N, HeldFile<'_>, K>>,
+    share: Share<N>,
+    stage: &Stage,
+) -> (Share<N>, Heard, Heard)
+    requires { share.parts ≡ 2 }
+    ensures { result.0.parts ≡ 2 }
+{
+    let mut mine = share;
+    let theirs = mine.split();
+    let ((mut all, one), (part, other)) = thread::join(
+        rt,
+        move || hold_pushing(rt, alloc, hub, log, mine, stage),
+        move || hold_scanning(rt, alloc, hub, log, theirs, stage),
+    );
+    all.join(part);
+    (all, one, other)
+}
+
+// What the file of a log has got once its hub is closed, and how the log ended.
+type Written = (Vec<u8>, Result<(), Fault>);
+
+// Closes a hub, and ends its log by all edits.
+fn end_log<N: WithBody<Six>, K: Begun>(
+    hub: Hub<Six, N>,
+    share: Share<N>,
+    log: OperationLog<N, HeldFile<'_>, K>,
+) -> Written
+    requires { share.parts ≡ N.parts }
+{
+    let mut share = share;
+    log.show(&mut share);
+    let live = hub.close(share);
+    let (file, ended) = log.end(live.journal());
+    drop(live);
+    (file.bytes, ended)
+}
+
+// What two sessions heard, and what was written of them.
+type Held = (Heard, Heard, Written);
+
+// A hub with a log at which both are held, closed.
+fn hold_logged<N: WithBody<Six> + Send + Sync, K: Begun + Send + Sync, R: Threads + Wait + Sync>(
+    rt: &R,
+    alloc: Global,
+    limits: Limits,
+    blank: Blank,
+    opened: Opened,
+    body: Six,
+    stage: &Stage,
+) -> Result<Held, Fail>
+    requires name { blank.name ≡ N.name }
+    requires all { blank.parts ≡ N.parts }
+    requires two { blank.parts ≡ 2 }
+    requires limits { limits ≡ N.limits }
+    requires history { opened ≡ N.history }
+    requires body { N.body ≡ Some body }
+    requires start { K.start ≡ None }
+{
+    let (hub, share) = Hub::<Six, N>::new(alloc, limits, body, blank, 2, opened);
+    let file = HeldFile {
+        stage,
+        bytes: Vec::new(alloc),
+    };
+    match OperationLog::<N, HeldFile<'_>, K>::begin(rt, alloc, file, &hub, &share) {
+        Ok(log) => {
+            let log = Mutex::new(log);
+            let (share, one, other) = hold_two(rt, alloc, &hub, &log, share, stage);
+            Ok((one, other, end_log(hub, share, log.into_inner())))
+        }
+        Err(error) => {
+            drop(hub);
+            Err(error.into())
+        }
+    }
+}
+
+#[test]
+fn nothing_is_written_under_the_lock(rt: HostRuntime) -> Result<(), Fail> {
+    let stage = Stage::new();
+    let (pushing, scanning, written) = hold_logged::<Brand, Brand, _>(
+        &rt,
+        rt.alloc(),
+        Limits::greatest(),
+        Blank::new(2),
+        Opened::new(),
+        Six,
+        &stage,
+    )?;
+    assert_same(&rt, &stage.was_kept(), &(true, false));
+    assert_heard(&rt, pushing, b"edit 1 at 0\n");
+    assert_heard(&rt, scanning, b"at 1 inc sum 1\n= 5\n");
+    let (bytes, ended) = written;
+    assert_same(&rt, &ended, &Ok(()));
+    let log = b"livevec 1\nj push 5\nend\n".as_slice();
+    assert_same(&rt, &bytes.as_slice(), &log);
+    Ok(())
+}
