@@ -2,7 +2,7 @@
 use Rattle.std.proofs.Common.{ℕ, ◌+◌, Option, Result, Ok, Err, List, [], ◌∷◌, refl, inl, inr}
 use Rattle.lv_lines.specs.declared.fault.Fault.{Fault}
 use Rattle.lv_lines.specs.declared.fault.Fault.TheVariants.{NoMemory, ReadFault, TooLong, WriteFault}
-use Rattle.lv_lines.specs.Replies.{Answered, AnswersAll, AnswersFront, LinesServed, Ends}
+use Rattle.lv_lines.specs.Replies.{Answered, AnswersAll, AnswersFront, LinesServedWithin, Ends}
 
 -- each line that moves a state moves what it stands for, by a step of its own
 pub record Moves {S T : Type 0} (step : S → ℕ → List ℕ → List ℕ → S → Type 0) (next : T → ℕ → List ℕ → List ℕ → T → Type 0) (Fits : S → T → Type 0) : Type 0 where
@@ -26,21 +26,21 @@ module _ {S T : Type 0} {step : S → ℕ → List ℕ → List ℕ → S → Ty
       let came = answered_as s t 1 a.front a.text u fits a.answered in
       (came.0, came.1, record { front = a.front; rest = a.rest; all = a.all; text = a.text; answered = came.2; written = a.written })
 
-  ends_as : {R : Type 0} (s : S) (t : T) (u : S) (a b k l : Option (List ℕ)) (seen : List ℕ) (result : Result R Fault) → Fits s t → Ends step s u a b k l seen result → (v : T) × Fits u v × Ends next t v a b k l seen result
-  ends_as s t u a b k l seen (Ok x) fits e =
+  ends_as : {R : Type 0} (most : ℕ) (s : S) (t : T) (u : S) (a b k l : Option (List ℕ)) (seen : List ℕ) (result : Result R Fault) → Fits s t → Ends step most s u a b k l seen result → (v : T) × Fits u v × Ends next most t v a b k l seen result
+  ends_as most s t u a b k l seen (Ok x) fits e =
       let came = all_as s t _ u k l fits e.2 in (came.0, came.1, (e.0, e.1, came.2))
-  ends_as s t u a b k l seen (Err ReadFault) fits e =
+  ends_as most s t u a b k l seen (Err ReadFault) fits e =
       let came = all_as s t _ u k l fits e.1 in (came.0, came.1, (e.0, came.2))
-  ends_as s t u a b k l seen (Err TooLong) fits e =
+  ends_as most s t u a b k l seen (Err TooLong) fits e =
       let came = all_as s t _ u k l fits e.1 in (came.0, came.1, (e.0, came.2))
-  ends_as s t u a b k l seen (Err WriteFault) fits (inl e) =
+  ends_as most s t u a b k l seen (Err WriteFault) fits (inl e) =
       let came = front_as s t _ u k l fits e in (came.0, came.1, inl came.2)
-  ends_as s t u a b k l seen (Err WriteFault) fits (inr e) =
+  ends_as most s t u a b k l seen (Err WriteFault) fits (inr e) =
       let came = front_as s t _ u k l fits e.2 in (came.0, came.1, inr (e.0, e.1, came.2))
-  ends_as s t u a b k l seen (Err NoMemory) fits e = (t, rw e.0 fits, (refl, e.1, e.2))
+  ends_as most s t u a b k l seen (Err NoMemory) fits e = (t, rw e.0 fits, (refl, e.1, e.2))
 
   -- the conversation of states is one of what they stand for
-  pub lines_served_as : {R : Type 0} (s : S) (t : T) (u : S) (a b k l : Option (List ℕ)) (result : Result R Fault) → Fits s t → LinesServed step s u a b k l result → (v : T) × Fits u v × LinesServed next t v a b k l result
-  lines_served_as s t u a b k l result fits c =
-      let came = ends_as s t u a b k l c.seen result fits c.ends in
+  pub lines_served_as : {R : Type 0} {most : ℕ} (s : S) (t : T) (u : S) (a b k l : Option (List ℕ)) (result : Result R Fault) → Fits s t → LinesServedWithin step most s u a b k l result → (v : T) × Fits u v × LinesServedWithin next most t v a b k l result
+  lines_served_as {most} s t u a b k l result fits c =
+      let came = ends_as most s t u a b k l c.seen result fits c.ends in
       (came.0, came.1, record { seen = c.seen; read = c.read; few = c.few; ends = came.2 })

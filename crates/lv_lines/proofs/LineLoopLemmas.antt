@@ -1,11 +1,11 @@
 -- From the bytes that were read to the lines that were served.
-use Rattle.std.proofs.Common.{◌≡◌, ◌==◌, ◌+◌, ◌^◌, ◌≤◌, ℕ, false, true, List, [], ◌∷◌, ◌++◌, length, take, Option, Result, Ok, Err, OnOk, IfErr, refl, sym, ap, subst, ◌∙◌, inl, inr, arith, append-nil}
+use Rattle.std.proofs.Common.{◌≡◌, ◌==◌, ◌+◌, ◌≤◌, ℕ, false, true, List, [], ◌∷◌, ◌++◌, length, take, Option, Result, Ok, Err, OnOk, IfErr, refl, sym, ap, subst, ◌∙◌, inl, inr, arith, append-nil}
 use Rattle.std.specs.Io.KnownBytes.{Appends, Consumes, IsAtEnd}
 use Rattle.lv_lines.specs.declared.fault.Fault.{Fault}
 use Rattle.lv_lines.specs.declared.fault.Fault.TheVariants.{ReadFault, TooLong, WriteFault}
 use Rattle.lv_lines.specs.Input.{lines_of, whole_lines_of, unended_of}
 use Rattle.lv_lines.specs.Output.{WritesFront}
-use Rattle.lv_lines.specs.Replies.{AnswersAll, AnswersFront, LinesServed}
+use Rattle.lv_lines.specs.Replies.{AnswersAll, AnswersFront, LinesServedWithin}
 use Rattle.lv_lines.specs.LineReader.{Point, PushesBytes, PushesBytesFront, start_of}
 use Rattle.lv_lines.proofs.InputLemmas.{last_line-kept, last_line-none, lines_of-parts, whole_lines_of-push_end}
 use Rattle.lv_lines.proofs.LineReaderLemmas.{PushesBytes-sent, PushesBytesFront-sent}
@@ -46,26 +46,26 @@ module _ {S : Type 0} (step : S → ℕ → List ℕ → List ℕ → S → Type
       → AnswersFront step state (whole_lines_of seen) new.state contents new.contents
   AnswersFront-whole new seen f = record { front = f.front; rest = f.rest; all = f.all; text = f.text; answered = f.answered; written = f.written }
 
-  module _ (remaining_old remaining_new : Option (List ℕ)) (seen : List ℕ) (read : Consumes remaining_old remaining_new seen) where
+  module _ (most : ℕ) (remaining_old remaining_new : Option (List ℕ)) (seen : List ℕ) (read : Consumes remaining_old remaining_new seen) where
     -- a write failed while there was more to read
-    pub LinesServed-unsent : {T : Type 0} (new : Point S) → length seen ≤ 2 ^ 30 + 1 → PushesBytesFront step (start_of state contents) new seen
-        → LinesServed step {T = T} state new.state remaining_old remaining_new contents new.contents (Err WriteFault)
+    pub LinesServed-unsent : {T : Type 0} (new : Point S) → length seen ≤ most + 1 → PushesBytesFront step (start_of state contents) new seen
+        → LinesServedWithin step {T = T} most state new.state remaining_old remaining_new contents new.contents (Err WriteFault)
     LinesServed-unsent new few fed = record { seen = seen; read = read; few = few; ends = inl (AnswersFront-whole new seen fed) }
 
     -- a read failed
-    pub LinesServed-unread : {T : Type 0} (new : Point S) → length seen ≤ 2 ^ 30 → PushesBytes step (start_of state contents) new seen → new.held ≡ []
-        → LinesServed step {T = T} state new.state remaining_old remaining_new contents new.contents (Err ReadFault)
+    pub LinesServed-unread : {T : Type 0} (new : Point S) → length seen ≤ most → PushesBytes step (start_of state contents) new seen → new.held ≡ []
+        → LinesServedWithin step {T = T} most state new.state remaining_old remaining_new contents new.contents (Err ReadFault)
     LinesServed-unread new few fed none = record { seen = seen; read = read; few = omega (arith, few); ends = (few, AnswersAll-whole new seen fed none) }
 
     -- there was more than is read
-    pub LinesServed-too_long : {T : Type 0} (new : Point S) → length seen ≡ 2 ^ 30 + 1 → PushesBytes step (start_of state contents) new seen → new.held ≡ []
-        → LinesServed step {T = T} state new.state remaining_old remaining_new contents new.contents (Err TooLong)
+    pub LinesServed-too_long : {T : Type 0} (new : Point S) → length seen ≡ most + 1 → PushesBytes step (start_of state contents) new seen → new.held ≡ []
+        → LinesServedWithin step {T = T} most state new.state remaining_old remaining_new contents new.contents (Err TooLong)
     LinesServed-too_long new all fed none = record { seen = seen; read = read; few = omega (arith, all); ends = (all, AnswersAll-whole new seen fed none) }
 
-    module _ (end : IsAtEnd remaining_new) (few : length seen ≤ 2 ^ 30) where
+    module _ (end : IsAtEnd remaining_new) (few : length seen ≤ most) where
       -- a write failed at the last line
       pub LinesServed-unended : {T : Type 0} (lines : List ℕ) (new : Point S) → whole_lines_of lines ≡ lines_of seen → PushesBytesFront step (start_of state contents) new lines
-          → LinesServed step {T = T} state new.state remaining_old remaining_new contents new.contents (Err WriteFault)
+          → LinesServedWithin step {T = T} most state new.state remaining_old remaining_new contents new.contents (Err WriteFault)
       LinesServed-unended lines new all fed = record { seen = seen; read = read; few = omega (arith, few); ends = inr (end, few, rw (← all) (AnswersFront-whole new lines fed)) }
 
       -- all lines were answered, and the last replies sent, or not
@@ -73,7 +73,7 @@ module _ {S : Type 0} (step : S → ℕ → List ℕ → List ℕ → S → Type
           → whole_lines_of lines ≡ lines_of seen → PushesBytes step (start_of state contents) new lines
           → OnOk result ((held ≡ []) × Appends new.contents sent new.held)
           → IfErr result (λ fault. (fault ≡ WriteFault) × WritesFront new.contents new.held sent [])
-          → LinesServed step {T = T} state new.state remaining_old remaining_new contents sent result
+          → LinesServedWithin step {T = T} most state new.state remaining_old remaining_new contents sent result
       LinesServed-last lines new sent held (Ok x) all fed ok fault = record {
         seen = seen;
         read = read;

@@ -6,17 +6,23 @@ use Rattle.lv_lines.specs.declared.fault.Fault.TheVariants.{NoMemory, ReadFault,
 use Rattle.lv_lines.specs.Input.{lines_of, whole_lines_of}
 use Rattle.lv_lines.specs.Output.{WritesFront}
 
--- at most how many bytes an input may have
+-- of an input no more bytes were seen than it may have
+abbrev pub HasAtMost : ℕ → List ℕ → Type 0
+HasAtMost most seen = length seen ≤ most
+
+-- one more was seen. Then no more are read
+abbrev pub HasOneMore : ℕ → List ℕ → Type 0
+HasOneMore most seen = length seen ≡ most + 1
+
+-- at most how many bytes an input may have for which no other bound is given
 abbrev pub most_read : ℕ
 most_read = 2 ^ 30
 
--- of an input no more bytes were seen than it may have
 abbrev pub IsNotTooLong : List ℕ → Type 0
-IsNotTooLong seen = length seen ≤ most_read
+IsNotTooLong seen = HasAtMost most_read seen
 
--- one more was seen. Then no more are read
 abbrev pub IsTooLong : List ℕ → Type 0
-IsTooLong seen = length seen ≡ most_read + 1
+IsTooLong seen = HasOneMore most_read seen
 
 module _ {S : Type 0} (step : S → ℕ → List ℕ → List ℕ → S → Type 0) where
   -- from state old the lines, numbered from n, were answered in turn with this text, to state new
@@ -62,22 +68,27 @@ module _ {S : Type 0} (step : S → ℕ → List ℕ → List ℕ → S → Type
   -- how the serving ended, by the bytes that were seen. Ok: at the end of the input. ReadFault: a read failed, and what was seen is
   -- not too long. TooLong: what was seen is. WriteFault: a write failed. NoMemory: it never began.
   -- No clause can say of ReadFault that the reader answered an error: all that `Read` tells of an error is that no byte is lost by it
-  abbrev pub Ends : {T : Type 0} → S → S → Option (List ℕ) → Option (List ℕ) → Option (List ℕ) → Option (List ℕ) → List ℕ → Result T Fault → Type 0
-  Ends old new remaining_old remaining_new contents_old contents_new seen (Ok _) =
-      IsAtEnd remaining_new × IsNotTooLong seen × AnswersAll old (lines_of seen) new contents_old contents_new
-  Ends old new remaining_old remaining_new contents_old contents_new seen (Err ReadFault) =
-      IsNotTooLong seen × AnswersAll old (whole_lines_of seen) new contents_old contents_new
-  Ends old new remaining_old remaining_new contents_old contents_new seen (Err TooLong) =
-      IsTooLong seen × AnswersAll old (whole_lines_of seen) new contents_old contents_new
-  Ends old new remaining_old remaining_new contents_old contents_new seen (Err WriteFault) =
+  abbrev pub Ends : {T : Type 0} → ℕ → S → S → Option (List ℕ) → Option (List ℕ) → Option (List ℕ) → Option (List ℕ) → List ℕ → Result T Fault → Type 0
+  Ends most old new remaining_old remaining_new contents_old contents_new seen (Ok _) =
+      IsAtEnd remaining_new × HasAtMost most seen × AnswersAll old (lines_of seen) new contents_old contents_new
+  Ends most old new remaining_old remaining_new contents_old contents_new seen (Err ReadFault) =
+      HasAtMost most seen × AnswersAll old (whole_lines_of seen) new contents_old contents_new
+  Ends most old new remaining_old remaining_new contents_old contents_new seen (Err TooLong) =
+      HasOneMore most seen × AnswersAll old (whole_lines_of seen) new contents_old contents_new
+  Ends most old new remaining_old remaining_new contents_old contents_new seen (Err WriteFault) =
       AnswersFront old (whole_lines_of seen) new contents_old contents_new
-      ⊎ (IsAtEnd remaining_new × IsNotTooLong seen × AnswersFront old (lines_of seen) new contents_old contents_new)
-  Ends old new remaining_old remaining_new contents_old contents_new seen (Err NoMemory) =
+      ⊎ (IsAtEnd remaining_new × HasAtMost most seen × AnswersFront old (lines_of seen) new contents_old contents_new)
+  Ends most old new remaining_old remaining_new contents_old contents_new seen (Err NoMemory) =
       (new ≡ old) × (remaining_new ≡ remaining_old) × (contents_new ≡ contents_old)
 
-  -- bytes were read and their lines answered, from state old to state new
-  pub record LinesServed {T : Type 0} (old new : S) (remaining_old remaining_new contents_old contents_new : Option (List ℕ)) (result : Result T Fault) : Type 0 where
+  -- bytes were read, at most so many and one more, and their lines answered, from state old to state new
+  pub record LinesServedWithin {T : Type 0} (most : ℕ) (old new : S) (remaining_old remaining_new contents_old contents_new : Option (List ℕ)) (result : Result T Fault) : Type 0 where
     pub seen : List ℕ
     pub read : Consumes remaining_old remaining_new seen
-    pub few : length seen ≤ most_read + 1
-    pub ends : Ends old new remaining_old remaining_new contents_old contents_new seen result
+    pub few : length seen ≤ most + 1
+    pub ends : Ends most old new remaining_old remaining_new contents_old contents_new seen result
+
+  -- the same of an input for which no other bound is given
+  abbrev pub LinesServed : {T : Type 0} → S → S → Option (List ℕ) → Option (List ℕ) → Option (List ℕ) → Option (List ℕ) → Result T Fault → Type 0
+  LinesServed old new remaining_old remaining_new contents_old contents_new result =
+      LinesServedWithin most_read old new remaining_old remaining_new contents_old contents_new result

@@ -1,7 +1,7 @@
 //! The loop over lines: they are read and answered in turn, until the input ends.
 ghost use Rattle.std.specs.Prelude.{◌≡◌, ◌<◌, ◌≤◌, [], length, take, IfOk, IfErr, vec_len, vec_capacity};
 ghost use Rattle.std.specs.Io.KnownBytes.{Keeps, Consumes, IsAtEnd};
-ghost use Rattle.lv_lines.specs.Replies.{LinesServed};
+ghost use Rattle.lv_lines.specs.Replies.{LinesServed, LinesServedWithin};
 
 use crate::fault::Fault;
 use crate::line_handler::LineHandler;
@@ -14,8 +14,11 @@ use std::io::{Read, Write};
 // At most how many bytes one read takes.
 const CHUNK: usize = 65_536;
 
-/// At most how many bytes an input may have. One more is read, to tell that there are too many.
+/// At most how many bytes an input may have for which no other bound is given. One more is read, to tell that there are too many.
 pub const MOST_READ: usize = 1 << 30;
+
+/// The greatest bound that may be given. The lines of so many bytes have numbers of 32 bits.
+pub const MOST_NUMBERED: usize = 4_294_967_293;
 
 /// Reads lines and has each answered, in turn and numbered from 1, until the input ends. The replies are
 /// sent before more is read.
@@ -32,13 +35,28 @@ pub fn serve_lines<A: LineHandler<W>, R: Read, W: Write>(
     ensures { LinesServed A.step (A.state handler.old) (A.state handler.new) (R.remaining reader.old) (R.remaining reader.new)
         (W.contents writer.old) (W.contents writer.new) result }
 {
+    serve_lines_within(MOST_READ, alloc, handler, reader, writer)
+}
+
+/// The same of an input of at most `most` bytes: one of more is `TooLong`.
+pub fn serve_lines_within<A: LineHandler<W>, R: Read, W: Write>(
+    most: usize,
+    alloc: Global,
+    handler: &mut A,
+    reader: &mut R,
+    writer: &mut W,
+) -> Result<(), Fault>
+    requires { most ≤ MOST_NUMBERED }
+    ensures { LinesServedWithin A.step most (A.state handler.old) (A.state handler.new) (R.remaining reader.old) (R.remaining reader.new)
+        (W.contents writer.old) (W.contents writer.new) result }
+{
     let Ok(mut chunk) = zeros(alloc, CHUNK) else {
         return Err(Fault::NoMemory);
     };
     let Ok(mut held) = Vec::with_capacity(alloc, HELD) else {
         return Err(Fault::NoMemory);
     };
-    read_lines(&mut chunk, &mut held, handler, reader, writer)
+    read_lines(most, &mut chunk, &mut held, handler, reader, writer)
 }
 
 fn zeros(alloc: Global, len: usize) -> Result<Vec<u8>, AllocError>
@@ -50,21 +68,23 @@ fn zeros(alloc: Global, len: usize) -> Result<Vec<u8>, AllocError>
 // Reads chunks, and has the lines that they end answered, up to the end of the input, by buffers that were made for it: one for what is
 // read, and one for replies.
 fn read_lines<A: LineHandler<W>, R: Read, W: Write>(
+    most: usize,
     chunk: &mut [u8],
     held: &mut Vec<u8>,
     handler: &mut A,
     reader: &mut R,
     writer: &mut W,
 ) -> Result<(), Fault>
+    requires most { most ≤ MOST_NUMBERED }
     requires chunk { 0 < length chunk.old }
     requires held { held.old.items ≡ [] }
     requires room { HELD ≤ vec_capacity held.old }
-    ensures { LinesServed A.step (A.state handler.old) (A.state handler.new) (R.remaining reader.old) (R.remaining reader.new)
+    ensures { LinesServedWithin A.step most (A.state handler.old) (A.state handler.new) (R.remaining reader.old) (R.remaining reader.new)
         (W.contents writer.old) (W.contents writer.new) result }
 {
     let mut buffer = ReplyBuffer { writer, held };
     let mut line_reader = LineReader::new();
-    let mut left = MOST_READ + 1;
+    let mut left = most + 1;
     'reading: loop {
         buffer.send()?;
         if left == 0 {
