@@ -14,7 +14,9 @@ use crate::status::{CUT, show, show_misuse, status_of, status_of_front, status_t
 use clap::{ArgMatches, Error};
 use lv_bodies::Sum;
 use lv_machine::Machine;
-use lv_script::{Fault, audit, audit_front, run_schedule, run_script_within, run_series_script};
+use lv_script::{
+    Fault, MOST_NUMBERED, audit, audit_front, run_schedule, run_script_within, run_series_script,
+};
 use lv_server::{Piped, ProgramError, Waited, hold_files, null_files, restore_file, serve_files};
 use std::alloc::{AllocError, Global};
 use std::fs::{File, Files};
@@ -154,7 +156,7 @@ fn audit_input<R: AllocGlobal + Clock + Input, W: Write>(
 ) -> Result<u8, Fault> {
     let alloc = rt.alloc();
     if asked.get_flag("front") {
-        Ok(status_of_front(audit_front(alloc, lines_of(rt), writer)?))
+        Ok(status_of_front(audit_front(alloc, MOST_NUMBERED, lines_of(rt), writer)?))
     } else {
         Ok(status_of(audit(alloc, &mut lines_of(rt), writer)?))
     }

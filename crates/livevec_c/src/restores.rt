@@ -130,7 +130,7 @@ fn restore_found(
     requires { slot.old.raw.inner ≡ None }
     ensures { RestoresFront only limits found.edits.journal found.verdict result slot.new.raw.inner }
 {
-    let FoundFront { verdict, edits } = found;
+    let FoundFront { verdict, edits, .. } = found;
     match verdict {
         FrontVerdict::Front { .. } => {
             let became = restore_edits(alloc, slot, only, limits, edits.journal());

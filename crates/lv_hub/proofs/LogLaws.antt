@@ -139,7 +139,7 @@ module _ (start : Option (List ℕ)) where
       true_sooner (edits_in was.entries) (length s.seen) (last_after 0 was.entries) entries was.in_time (subst (λ (es : List Edit). AreTrueAfter es (length s.seen) entries) before came.all_true) in
       record {
         entries = was.entries ++ entries;
-        given = gives start was.entries was.given;
+        given = gives None None start was.entries was.given;
         all_true = true_both [] 0 was.entries entries was.all_true later;
         edits_are = edits_in_both was.entries entries ∙ ap (λ (es : List Edit). es ++ edits_in entries) (sym before) ∙ all_edits journal (length s.seen) entries came;
         in_time = omega (arith, last_of_both 0 was.entries entries, last_sooner (length s.seen) (last_after 0 was.entries) entries was.in_time, came.in_time);
@@ -147,7 +147,7 @@ module _ (start : Option (List ℕ)) where
 
   -- what is held was written, or that failed
   pub log_rests : (s : LogState) (written : WritingState) → IsLogOf start s → Adds s.written [] written → IsLogOf start record s { written = written }
-  log_rests s written was rests = record { entries = was.entries; given = subst (λ (es : List Entry). WasGiven start es written) (append-nil was.entries) (rests start was.entries was.given); all_true = was.all_true; edits_are = was.edits_are; in_time = was.in_time }
+  log_rests s written was rests = record { entries = was.entries; given = subst (λ (es : List Entry). WasGiven start es written) (append-nil was.entries) (rests None None start was.entries was.given); all_true = was.all_true; edits_are = was.edits_are; in_time = was.in_time }
 
   -- what a log has written is a front
   pub log_front : (s : LogState) → IsLogOf start s → HasFront start s.written.contents s.seen

@@ -1,11 +1,13 @@
 -- Scripts that go on from edits that were made before, as those of a transcript's front.
-use Rattle.std.specs.Prelude.{◌≡◌, ℕ, ◌+◌, ◌^◌, ◌≤◌, List, length, Option, Result, Ok, Err, OnOk}
+use Rattle.std.specs.Prelude.{◌≡◌, ℕ, ◌+◌, ◌≤◌, List, length, Option, Result, Ok, Err, OnOk}
 use Rattle.std.specs.Io.KnownBytes.{Appends, Consumes, IsAtEnd}
 use Rattle.lv_geometry.specs.Bounds.{Bounds}
 use Rattle.lv_edits.specs.declared.edit.Edit.{Edit}
 use Rattle.lv_lines.specs.declared.fault.Fault.{Fault}
+use Rattle.lv_lines.specs.declared.line_loop.TheConstants.{MOST_NUMBERED}
 use Rattle.lv_lines.specs.Replies.{LinesServed}
 use Rattle.lv_transcript.specs.declared.fronts.FrontVerdict.{FrontVerdict}
+use Rattle.lv_transcript.specs.declared.log_heading.LogHeading.{LogHeading}
 use Rattle.lv_transcript.specs.declared.fronts.FrontVerdict.TheVariants as verdicts
 use Rattle.lv_transcript.specs.Audits.{FrontFound, IsRightOfFront, IsWhole, ReadingEnds}
 use Rattle.lv_transcript.specs.Transcript.{greatest}
@@ -40,21 +42,21 @@ script_ended = Ok tt
 -- a fault; or they are none, or could not be read, and nothing was answered
 abbrev pub RestoreEnds : Option (List ℕ) → List ℕ → Option (List ℕ) → Option (List ℕ) → Option (List ℕ) → Option (List ℕ) → Result FrontVerdict Unrestored → Type 0
 RestoreEnds rest seen remaining_old remaining_new contents_old contents_new (Ok (verdicts.Front edits answers)) =
-    IsWhole seen rest
-    × ((journal : List Edit) × FrontFound seen journal edits answers × AnswersAfter greatest journal remaining_old remaining_new contents_old contents_new script_ended)
+    IsWhole MOST_NUMBERED seen rest
+    × ((heading : Option LogHeading) × (journal : List Edit) × FrontFound heading seen journal edits answers × AnswersAfter greatest journal remaining_old remaining_new contents_old contents_new script_ended)
 RestoreEnds rest seen remaining_old remaining_new contents_old contents_new (Ok verdict) =
-    IsWhole seen rest × ((journal : List Edit) × IsRightOfFront seen journal verdict) × Untouched remaining_old remaining_new contents_old contents_new
+    IsWhole MOST_NUMBERED seen rest × ((heading : Option LogHeading) × (journal : List Edit) × IsRightOfFront heading seen journal verdict) × Untouched remaining_old remaining_new contents_old contents_new
 RestoreEnds rest seen remaining_old remaining_new contents_old contents_new (Err (unrestored.Script fault)) =
-    IsWhole seen rest
-    × ((journal : List Edit) × (edits : ℕ) × (answers : ℕ) × FrontFound seen journal edits answers
+    IsWhole MOST_NUMBERED seen rest
+    × ((heading : Option LogHeading) × (journal : List Edit) × (edits : ℕ) × (answers : ℕ) × FrontFound heading seen journal edits answers
     × AnswersAfter {T = Unit {0}} greatest journal remaining_old remaining_new contents_old contents_new (Err fault))
 RestoreEnds rest seen remaining_old remaining_new contents_old contents_new (Err (unrestored.Front fault)) =
-    ReadingEnds rest seen (Err fault) × Untouched remaining_old remaining_new contents_old contents_new
+    ReadingEnds MOST_NUMBERED rest seen (Err fault) × Untouched remaining_old remaining_new contents_old contents_new
 
--- a front was read, of at most 2 ^ 30 + 1 bytes, and what became of it
+-- a front was read, of no more bytes than have numbered lines and one more, and what became of it
 pub record Restored (front remaining_old remaining_new contents_old contents_new : Option (List ℕ)) (result : Result FrontVerdict Unrestored) : Type 0 where
   pub rest : Option (List ℕ)
   pub seen : List ℕ
   pub read : Consumes front rest seen
-  pub few : length seen ≤ 2 ^ 30 + 1
+  pub few : length seen ≤ MOST_NUMBERED + 1
   pub ends : RestoreEnds rest seen remaining_old remaining_new contents_old contents_new result

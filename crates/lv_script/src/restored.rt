@@ -11,7 +11,7 @@ ghost use Rattle.lv_script.specs.Restored.{AnswersAfter, RestoreEnds, Restored};
 use crate::scripts::answer_script;
 use lv_edits::{Edit, Edits};
 use lv_geometry::{Limits, Refusal};
-use lv_lines::Fault;
+use lv_lines::{Fault, MOST_NUMBERED};
 use lv_standing::Standing;
 use lv_transcript::{FoundFront, FrontVerdict, read_front};
 use std::alloc::Global;
@@ -26,7 +26,7 @@ pub enum Unrestored {
     Script(Fault),
 }
 
-/// Makes the edits of a transcript's front anew, then answers a script as `run_script` does, from these edits on. Where the bytes
+/// Makes the edits of a transcript's front, or of a log, anew, then answers a script as `run_script` does, from these edits on. Where the bytes
 /// are no front, which the verdict says, nothing is read of the script, and nothing answered.
 pub fn restore_script<F: Read + Drop, R: Read, W: Write>(
     alloc: Global,
@@ -36,7 +36,7 @@ pub fn restore_script<F: Read + Drop, R: Read, W: Write>(
 ) -> Result<FrontVerdict, Unrestored>
     ensures { Restored (F.remaining front) (R.remaining reader.old) (R.remaining reader.new) (W.contents writer.old) (W.contents writer.new) result }
 {
-    match read_front(alloc, front) {
+    match read_front(alloc, MOST_NUMBERED, front) {
         Ok(found) => resume_found(alloc, found, reader, writer),
         Err(fault) => Err(Unrestored::Front(fault)),
     }
@@ -102,11 +102,11 @@ fn resume_found<R: Read, W: Write>(
     reader: &mut R,
     writer: &mut W,
 ) -> Result<FrontVerdict, Unrestored>
-    requires { (rest : Option (List ℕ)) × (seen : List ℕ) × ReadingEnds rest seen (Ok found) }
-    ensures { (rest : Option (List ℕ)) (seen : List ℕ) → ReadingEnds rest seen (Ok found)
+    requires { (rest : Option (List ℕ)) × (seen : List ℕ) × ReadingEnds MOST_NUMBERED rest seen (Ok found) }
+    ensures { (rest : Option (List ℕ)) (seen : List ℕ) → ReadingEnds MOST_NUMBERED rest seen (Ok found)
         → RestoreEnds rest seen (R.remaining reader.old) (R.remaining reader.new) (W.contents writer.old) (W.contents writer.new) result }
 {
-    let FoundFront { verdict, edits } = found;
+    let FoundFront { verdict, edits, .. } = found;
     match verdict {
         FrontVerdict::Front { .. } => match resume_edits(alloc, edits, reader, writer) {
             Ok(()) => Ok(verdict),

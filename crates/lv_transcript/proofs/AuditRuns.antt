@@ -1,12 +1,14 @@
 -- What an audit of lines that are taken one after the other comes to.
-use Rattle.std.proofs.Common.{◌≡◌, ◌⊎◌, ℕ, ◌+◌, ◌≤◌, true, false, List, [], ◌∷◌, ◌++◌, length, All, refl, sym, ap, ◌∙◌, subst, inl, inr, arith, true≢false}
+use Rattle.std.proofs.Common.{◌≡◌, ◌⊎◌, ℕ, ◌+◌, ◌≤◌, true, false, List, [], ◌∷◌, ◌++◌, length, All, Option, refl, sym, ap, ◌∙◌, subst, inl, inr, arith, true≢false}
 use Rattle.std.proofs.lemmas.List.Elements.{All-nil, All-cons}
 use Rattle.lv_edits.specs.declared.edit.Edit.{Edit}
 use Rattle.lv_lines.specs.Texts.{shown_text}
 use Rattle.lv_lines.specs.Replies.{Answered}
 use Rattle.lv_transcript.specs.declared.auditor.Stage.{Stage}
 use Rattle.lv_transcript.specs.declared.auditor.Stage.TheVariants.{Start, Edits, AnswersFollow, End, No, Bad, NoMemory}
+use Rattle.lv_transcript.specs.declared.log_heading.LogHeading.{LogHeading}
 use Rattle.lv_transcript.specs.Auditing.{AuditState, CountedState, CountedStep, IsFaultOf, MayCome, MayEnd, Takes, TakesEdit, TakesFirst, TakesLater, is_fault, is_stopped, question_of}
+use Rattle.lv_transcript.proofs.ReadTranscripts.{heading_line-injective}
 use Rattle.lv_transcript.proofs.AuditLines.{edit_line-injective, may_end_of_edit, no_edit_later, not_last, not_start, same_question}
 
 -- ---- one line
@@ -29,13 +31,15 @@ same_later old a b line (inl p) (inl q) =
     let same : question_of p.answer ≡ question_of q.answer =
     same_question line (shown_text p.answer.value) (shown_text q.answer.value) (question_of p.answer) (question_of q.answer) p.fits q.fits p.text q.text in
     p.next ∙ ap (λ (n : ℕ). record old { stage = AnswersFollow; last = n }) (ap (λ asked. asked.edit) same) ∙ sym q.next
-same_later old a b line (inl p) (inr q) = absurd (not_last (question_of p.answer) (shown_text p.answer.value) line p.text q.text)
-same_later old a b line (inr p) (inl q) = absurd (not_last (question_of q.answer) (shown_text q.answer.value) line q.text p.text)
+same_later old a b line (inl p) (inr q) = absurd (not_last (question_of p.answer) (shown_text p.answer.value) line p.text q.text.1)
+same_later old a b line (inr p) (inl q) = absurd (not_last (question_of q.answer) (shown_text q.answer.value) line q.text p.text.1)
 same_later old a b line (inr p) (inr q) = p.next ∙ sym q.next
 
 -- a line is taken in one way
 pub same_way : (old a b : AuditState) (line : List ℕ) → TakesFirst old line a ⊎ TakesEdit old line a ⊎ TakesLater old line a → TakesFirst old line b ⊎ TakesEdit old line b ⊎ TakesLater old line b → a ≡ b
-same_way old a b line (inl p) (inl q) = p.next ∙ sym q.next
+same_way old a b line (inl p) (inl q) =
+    let same : p.heading ≡ q.heading = heading_line-injective old.mixed line p.heading q.heading p.begins q.begins p.text q.text in
+    p.next ∙ ap (λ (h : Option LogHeading). record old { stage = Edits; heading = h }) same ∙ sym q.next
 same_way old a b line (inl p) (inr (inl q)) = absurd (not_start old.stage p.at (may_end_of_edit old.mixed old.stage q.at))
 same_way old a b line (inl p) (inr (inr (inl q))) = absurd (not_start old.stage p.at q.at)
 same_way old a b line (inl p) (inr (inr (inr q))) = absurd (not_start old.stage p.at q.at)
@@ -133,19 +137,23 @@ fault_stops Edits fault = fault
 fault_stops AnswersFollow fault = fault
 fault_stops End fault = fault
 
--- where it has not stopped in the end, all lines were taken
-pub all_taken : (old : CountedState) (n : ℕ) (lines : List (List ℕ)) (text : List ℕ) (new : CountedState) → Answered CountedStep old n lines text new → is_stopped new.audit.stage ≡ false → Runs old.audit lines new.audit
+-- where it has not stopped in the end, the first line was taken
+pub taken_first : (old : CountedState) (n : ℕ) (line : List ℕ) (lines : List (List ℕ)) (text : List ℕ) (new : CountedState) (a : Answered CountedStep old n (line ∷ lines) text new) → is_stopped new.audit.stage ≡ false → Takes old.audit line a.2.audit
 unfolding CountedStep
-all_taken old n [] text new a goes_on = ap (λ (s : CountedState). s.audit) a.1
-all_taken old n (line ∷ lines) text new a goes_on =
+taken_first old n line lines text new a goes_on =
     let never = λ (stopped : is_stopped a.2.audit.stage ≡ true).
     true≢false (sym stopped ∙ ap (λ (s : AuditState). is_stopped s.stage) (sym (stays a.2 (n + 1) lines a.1 new stopped a.4)) ∙ goes_on) in
     elim a.3.2 [
       | inl still ↦ absurd (never (ap (λ (s : AuditState). is_stopped s.stage) still.1 ∙ still.0))
-      | inr (goes, inl taken) ↦ (a.2.audit, taken, all_taken a.2 (n + 1) lines a.1 new a.4 goes_on)
+      | inr (goes, inl taken) ↦ taken
       | inr (goes, inr (inl found)) ↦ absurd (never (fault_stops a.2.audit.stage (fault_of_line n (MayCome old.audit line) a.2.audit.stage found.0)))
       | inr (goes, inr (inr none)) ↦ absurd (never (ap is_stopped none))
     ]
+
+-- and so were all lines
+pub all_taken : (old : CountedState) (n : ℕ) (lines : List (List ℕ)) (text : List ℕ) (new : CountedState) → Answered CountedStep old n lines text new → is_stopped new.audit.stage ≡ false → Runs old.audit lines new.audit
+all_taken old n [] text new a goes_on = ap (λ (s : CountedState). s.audit) a.1
+all_taken old n (line ∷ lines) text new a goes_on = (a.2.audit, taken_first old n line lines text new a goes_on, all_taken a.2 (n + 1) lines a.1 new a.4 goes_on)
 
 -- where all lines can be taken, they are, or there is no memory
 pub taken_or_none : (old : CountedState) (n : ℕ) (lines : List (List ℕ)) (text : List ℕ) (new : CountedState) (end : AuditState) → Answered CountedStep old n lines text new
@@ -158,7 +166,7 @@ taken_or_none old n (line ∷ lines) text new end a runs =
       | inr (goes, inl taken) ↦
           let same : runs.0 ≡ a.2.audit = same_way old.audit runs.0 a.2.audit line runs.1.1 taken.1 in
           taken_or_none a.2 (n + 1) lines a.1 new end a.4 (subst (λ (s : AuditState). Runs s lines end) same runs.2)
-      | inr (goes, inr (inl found)) ↦ absurd (found.2 runs.0 runs.1)
+      | inr (goes, inr (inl found)) ↦ absurd (found.3 runs.0 runs.1)
       | inr (goes, inr (inr none)) ↦
           inr (ap (λ (s : AuditState). s.stage) (stays a.2 (n + 1) lines a.1 new (ap is_stopped none) a.4) ∙ none)
     ]
@@ -173,6 +181,7 @@ pub record IsFound (old : AuditState) (n : ℕ) (lines : List (List ℕ)) (new :
   pub runs : Runs old front mid
   pub fault : IsFaultOf (n + length front) (MayCome mid line) new.stage
   pub journal_is : new.journal ≡ mid.journal
+  pub heading_is : new.heading ≡ mid.heading
   pub untaken : (next : AuditState) → Takes mid line next → ⊥
 
 -- one line more before it
@@ -186,6 +195,7 @@ found_later old mid n line lines new taken later = record {
   runs = (mid, taken, later.runs);
   fault = subst (λ (k : ℕ). IsFaultOf k (MayCome later.mid later.line) new.stage) (omega arith) later.fault;
   journal_is = later.journal_is;
+  heading_is = later.heading_is;
   untaken = later.untaken;
 }
 
@@ -213,7 +223,8 @@ fault_found old n (line ∷ lines) text new a none fault =
             fault = subst (λ (k : ℕ). IsFaultOf k (MayCome old.audit line) new.audit.stage) (omega arith)
                 (subst (IsFaultOf n (MayCome old.audit line)) (ap (λ (s : AuditState). s.stage) (sym same)) found.0);
             journal_is = ap (λ (s : AuditState). s.journal) same ∙ found.1;
-            untaken = found.2;
+            heading_is = ap (λ (s : AuditState). s.heading) same ∙ found.2;
+            untaken = found.3;
           }
       | inr (goes, inr (inr memory)) ↦
           let same : new.audit ≡ a.2.audit = stays a.2 (n + 1) lines a.1 new (ap is_stopped memory) a.4 in

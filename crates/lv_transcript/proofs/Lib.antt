@@ -8,6 +8,7 @@ pub mod SoundTranscripts
 pub mod TranscriptBytes
 pub mod TakenEntries
 pub mod FirstFaults
+pub mod CountedBytes
 pub mod AuditLaws
 pub mod ReplayLemmas
 pub mod BlockLaws

@@ -1,7 +1,7 @@
 -- The lines that an audit takes are those of sound entries, and the lines of sound entries are taken.
-use Rattle.std.proofs.Common.{◌≡◌, ◌⊎◌, ℕ, ◌+◌, ◌≤◌, Bool, true, false, true≢false, List, [], ◌∷◌, ◌++◌, length, get_or, take, drop, map, fold, slice_range, All, None, refl, sym, ap, ◌∙◌, subst, inl, inr, arith, append_assoc, append-nil, lit≤}
+use Rattle.std.proofs.Common.{◌≡◌, ◌⊎◌, ℕ, zero, suc, ◌+◌, ◌-◌, ◌<◌, ◌≤◌, Bool, true, false, true≢false, List, [], ◌∷◌, ◌++◌, length, get_or, take, drop, map, fold, slice_range, All, Option, None, Some, refl, sym, ap, ◌∙◌, subst, inl, inr, arith, append_assoc, append-nil, lit≤}
 use mathlib.Core.List.{map-map}
-use Rattle.std.proofs.lemmas.List.{length-append, map-append, take-append-le, take_all}
+use Rattle.std.proofs.lemmas.List.{length-append, length_push, map-append, take-append-le, take_all}
 use Rattle.std.proofs.lemmas.List.Elements.{All-nil, All-cons, All-append, All-head, All-tail}
 use Rattle.lv_bodies.specs.Plain.{plain_value}
 use Rattle.lv_edits.specs.declared.edit.Edit.{Edit}
@@ -11,11 +11,13 @@ use Rattle.lv_edits.specs.Verdict.{verdict_of}
 use Rattle.lv_transcript.specs.declared.auditor.Stage.{Stage}
 use Rattle.lv_transcript.specs.declared.auditor.Stage.TheVariants.{Start, Edits, AnswersFollow, End}
 use Rattle.lv_transcript.specs.declared.claimed.Claimed.{Claimed}
-use Rattle.lv_transcript.specs.Transcript.{answer_line, edit_line, end_line, first_line, greatest, last_edit, transcript_lines, transcript_text, AreAccepted, AreAcceptedAfter, AreInOrder, IsEdit, IsSoundTranscript, IsTrueAnswer}
-use Rattle.lv_transcript.specs.Auditing.{AuditState, MayEdit, MayEnd, Takes, start_state}
-use Rattle.lv_transcript.specs.Fronts.{AreEntryLines, AreFrontLines, AreOrdered, AreSound, AreTrueAfter, Entry, MayEditFollow, all_lines, answers_in, edits_in, entry_line}
+use Rattle.lv_transcript.specs.declared.log_heading.LogHeading.{LogHeading}
+use Rattle.lv_transcript.specs.Transcript.{answer_line, edit_line, end_line, first_line, greatest, heading_line, last_edit, transcript_lines, transcript_text, AreAccepted, AreAcceptedAfter, AreInOrder, IsEdit, IsSoundTranscript, IsTrueAnswer}
+use Rattle.lv_transcript.specs.Auditing.{AuditState, IsInPlace, MayEdit, MayEnd, Takes, start_state}
+use Rattle.lv_transcript.specs.Fronts.{AreFrontLines, AreOrdered, AreSound, AreTrueAfter, AreTrueOf, Entry, IsPush, IsToldBy, MayBegin, MayEditFollow, all_lines, answers_in, edits_in, elements_of, ending, entry_line}
 use Rattle.lv_transcript.proofs.AuditLines.{may_end_of_edit, no_edit_behind, not_start}
 use Rattle.lv_transcript.proofs.AuditRuns.{Runs, runs_by}
+use Rattle.lv_transcript.proofs.ReadTranscripts.{heading_line_short}
 use Rattle.lv_transcript.proofs.SoundTranscripts.{IsWithin, RiseFrom, accepted_fits, accepted_more, beginnings_within, carries_of_fits, in_order_of_rise, line_of_edit, plain_answer, rise_in_order, within_none}
 
 -- ---- the order of entries
@@ -103,6 +105,69 @@ edit_comes mixed entries (inr none) = inl (at_edits entries none)
 
 -- ---- from lines that are taken to entries
 
+-- ---- the entries that stand for elements
+
+-- where k of some entries are pushes, the first is one, and so are k - 1 of the others
+first_push : (k : ℕ) (entry : Entry) (entries : List Entry) → 0 < k → All IsPush (take k (entry ∷ entries)) → IsPush entry
+first_push zero entry entries some pushes = absurd (omega arith)
+first_push (suc k) entry entries some pushes = All-head IsPush entry (take k entries) pushes
+
+other_pushes : (k m : ℕ) (entry : Entry) (entries : List Entry) → m ≡ k - 1 → All IsPush (take k (entry ∷ entries)) → All IsPush (take m entries)
+other_pushes zero m entry entries is pushes = subst (λ (n : ℕ). All IsPush (take n entries)) (sym is) (All-nil IsPush)
+other_pushes (suc k) m entry entries is pushes =
+    let same : k ≡ m = omega (arith, is) in
+    subst (λ (n : ℕ). All IsPush (take n entries)) same (All-tail IsPush entry (take k entries) pushes)
+
+-- and back
+one_push : (k m : ℕ) (entry : Entry) (entries : List Entry) → m ≡ k - 1 → (0 < k → IsPush entry) → All IsPush (take m entries) → All IsPush (take k (entry ∷ entries))
+one_push zero m entry entries is here pushes = All-nil IsPush
+one_push (suc k) m entry entries is here pushes =
+    let same : m ≡ k = omega (arith, is) in
+    All-cons IsPush entry (take k entries) (here (omega arith)) (subst (λ (n : ℕ). All IsPush (take n entries)) same pushes)
+
+-- none of them is an answer
+no_answer : (k : ℕ) (answer : Claimed) (entries : List Entry) → All IsPush (take k (inr answer ∷ entries)) → k ≡ 0
+no_answer zero answer entries pushes = refl
+no_answer (suc k) answer entries pushes = absurd (All-head IsPush (inr answer) (take k entries) pushes)
+
+no_pushes : (k : ℕ) → All IsPush (take k [])
+no_pushes zero = All-nil IsPush
+no_pushes (suc k) = All-nil IsPush
+
+-- where fewer edits are there, there is no answer
+pub only_pushes : (n : ℕ) (entries : List Entry) → All IsPush (take n entries) → length (edits_in entries) < n → length entries ≡ length (edits_in entries)
+only_pushes n [] pushes few = refl
+only_pushes zero (entry ∷ entries) pushes few = absurd (omega (arith, few))
+only_pushes (suc n) (inl e ∷ entries) pushes few =
+    omega (arith, only_pushes n entries (All-tail IsPush (inl e) (take n entries) pushes) (omega (arith, few)))
+only_pushes (suc n) (inr answer ∷ entries) pushes few = absurd (All-head IsPush (inr answer) (take n entries) pushes)
+
+-- what is true of entries under a heading
+pub true_of : (mixed : Bool) (heading : Option LogHeading) (entries : List Entry) → MayBegin mixed heading → AreTrueAfter [] 0 entries → All IsPush (take (elements_of heading - 0) entries) → AreTrueOf heading entries
+true_of mixed None entries begins holds pushes = holds
+true_of mixed (Some h) entries begins holds pushes =
+    let all : h.elements - 0 ≡ h.elements = omega arith in
+    record { numbers = begins.1; all_true = holds; pushes = subst (λ (n : ℕ). All IsPush (take n entries)) all pushes }
+
+pub all_true_of : (heading : Option LogHeading) (entries : List Entry) → AreTrueOf heading entries → AreTrueAfter [] 0 entries
+all_true_of None entries holds = holds
+all_true_of (Some h) entries holds = holds.all_true
+
+pub pushes_of : (heading : Option LogHeading) (entries : List Entry) → AreTrueOf heading entries → All IsPush (take (elements_of heading) entries)
+pushes_of None entries holds = All-nil IsPush
+pushes_of (Some h) entries holds = holds.pushes
+
+pub begins_of : (heading : Option LogHeading) (entries : List Entry) → AreTrueOf heading entries → MayBegin true heading
+begins_of None entries holds = tt
+begins_of (Some h) entries holds = (refl, holds.numbers)
+
+-- a whole transcript has no heading
+pub no_heading : (heading : Option LogHeading) → MayBegin false heading → heading ≡ None
+no_heading None begins = refl
+no_heading (Some h) begins = absurd (true≢false (sym begins.0))
+
+-- ---- lines that are taken
+
 -- the edit of the last answer among some entries, or the one before them
 abbrev pub last_of : ℕ → List Entry → ℕ
 last_of last entries = fold (λ (edit : ℕ) (answer : Claimed). answer.edit) last (answers_in entries)
@@ -110,19 +175,23 @@ last_of last entries = fold (λ (edit : ℕ) (answer : Claimed). answer.edit) la
 -- lines that are taken behind the first one: those of entries, and perhaps the last
 pub record AreEntries (old new : AuditState) (lines : List (List ℕ)) : Type 0 where
   pub entries : List Entry
-  pub ends : ((new.stage ≡ stage_after old.stage entries) × (lines ≡ map entry_line entries)) ⊎ ((new.stage ≡ End) × (lines ≡ map entry_line entries ++ end_line ∷ []))
+  pub ends :
+      ((new.stage ≡ stage_after old.stage entries) × (lines ≡ map entry_line entries))
+      ⊎ ((new.stage ≡ End) × (lines ≡ map entry_line entries ++ end_line ∷ []) × (old.heading ≡ None))
   pub come : ComeFrom old.mixed old.stage entries
   pub all_true : AreTrueAfter old.journal old.last entries
+  pub pushes : All IsPush (take (elements_of old.heading - length old.journal) entries)
   pub journal_is : new.journal ≡ old.journal ++ edits_in entries
   pub last_is : new.last ≡ last_of old.last entries
   pub mixed_is : new.mixed ≡ old.mixed
+  pub heading_is : new.heading ≡ old.heading
 
 -- no line is taken after the last
-not_end : (stage : Stage) → stage ≡ End → MayEnd stage → ⊥
+pub not_end : (stage : Stage) → stage ≡ End → MayEnd stage → ⊥
 not_end stage end (inl at) = absurd (cc (end, at))
 not_end stage end (inr at) = absurd (cc (end, at))
 
-none_behind_end : (old new : AuditState) (lines : List (List ℕ)) → old.stage ≡ End → Runs old lines new → (lines ≡ []) × (new ≡ old)
+pub none_behind_end : (old new : AuditState) (lines : List (List ℕ)) → old.stage ≡ End → Runs old lines new → (lines ≡ []) × (new ≡ old)
 none_behind_end old new [] at runs = (refl, runs)
 none_behind_end old new (line ∷ lines) at runs =
     elim runs.1.1 [
@@ -135,20 +204,23 @@ none_behind_end old new (line ∷ lines) at runs =
 -- one entry more, before others
 with_entry : (old next new : AuditState) (line : List ℕ) (lines : List (List ℕ)) (entry : Entry) → line ≡ entry_line entry → (rest : AreEntries next new lines)
     → stage_after next.stage rest.entries ≡ stage_after old.stage (entry ∷ rest.entries) → ComeFrom old.mixed old.stage (entry ∷ rest.entries)
-    → AreTrueAfter old.journal old.last (entry ∷ rest.entries) → next.journal ++ edits_in rest.entries ≡ old.journal ++ edits_in (entry ∷ rest.entries)
-    → last_of next.last rest.entries ≡ last_of old.last (entry ∷ rest.entries) → next.mixed ≡ old.mixed → AreEntries old new (line ∷ lines)
-with_entry old next new line lines entry is rest steps come holds joined follows same = record {
+    → AreTrueAfter old.journal old.last (entry ∷ rest.entries) → All IsPush (take (elements_of old.heading - length old.journal) (entry ∷ rest.entries))
+    → next.journal ++ edits_in rest.entries ≡ old.journal ++ edits_in (entry ∷ rest.entries)
+    → last_of next.last rest.entries ≡ last_of old.last (entry ∷ rest.entries) → next.mixed ≡ old.mixed → next.heading ≡ old.heading → AreEntries old new (line ∷ lines)
+with_entry old next new line lines entry is rest steps come holds pushes joined follows same still = record {
   entries = entry ∷ rest.entries;
   ends =
       elim rest.ends [
         | inl goes_on ↦ inl (goes_on.0 ∙ steps, ap (λ (l : List ℕ). l ∷ lines) is ∙ ap (λ (ls : List (List ℕ)). entry_line entry ∷ ls) goes_on.1)
-        | inr ended ↦ inr (ended.0, ap (λ (l : List ℕ). l ∷ lines) is ∙ ap (λ (ls : List (List ℕ)). entry_line entry ∷ ls) ended.1)
+        | inr ended ↦ inr (ended.0, ap (λ (l : List ℕ). l ∷ lines) is ∙ ap (λ (ls : List (List ℕ)). entry_line entry ∷ ls) ended.1, sym still ∙ ended.2)
       ];
   come = come;
   all_true = holds;
+  pushes = pushes;
   journal_is = rest.journal_is ∙ joined;
   last_is = rest.last_is ∙ follows;
   mixed_is = rest.mixed_is ∙ same;
+  heading_is = rest.heading_is ∙ still;
 }
 
 -- lines that are taken behind the first are such
@@ -158,83 +230,113 @@ entries_of old new [] at runs = record {
   ends = inl (ap (λ (s : AuditState). s.stage) runs, refl);
   come = tt;
   all_true = tt;
+  pushes = no_pushes (elements_of old.heading - length old.journal);
   journal_is = ap (λ (s : AuditState). s.journal) runs ∙ sym (append-nil old.journal);
   last_is = ap (λ (s : AuditState). s.last) runs;
   mixed_is = ap (λ (s : AuditState). s.mixed) runs;
+  heading_is = ap (λ (s : AuditState). s.heading) runs;
 }
 entries_of old new (line ∷ lines) at runs =
+    let n = elements_of old.heading in
     elim runs.1.1 [
       | inl t ↦ absurd (not_start old.stage t.at at)
       | inr (inl t) ↦
           let next : AuditState = record old { stage = Edits; journal = old.journal ++ t.edit ∷ [] } in
           let rest : AreEntries next new lines = entries_of next new lines (inl refl) (subst (λ (s : AuditState). Runs s lines new) t.next runs.2) in
-          with_entry old next new line lines (inl t.edit) t.text rest refl (t.at, rest.come) (carries_of_fits t.edit t.fits, t.verdict, rest.all_true) (append_assoc old.journal (t.edit ∷ []) (edits_in rest.entries)) refl refl
+          let here : 0 < n - length old.journal → IsPush (inl t.edit) = λ some. t.place (omega (arith, some)) in
+          with_entry old next new line lines (inl t.edit) t.text rest refl (t.at, rest.come) (carries_of_fits t.edit t.fits, t.verdict, rest.all_true)
+          (one_push (n - length old.journal) (n - length (old.journal ++ t.edit ∷ [])) (inl t.edit) rest.entries (omega (arith, length_push old.journal t.edit)) here rest.pushes)
+          (append_assoc old.journal (t.edit ∷ []) (edits_in rest.entries)) refl refl refl
       | inr (inr (inl t)) ↦
           let next : AuditState = record old { stage = AnswersFollow; last = t.answer.edit } in
           let rest : AreEntries next new lines = entries_of next new lines (inr refl) (subst (λ (s : AuditState). Runs s lines new) t.next runs.2) in
-          with_entry old next new line lines (inr t.answer) t.text rest refl rest.come (t.order, t.holds, rest.all_true) refl refl refl
+          let none : 0 ≡ n - length old.journal = omega (arith, t.behind) in
+          with_entry old next new line lines (inr t.answer) t.text rest refl rest.come (t.order, t.holds, rest.all_true)
+          (subst (λ (k : ℕ). All IsPush (take k (inr t.answer ∷ rest.entries))) none (All-nil IsPush)) refl refl refl refl
       | inr (inr (inr t)) ↦
           let ended : AuditState = record old { stage = End } in
           let last = none_behind_end ended new lines refl (subst (λ (s : AuditState). Runs s lines new) t.next runs.2) in
           record {
             entries = [];
-            ends = inr (ap (λ (s : AuditState). s.stage) last.1, ap (λ (l : List ℕ). l ∷ lines) t.text ∙ ap (λ (ls : List (List ℕ)). end_line ∷ ls) last.0);
+            ends = inr (ap (λ (s : AuditState). s.stage) last.1, ap (λ (l : List ℕ). l ∷ lines) t.text.1 ∙ ap (λ (ls : List (List ℕ)). end_line ∷ ls) last.0, t.text.0);
             come = tt;
             all_true = tt;
+            pushes = no_pushes (n - length old.journal);
             journal_is = ap (λ (s : AuditState). s.journal) last.1 ∙ sym (append-nil old.journal);
             last_is = ap (λ (s : AuditState). s.last) last.1;
             mixed_is = ap (λ (s : AuditState). s.mixed) last.1;
+            heading_is = ap (λ (s : AuditState). s.heading) last.1;
           }
     ]
 
--- lines that are taken from the start: none; or the first, and those of entries, and perhaps the last
+-- where the lines that were taken from the start end: there are none; or they are the first and those of entries, and perhaps the last
+abbrev pub EndTaken : AuditState → List (List ℕ) → List Entry → Type 0
+EndTaken new lines entries =
+    ((new.stage ≡ Start) × (lines ≡ []) × (entries ≡ []) × (new.heading ≡ None))
+    ⊎ ((new.stage ≡ stage_after Edits entries) × (lines ≡ heading_line new.heading ∷ map entry_line entries))
+    ⊎ ((new.stage ≡ End) × (lines ≡ all_lines new.heading entries) × (new.heading ≡ None))
+
 pub record AreTaken (mixed : Bool) (new : AuditState) (lines : List (List ℕ)) : Type 0 where
   pub entries : List Entry
-  pub ends :
-      ((new.stage ≡ Start) × (lines ≡ []) × (entries ≡ []))
-      ⊎ ((new.stage ≡ stage_after Edits entries) × (lines ≡ first_line ∷ map entry_line entries))
-      ⊎ ((new.stage ≡ End) × (lines ≡ all_lines entries))
+  pub ends : EndTaken new lines entries
   pub come : ComeFrom mixed Edits entries
-  pub sound : AreSound mixed entries
+  pub sound : AreSound mixed new.heading entries
   pub journal_is : new.journal ≡ edits_in entries
   pub last_is : new.last ≡ last_edit (answers_in entries)
   pub mixed_is : new.mixed ≡ mixed
 
+-- the first line, and the others behind it
+taken_behind : (mixed : Bool) (heading : Option LogHeading) (line : List ℕ) (lines : List (List ℕ)) (new : AuditState) → MayBegin mixed heading → line ≡ heading_line heading
+    → AreEntries record { stage = Edits; heading = heading; journal = []; last = 0; mixed = mixed } new lines → AreTaken mixed new (line ∷ lines)
+taken_behind mixed heading line lines new begins text rest =
+    let first : line ≡ heading_line new.heading = text ∙ ap heading_line (sym rest.heading_is) in
+    let last : new.heading ≡ None → end_line ∷ [] ≡ ending new.heading = λ none. ap ending (sym none) in
+    record {
+      entries = rest.entries;
+      ends =
+          elim rest.ends [
+            | inl goes_on ↦ inr (inl (goes_on.0, ap (λ (l : List ℕ). l ∷ lines) first ∙ ap (λ (ls : List (List ℕ)). heading_line new.heading ∷ ls) goes_on.1))
+            | inr ended ↦
+                let none : new.heading ≡ None = rest.heading_is ∙ ended.2 in
+                inr (inr (
+                  ended.0,
+                  ap (λ (l : List ℕ). l ∷ lines) first ∙ ap (λ (ls : List (List ℕ)). heading_line new.heading ∷ ls) (ended.1 ∙ ap (λ (ls : List (List ℕ)). map entry_line rest.entries ++ ls) (last none)),
+                  none,
+                ))
+          ];
+      come = rest.come;
+      sound =
+          subst (λ (h : Option LogHeading). AreSound mixed h rest.entries) (sym rest.heading_is)
+          record { begins = begins; all_true = true_of mixed heading rest.entries begins rest.all_true rest.pushes; ordered = ordered_so mixed rest.entries rest.come };
+      journal_is = rest.journal_is;
+      last_is = rest.last_is;
+      mixed_is = rest.mixed_is;
+    }
+
 pub taken_from_start : (mixed : Bool) (new : AuditState) (lines : List (List ℕ)) → Runs (start_state mixed) lines new → AreTaken mixed new lines
-taken_from_start mixed new [] runs = record {
-  entries = [];
-  ends = inl (ap (λ (s : AuditState). s.stage) runs, refl, refl);
-  come = tt;
-  sound = record { all_true = tt; ordered = ordered_so mixed [] tt };
-  journal_is = ap (λ (s : AuditState). s.journal) runs;
-  last_is = ap (λ (s : AuditState). s.last) runs;
-  mixed_is = ap (λ (s : AuditState). s.mixed) runs;
-}
+taken_from_start mixed new [] runs =
+    let none : new.heading ≡ None = ap (λ (s : AuditState). s.heading) runs in
+    record {
+      entries = [];
+      ends = inl (ap (λ (s : AuditState). s.stage) runs, refl, refl, none);
+      come = tt;
+      sound = subst (λ (h : Option LogHeading). AreSound mixed h []) (sym none) record { begins = tt; all_true = tt; ordered = ordered_so mixed [] tt };
+      journal_is = ap (λ (s : AuditState). s.journal) runs;
+      last_is = ap (λ (s : AuditState). s.last) runs;
+      mixed_is = ap (λ (s : AuditState). s.mixed) runs;
+    }
 taken_from_start mixed new (line ∷ lines) runs =
     elim runs.1.1 [
       | inl t ↦
-          let next : AuditState = record { stage = Edits; journal = []; last = 0; mixed = mixed } in
-          let rest : AreEntries next new lines = entries_of next new lines (inl refl) (subst (λ (s : AuditState). Runs s lines new) t.next runs.2) in
-          record {
-            entries = rest.entries;
-            ends =
-                elim rest.ends [
-                  | inl goes_on ↦ inr (inl (goes_on.0, ap (λ (l : List ℕ). l ∷ lines) t.text ∙ ap (λ (ls : List (List ℕ)). first_line ∷ ls) goes_on.1))
-                  | inr ended ↦ inr (inr (ended.0, ap (λ (l : List ℕ). l ∷ lines) t.text ∙ ap (λ (ls : List (List ℕ)). first_line ∷ ls) ended.1))
-                ];
-            come = rest.come;
-            sound = record { all_true = rest.all_true; ordered = ordered_so mixed rest.entries rest.come };
-            journal_is = rest.journal_is;
-            last_is = rest.last_is;
-            mixed_is = rest.mixed_is;
-          }
+          let next : AuditState = record { stage = Edits; heading = t.heading; journal = []; last = 0; mixed = mixed } in
+          taken_behind mixed t.heading line lines new t.begins t.text (entries_of next new lines (inl refl) (subst (λ (s : AuditState). Runs s lines new) t.next runs.2))
       | inr (inl t) ↦ absurd (not_start Start refl (may_end_of_edit mixed Start t.at))
       | inr (inr (inl t)) ↦ absurd (not_start Start refl t.at)
       | inr (inr (inr t)) ↦ absurd (not_start Start refl t.at)
     ]
 
 -- where the last line may come, the lines that were taken are the first and those of entries
-pub entries_before : (mixed : Bool) (front : List (List ℕ)) (s : AuditState) (t : AreTaken mixed s front) → MayEnd s.stage → (s.stage ≡ stage_after Edits t.entries) × (front ≡ first_line ∷ map entry_line t.entries)
+pub entries_before : (mixed : Bool) (front : List (List ℕ)) (s : AuditState) (t : AreTaken mixed s front) → MayEnd s.stage → (s.stage ≡ stage_after Edits t.entries) × (front ≡ heading_line s.heading ∷ map entry_line t.entries)
 entries_before mixed front s t at =
     elim t.ends [
       | inl none ↦ absurd (not_start s.stage none.0 at)
@@ -243,7 +345,7 @@ entries_before mixed front s t at =
     ]
 
 -- where the last line was taken, they are all lines
-pub all_before : (mixed : Bool) (s : AuditState) (lines : List (List ℕ)) (t : AreTaken mixed s lines) → s.stage ≡ End → lines ≡ all_lines t.entries
+pub all_before : (mixed : Bool) (s : AuditState) (lines : List (List ℕ)) (t : AreTaken mixed s lines) → s.stage ≡ End → lines ≡ all_lines s.heading t.entries
 all_before mixed s lines t end =
     elim t.ends [
       | inl none ↦ absurd (cc (end, none.0))
@@ -259,7 +361,7 @@ pub rest_of : (x y : List ℕ) (xs ys : List (List ℕ)) → x ∷ xs ≡ y ∷ 
 rest_of x y xs ys same = ap (λ (ls : List (List ℕ)). drop 1 ls) same
 
 -- they are those of a front
-pub front_lines_of : (mixed : Bool) (new : AuditState) (lines : List (List ℕ)) (t : AreTaken mixed new lines) → AreFrontLines t.entries lines
+pub front_lines_of : (mixed : Bool) (new : AuditState) (lines : List (List ℕ)) (t : AreTaken mixed new lines) → AreFrontLines new.heading t.entries lines
 front_lines_of mixed new [] t =
     elim t.ends [
       | inl none ↦ none.2
@@ -267,11 +369,23 @@ front_lines_of mixed new [] t =
       | inr (inr some) ↦ absurd (cc some.1)
     ]
 front_lines_of mixed new (line ∷ lines) t =
+    let first = heading_line new.heading in
+    let shown = map entry_line t.entries in
     elim t.ends [
       | inl none ↦ absurd (cc none.1)
-      | inr (inl some) ↦ (first_of line first_line lines (map entry_line t.entries) some.1, inl (rest_of line first_line lines (map entry_line t.entries) some.1))
-      | inr (inr some) ↦ (first_of line first_line lines (map entry_line t.entries ++ end_line ∷ []) some.1, inr (rest_of line first_line lines (map entry_line t.entries ++ end_line ∷ []) some.1))
+      | inr (inl some) ↦ (first_of line first lines shown some.1, inl (rest_of line first lines shown some.1))
+      | inr (inr some) ↦ (first_of line first lines (shown ++ ending new.heading) some.1, inr (rest_of line first lines (shown ++ ending new.heading) some.1))
     ]
+
+-- where there are none, there is no heading
+pub told_by_taken : (mixed : Bool) (new : AuditState) (lines : List (List ℕ)) (t : AreTaken mixed new lines) → IsToldBy lines new.heading
+told_by_taken mixed new [] t =
+    elim t.ends [
+      | inl none ↦ none.3
+      | inr (inl some) ↦ absurd (cc some.1)
+      | inr (inr some) ↦ some.2
+    ]
+told_by_taken mixed new (line ∷ lines) t = tt
 
 -- ---- in the order of a transcript
 
@@ -353,14 +467,15 @@ true_in_order before (e ∷ edits) answers accepted carry holds rise = (
 )
 
 module _ (edits : List Edit) (answers : List Claimed) where
-  pub sound_entries : All CarriesElement edits → AreAccepted greatest edits → AreInOrder answers → All (IsTrueAnswer edits) answers → AreSound false (map inl edits ++ map inr answers)
+  pub sound_entries : All CarriesElement edits → AreAccepted greatest edits → AreInOrder answers → All (IsTrueAnswer edits) answers → AreSound false None (map inl edits ++ map inr answers)
   sound_entries carry accepted order holds = record {
+    begins = tt;
     all_true = true_in_order [] edits answers accepted carry holds (rise_in_order 0 answers (λ d some. omega arith) order);
     ordered = ordered_so false (map inl edits ++ map inr answers) (come_in_order edits answers);
   }
 
   -- their lines are those of a transcript
-  pub lines_in_order : all_lines (map inl edits ++ map inr answers) ≡ transcript_lines edits answers
+  pub lines_in_order : all_lines None (map inl edits ++ map inr answers) ≡ transcript_lines edits answers
   lines_in_order =
       let lines : map entry_line (map inl edits ++ map inr answers) ≡ map edit_line edits ++ map answer_line answers =
       map-append entry_line (map inl edits) (map inr answers)
@@ -369,20 +484,31 @@ module _ (edits : List Edit) (answers : List Claimed) where
       ap (λ (ls : List (List ℕ)). first_line ∷ (ls ++ end_line ∷ [])) lines
 
 -- the lines of sound entries that are in order are those of a transcript
-pub lines_of_ordered : (entries : List Entry) → AreSound false entries → all_lines entries ≡ transcript_lines (edits_in entries) (answers_in entries)
-lines_of_ordered entries sound = ap all_lines sound.ordered ∙ lines_in_order (edits_in entries) (answers_in entries)
+pub lines_of_ordered : (entries : List Entry) → AreSound false None entries → all_lines None entries ≡ transcript_lines (edits_in entries) (answers_in entries)
+lines_of_ordered entries sound = ap (all_lines None) sound.ordered ∙ lines_in_order (edits_in entries) (answers_in entries)
 
 -- ---- from entries to lines that are taken
 
--- lines are taken from a state to the end
-pub record RunsToEnd (old : AuditState) (lines : List (List ℕ)) : Type 0 where
+-- lines are taken from a state, in a transcript to the end
+pub record RunsToEnd (heading : Option LogHeading) (old : AuditState) (lines : List (List ℕ)) : Type 0 where
   pub end : AuditState
   pub runs : Runs old lines end
-  pub at_end : end.stage ≡ End
+  pub at_end : heading ≡ None → end.stage ≡ End
 
 -- one line, and then the others
-first_taken : (old mid : AuditState) (line : List ℕ) (lines : List (List ℕ)) → Takes old line mid → RunsToEnd mid lines → RunsToEnd old (line ∷ lines)
-first_taken old mid line lines taken rest = record { end = rest.end; runs = (mid, taken, rest.runs); at_end = rest.at_end }
+first_taken : (heading : Option LogHeading) (old mid : AuditState) (line : List ℕ) (lines : List (List ℕ)) → Takes old line mid → RunsToEnd heading mid lines → RunsToEnd heading old (line ∷ lines)
+first_taken heading old mid line lines taken rest = record { end = rest.end; runs = (mid, taken, rest.runs); at_end = rest.at_end }
+
+-- the last line, where there is one
+last_taken : (mixed : Bool) (heading : Option LogHeading) (stage : Stage) (before : List Edit) (last : ℕ) → MayEnd stage
+    → RunsToEnd heading record { stage = stage; heading = heading; journal = before; last = last; mixed = mixed } (ending heading)
+last_taken mixed None stage before last at =
+    let old : AuditState = record { stage = stage; heading = None; journal = before; last = last; mixed = mixed } in
+    let end : AuditState = record old { stage = End } in
+    record { end = end; runs = (end, (lit≤ tt, inr (inr (inr record { at = at; text = (refl, refl); next = refl }))), refl); at_end = λ none. refl }
+last_taken mixed (Some h) stage before last at =
+    let old : AuditState = record { stage = stage; heading = Some h; journal = before; last = last; mixed = mixed } in
+    record { end = old; runs = refl; at_end = λ none. absurd (cc none) }
 
 -- edits that a vector has accepted
 pub record AreBefore (before : List Edit) : Type 0 where
@@ -407,45 +533,52 @@ pub all_within : (before : List Edit) → AreBefore before → IsWithin before
 all_within before known = subst (λ (js : List Edit). IsWithin js) (take_all (length before) before (omega arith)) (begin_within before known (length before))
 
 -- the lines of entries that are true, and may come, are taken, and then the last
-entries_taken : (mixed : Bool) (stage : Stage) (before : List Edit) (last : ℕ) (entries : List Entry) → MayEnd stage → ComeFrom mixed stage entries → AreBefore before → AreTrueAfter before last entries
-    → RunsToEnd record { stage = stage; journal = before; last = last; mixed = mixed } (map entry_line entries ++ end_line ∷ [])
-entries_taken mixed stage before last [] at come known holds =
-    let old : AuditState = record { stage = stage; journal = before; last = last; mixed = mixed } in
-    let end : AuditState = record old { stage = End } in
-    record { end = end; runs = (end, (lit≤ tt, inr (inr (inr record { at = at; text = refl; next = refl }))), refl); at_end = refl }
-entries_taken mixed stage before last (inl e ∷ entries) at come known holds =
-    let old : AuditState = record { stage = stage; journal = before; last = last; mixed = mixed } in
+entries_taken : (mixed : Bool) (heading : Option LogHeading) (stage : Stage) (before : List Edit) (last : ℕ) (entries : List Entry) → MayEnd stage → ComeFrom mixed stage entries → AreBefore before → AreTrueAfter before last entries
+    → All IsPush (take (elements_of heading - length before) entries)
+    → RunsToEnd heading record { stage = stage; heading = heading; journal = before; last = last; mixed = mixed } (map entry_line entries ++ ending heading)
+entries_taken mixed heading stage before last [] at come known holds pushes = last_taken mixed heading stage before last at
+entries_taken mixed heading stage before last (inl e ∷ entries) at come known holds pushes =
+    let old : AuditState = record { stage = stage; heading = heading; journal = before; last = last; mixed = mixed } in
     let next : AuditState = record old { stage = Edits; journal = before ++ e ∷ [] } in
     let fits : IsEdit e = accepted_fits before e (all_within before known) holds.1 holds.0 in
-    first_taken old next (edit_line e) (map entry_line entries ++ end_line ∷ [])
-    ((line_of_edit e fits).short, inr (inl record { edit = e; at = come.0; fits = fits; text = refl; verdict = holds.1; next = refl }))
-    (entries_taken mixed Edits (before ++ e ∷ []) last entries (inl refl) come.1 (one_more_before before e known holds.0 holds.1) holds.2)
-entries_taken mixed stage before last (inr answer ∷ entries) at come known holds =
-    let old : AuditState = record { stage = stage; journal = before; last = last; mixed = mixed } in
+    let n = elements_of heading in
+    let place : IsInPlace n before e = λ few. first_push (n - length before) (inl e) entries (omega (arith, few)) pushes in
+    first_taken heading old next (edit_line e) (map entry_line entries ++ ending heading)
+    ((line_of_edit e fits).short, inr (inl record { edit = e; at = come.0; fits = fits; text = refl; verdict = holds.1; place = place; next = refl }))
+    (entries_taken mixed heading Edits (before ++ e ∷ []) last entries (inl refl) come.1 (one_more_before before e known holds.0 holds.1) holds.2
+    (other_pushes (n - length before) (n - length (before ++ e ∷ [])) (inl e) entries (omega (arith, length_push before e)) pushes))
+entries_taken mixed heading stage before last (inr answer ∷ entries) at come known holds pushes =
+    let old : AuditState = record { stage = stage; heading = heading; journal = before; last = last; mixed = mixed } in
     let next : AuditState = record old { stage = AnswersFollow; last = answer.edit } in
     let plain = plain_answer before (begin_within before known) answer holds.1 in
-    first_taken old next (answer_line answer) (map entry_line entries ++ end_line ∷ [])
-    (plain.line.short, inr (inr (inl record { answer = answer; at = at; fits = plain.fits; text = refl; order = holds.0; holds = holds.1; next = refl })))
-    (entries_taken mixed AnswersFollow before answer.edit entries (inr refl) come known holds.2)
+    let n = elements_of heading in
+    let none : n - length before ≡ 0 = no_answer (n - length before) answer entries pushes in
+    first_taken heading old next (answer_line answer) (map entry_line entries ++ ending heading)
+    (plain.line.short, inr (inr (inl record { answer = answer; at = at; fits = plain.fits; text = refl; order = holds.0; holds = holds.1; behind = omega (arith, none); next = refl })))
+    (entries_taken mixed heading AnswersFollow before answer.edit entries (inr refl) come known holds.2
+    (subst (λ (k : ℕ). All IsPush (take k entries)) (sym none) (All-nil IsPush)))
 
 -- all lines of sound entries are taken
-pub all_lines_taken : (mixed : Bool) (entries : List Entry) → AreSound mixed entries → RunsToEnd (start_state mixed) (all_lines entries)
-all_lines_taken mixed entries sound =
-    let next : AuditState = record { stage = Edits; journal = []; last = 0; mixed = mixed } in
-    first_taken (start_state mixed) next first_line (map entry_line entries ++ end_line ∷ []) (lit≤ tt, inl record { at = refl; text = refl; next = refl })
-    (entries_taken mixed Edits [] 0 entries (inl refl) (come_so mixed entries sound.ordered) none_before sound.all_true)
+pub all_lines_taken : (mixed : Bool) (heading : Option LogHeading) (entries : List Entry) → AreSound mixed heading entries → RunsToEnd heading (start_state mixed) (all_lines heading entries)
+all_lines_taken mixed heading entries sound =
+    let next : AuditState = record { stage = Edits; heading = heading; journal = []; last = 0; mixed = mixed } in
+    let all : elements_of heading ≡ elements_of heading - 0 = omega arith in
+    first_taken heading (start_state mixed) next (heading_line heading) (map entry_line entries ++ ending heading)
+    (heading_line_short mixed heading sound.begins, inl record { heading = heading; at = refl; begins = sound.begins; text = refl; next = refl })
+    (entries_taken mixed heading Edits [] 0 entries (inl refl) (come_so mixed entries sound.ordered) none_before (all_true_of heading entries sound.all_true)
+    (subst (λ (n : ℕ). All IsPush (take n entries)) all (pushes_of heading entries sound.all_true)))
 
 -- and so are those of a front
-rest_of_front : (entries : List Entry) (lines : List (List ℕ)) → AreFrontLines entries lines → (rest : List (List ℕ)) × (lines ++ rest ≡ all_lines entries)
-rest_of_front entries [] are = (all_lines entries, refl)
-rest_of_front entries (line ∷ lines) (is, inl same) =
-    (end_line ∷ [], ap (λ (l : List ℕ). l ∷ (lines ++ end_line ∷ [])) is ∙ ap (λ (ls : List (List ℕ)). first_line ∷ (ls ++ end_line ∷ [])) same)
-rest_of_front entries (line ∷ lines) (is, inr same) =
-    ([], ap (λ (l : List ℕ). l ∷ (lines ++ [])) is ∙ ap (λ (ls : List (List ℕ)). first_line ∷ ls) (append-nil lines ∙ same))
+rest_of_front : (heading : Option LogHeading) (entries : List Entry) (lines : List (List ℕ)) → AreFrontLines heading entries lines → (rest : List (List ℕ)) × (lines ++ rest ≡ all_lines heading entries)
+rest_of_front heading entries [] are = (all_lines heading entries, refl)
+rest_of_front heading entries (line ∷ lines) (is, inl same) =
+    (ending heading, ap (λ (l : List ℕ). l ∷ (lines ++ ending heading)) is ∙ ap (λ (ls : List (List ℕ)). heading_line heading ∷ (ls ++ ending heading)) same)
+rest_of_front heading entries (line ∷ lines) (is, inr same) =
+    ([], ap (λ (l : List ℕ). l ∷ (lines ++ [])) is ∙ ap (λ (ls : List (List ℕ)). heading_line heading ∷ ls) (append-nil lines ∙ same))
 
-pub front_taken : (entries : List Entry) (lines : List (List ℕ)) → AreFrontLines entries lines → AreTrueAfter [] 0 entries → (end : AuditState) × Runs (start_state true) lines end
-front_taken entries lines are holds =
-    let rest = rest_of_front entries lines are in
-    let known = all_lines_taken true entries record { all_true = holds; ordered = tt } in
+pub front_taken : (heading : Option LogHeading) (entries : List Entry) (lines : List (List ℕ)) → AreFrontLines heading entries lines → AreTrueOf heading entries → (end : AuditState) × Runs (start_state true) lines end
+front_taken heading entries lines are holds =
+    let rest = rest_of_front heading entries lines are in
+    let known = all_lines_taken true heading entries record { begins = begins_of heading entries holds; all_true = holds; ordered = tt } in
     let by = runs_by (start_state true) known.end lines rest.0 (subst (λ (ls : List (List ℕ)). Runs (start_state true) ls known.end) (sym rest.1) known.runs) in
     (by.mid, by.runs)

@@ -1,11 +1,11 @@
 -- The bytes of a transcript, and its lines.
-use Rattle.std.proofs.Common.{◌≡◌, ◌⊎◌, ℕ, ◌≤◌, ◌==◌, false, List, [], ◌∷◌, ◌++◌, length, get_or, take, map, All, refl, sym, ap, ◌∙◌, inl, inr, arith, append_assoc}
+use Rattle.std.proofs.Common.{◌≡◌, ◌⊎◌, ℕ, ◌≤◌, ◌==◌, true, false, List, [], ◌∷◌, ◌++◌, length, get_or, take, map, All, refl, sym, ap, ◌∙◌, inl, inr, arith, append_assoc}
 use Rattle.std.proofs.lemmas.Bool.{cases_Bool, eqb-true, ne_eqb}
 use Rattle.std.proofs.lemmas.List.{get_or_push, length_push, length-take, take_all}
 use Rattle.std.proofs.lemmas.List.Elements.{All-head, All-tail, All-weaker}
 use Rattle.std.proofs.lemmas.List.Folds.{map_fixed}
-use Rattle.lv_lines.specs.Input.{begun_with, lines_of, whole_lines_of, has_end, unended_of, last_line}
-use Rattle.lv_lines.proofs.InputLemmas.{lines_of-parts, lines_of-ended, whole_lines_of-ended, whole_lines_of-push_end, unended_of-ended, last_line-some}
+use Rattle.lv_lines.specs.Input.{begun_with, lines_of, put_before, whole_lines_of, has_end, unended_of, last_line}
+use Rattle.lv_lines.proofs.InputLemmas.{lines_of-parts, lines_of-ended, whole_lines_of-begun, whole_lines_of-ended, whole_lines_of-push_end, unended_of-ended, last_line-some}
 use Rattle.lv_lines.proofs.PrintedWords.{IsPrintable}
 use Rattle.lv_transcript.specs.Transcript.{ended}
 
@@ -76,6 +76,37 @@ bytes_of_lines (b ∷ bs) =
     elim (cases_Bool (b == 10)) [
       | inl ends ↦ rw ends (ended_end b bs (lines_of bs) (eqb-true b 10 ends) (bytes_of_lines bs))
       | inr other ↦ rw other (ended_begun b bs (lines_of bs) (bytes_of_lines bs))
+    ]
+
+-- a byte before the first of some lines
+whole_begun : (b : ℕ) (bs rest : List ℕ) (lines : List (List ℕ)) → (lines ≡ [] → ⊥) → bs ≡ ended lines ++ rest → b ∷ bs ≡ ended (put_before b lines) ++ rest
+whole_begun b bs rest [] some is = absurd (some refl)
+whole_begun b bs rest (line ∷ lines) some is = ap (λ (xs : List ℕ). b ∷ xs) is
+
+-- an LF among bytes ends a line
+some_whole : (bs : List ℕ) → has_end bs ≡ true → whole_lines_of bs ≡ [] → ⊥
+some_whole [] some none = absurd (cc some)
+some_whole (b ∷ bs) some none =
+    elim (cases_Bool (b == 10)) [
+      | inl ends ↦ absurd (cc (rw ends at none))
+      | inr other ↦ some_whole bs (rw other at some) (none_before b (whole_lines_of bs) (rw other at none))
+    ]
+  where
+    none_before : (b : ℕ) (lines : List (List ℕ)) → put_before b lines ≡ [] → lines ≡ []
+    none_before b [] is = refl
+    none_before b (line ∷ lines) is = absurd (cc is)
+
+-- bytes are their whole lines, and what stands behind the last LF
+pub whole_parts : (bytes : List ℕ) → bytes ≡ ended (whole_lines_of bytes) ++ unended_of bytes
+whole_parts [] = refl
+whole_parts (b ∷ bs) =
+    elim (cases_Bool (b == 10)) [
+      | inl ends ↦ rw (eqb-true b 10 ends) (ap (λ (xs : List ℕ). 10 ∷ xs) (whole_parts bs))
+      | inr other ↦
+          elim (cases_Bool (has_end bs)) [
+            | inl some ↦ rw (other, some) (whole_begun b bs (unended_of bs) (whole_lines_of bs) (some_whole bs some) (whole_parts bs))
+            | inr none ↦ rw (other, none, whole_lines_of-begun bs none) refl
+          ]
     ]
 
 -- ---- the first bytes of short lines

@@ -1,4 +1,5 @@
 -- How a transcript is audited: what a line is read as, and how far the lines so far lead.
+use Rattle.std.proofs.Common.{inl}
 use Rattle.std.specs.Prelude.{◌≡◌, ◌⊎◌, ℕ, ◌+◌, ◌-◌, ◌^◌, ◌<◌, ◌≤◌, Bool, true, false, List, [], ◌∷◌, ◌++◌, length, take, slice_range, ℤ, Option, Some, None}
 use Rattle.lv_bodies.specs.declared.kinds.Kind.{Kind}
 use Rattle.lv_bodies.specs.Plain.{plain_value}
@@ -6,17 +7,19 @@ use Rattle.lv_edits.specs.declared.edit.Edit.{Edit}
 use Rattle.lv_edits.specs.History.{History, list_of}
 use Rattle.lv_edits.specs.Verdict.{verdict_of}
 use Rattle.lv_lines.specs.Grammar.{kind_in, ◌>>=◌}
-use Rattle.lv_lines.specs.Numbers.{number_in}
+use Rattle.lv_lines.specs.Numbers.{number_in, number_up_to}
 use Rattle.lv_lines.specs.Texts.{shown_text}
 use Rattle.lv_transcript.specs.declared.auditor.Stage.{Stage}
 use Rattle.lv_transcript.specs.declared.auditor.Stage.TheVariants as stages
+use Rattle.lv_transcript.specs.declared.log_heading.LogHeading.{LogHeading}
 use Rattle.lv_transcript.specs.declared.transcript_lines.Question.{Question}
 use Rattle.lv_transcript.specs.declared.claimed.Claimed.{Claimed}
 use Rattle.lv_transcript.specs.declared.auditor.Verdict.{Verdict}
 use Rattle.lv_transcript.specs.declared.auditor.Verdict.TheVariants as verdicts
 use Rattle.lv_transcript.specs.declared.fronts.FrontVerdict.{FrontVerdict}
 use Rattle.lv_transcript.specs.declared.fronts.FrontVerdict.TheVariants as fronts
-use Rattle.lv_transcript.specs.Transcript.{answer_line, edit_line, first_line, greatest, end_line, question_text, BeginsAnswer, HasEditForm, IsEdit, IsTrueAnswer}
+use Rattle.lv_transcript.specs.Fronts.{IsFirst, IsPush, MayBegin, elements_of}
+use Rattle.lv_transcript.specs.Transcript.{answer_line, edit_line, greatest, end_line, heading_line, question_text, BeginsAnswer, HasEditForm, IsEdit, IsTrueAnswer}
 
 -- ---- a question: what an answer asks
 
@@ -64,6 +67,19 @@ abbrev pub question_in : List (List ℕ) → Option Question
 question_in [] = None
 question_in (word ∷ words) = question_before words
 
+-- the heading whose numbers some words begin with
+unfoldable pub heading_before : List (List ℕ) → Option LogHeading
+heading_before [] = None
+heading_before (word ∷ words) = do
+  base ← number_up_to (2 ^ 64 - 1) word
+  elements ← first_number words
+  Some record { base = base; elements = elements }
+
+-- the heading that the words of a line have, behind the first two
+abbrev pub heading_in : List (List ℕ) → Option LogHeading
+heading_in (first ∷ second ∷ words) = heading_before words
+heading_in words = None
+
 -- what an answer asks
 abbrev pub question_of : Claimed → Question
 question_of answer = record { edit = answer.edit; kind = answer.kind; lo = answer.lo; hi = answer.hi }
@@ -74,28 +90,31 @@ pub record IsAnswer (xs : List ℤ) (question : Question) (value : List ℕ) : T
   pub end : question.hi ≤ length xs
   pub right : value ≡ shown_text (plain_value question.kind (slice_range xs question.lo question.hi))
 
--- a question that comes in order, of an edit that there is, with the right answer
-pub record IsAnswered (journal : List Edit) (last : ℕ) (question : Question) (value : List ℕ) : Type 0 where
+-- a question that comes in order, behind so many edits that stand for elements, of an edit that there is, with the right answer
+pub record IsAnswered (elements : ℕ) (journal : List Edit) (last : ℕ) (question : Question) (value : List ℕ) : Type 0 where
+  pub behind : elements ≤ length journal
   pub order : last ≤ question.edit
   pub edit : question.edit ≤ length journal
   pub answer : IsAnswer (list_of (take question.edit journal)) question value
 
 -- ---- how far an audit has come
 
--- what comes next or was found, the edits so far, the edit of the last answer, and whether edits may come behind answers
+-- what comes next or was found, the heading where the text is a log, the edits so far, the edit of the last answer, and whether edits may come
+-- behind answers
 pub record AuditState : Type 0 where
   pub stage : Stage
+  pub heading : Option LogHeading
   pub journal : List Edit
   pub last : ℕ
   pub mixed : Bool
 
 -- the state of an audit that is at a stage, has replayed all edits so far, and has come to the edit of the last answer
-abbrev pub state_of : Bool → Stage → History → ℕ → AuditState
-state_of mixed stage edits last = record { stage = stage; journal = edits.journal; last = last; mixed = mixed }
+abbrev pub state_of : Bool → Option LogHeading → Stage → History → ℕ → AuditState
+state_of mixed heading stage edits last = record { stage = stage; heading = heading; journal = edits.journal; last = last; mixed = mixed }
 
 -- an audit before its first line
 abbrev pub start_state : Bool → AuditState
-start_state mixed = record { stage = stages.Start; journal = []; last = 0; mixed = mixed }
+start_state mixed = record { stage = stages.Start; heading = None; journal = []; last = 0; mixed = mixed }
 
 -- a line is false, or not of the form that may stand there
 abbrev pub is_fault : Stage → Bool
@@ -116,11 +135,21 @@ MayEnd stage = (stage ≡ stages.Edits) ⊎ (stage ≡ stages.AnswersFollow)
 abbrev pub MayEdit : Bool → Stage → Type 0
 MayEdit mixed stage = (stage ≡ stages.Edits) ⊎ ((mixed ≡ true) × (stage ≡ stages.AnswersFollow))
 
+-- the edits that stand for elements have come
+abbrev pub HasAllElements : AuditState → Type 0
+HasAllElements old = elements_of old.heading ≤ length old.journal
+
+-- an edit may come behind these, of which so many stand for elements: such one is a push
+abbrev pub IsInPlace : ℕ → List Edit → Edit → Type 0
+IsInPlace elements journal edit = length journal < elements → IsPush (inl edit)
+
 -- the first line is taken
 pub record TakesFirst (old : AuditState) (line : List ℕ) (new : AuditState) : Type 0 where
+  pub heading : Option LogHeading
   pub at : old.stage ≡ stages.Start
-  pub text : line ≡ first_line
-  pub next : new ≡ record old { stage = stages.Edits }
+  pub begins : MayBegin old.mixed heading
+  pub text : line ≡ heading_line heading
+  pub next : new ≡ record old { stage = stages.Edits; heading = heading }
 
 -- the line of an edit is taken, which is accepted after those before it
 pub record TakesEdit (old : AuditState) (line : List ℕ) (new : AuditState) : Type 0 where
@@ -129,6 +158,7 @@ pub record TakesEdit (old : AuditState) (line : List ℕ) (new : AuditState) : T
   pub fits : IsEdit edit
   pub text : line ≡ edit_line edit
   pub verdict : verdict_of greatest old.journal edit ≡ None
+  pub place : IsInPlace (elements_of old.heading) old.journal edit
   pub next : new ≡ record old { stage = stages.Edits; journal = old.journal ++ edit ∷ [] }
 
 -- the line of an answer is taken, which comes in order and is true
@@ -139,12 +169,17 @@ pub record TakesAnswer (old : AuditState) (line : List ℕ) (new : AuditState) :
   pub text : line ≡ answer_line answer
   pub order : old.last ≤ answer.edit
   pub holds : IsTrueAnswer old.journal answer
+  pub behind : HasAllElements old
   pub next : new ≡ record old { stage = stages.AnswersFollow; last = answer.edit }
+
+-- a line is the last one of a transcript; a log has none
+abbrev pub IsLast : Option LogHeading → List ℕ → Type 0
+IsLast heading line = (heading ≡ None) × (line ≡ end_line)
 
 -- the last line is taken
 pub record TakesLast (old : AuditState) (line : List ℕ) (new : AuditState) : Type 0 where
   pub at : MayEnd old.stage
-  pub text : line ≡ end_line
+  pub text : IsLast old.heading line
   pub next : new ≡ record old { stage = stages.End }
 
 -- a line that comes after the edits is taken
@@ -157,13 +192,13 @@ Takes old line new = (length line ≤ 120) × (TakesFirst old line new ⊎ Takes
 
 -- a line that comes after the edits has the form of an answer in order, or is the last
 abbrev pub HasLaterForm : AuditState → List ℕ → Type 0
-HasLaterForm old line = MayEnd old.stage × (BeginsAnswer old.last line ⊎ (line ≡ end_line))
+HasLaterForm old line = MayEnd old.stage × (BeginsAnswer old.last line ⊎ IsLast old.heading line)
 
 -- a line of at most 120 bytes has a form that may come next
 abbrev pub MayCome : AuditState → List ℕ → Type 0
 MayCome old line =
     (length line ≤ 120)
-    × (((old.stage ≡ stages.Start) × (line ≡ first_line)) ⊎ (MayEdit old.mixed old.stage × HasEditForm line) ⊎ HasLaterForm old line)
+    × (((old.stage ≡ stages.Start) × IsFirst old.mixed line) ⊎ (MayEdit old.mixed old.stage × HasEditForm line) ⊎ HasLaterForm old line)
 
 -- a fault names the line of this number: as false where it has the right form, and as bad where it doesn't
 abbrev pub IsFaultOf : ℕ → Type 0 → Stage → Type 0
@@ -171,36 +206,33 @@ IsFaultOf number Form (stages.No n) = (n ≡ number) × Form
 IsFaultOf number Form (stages.Bad n) = (n ≡ number) × (Form → ⊥)
 IsFaultOf number Form _ = ⊥
 
--- line n was taken; or it cannot be, and that is found, by its form, behind these edits; or there was no memory
-abbrev pub Becomes : ℕ → List Edit → Type 0 → (AuditState → Type 0) → AuditState → Type 0
-Becomes n journal Form Next new =
-    Next new ⊎ (IsFaultOf n Form new.stage × (new.journal ≡ journal) × ((next : AuditState) → Next next → ⊥)) ⊎ (new.stage ≡ stages.NoMemory)
+-- line n was taken; or it cannot be, and that is found, by its form, behind the edits of a state; or there was no memory
+abbrev pub Becomes : ℕ → AuditState → Type 0 → (AuditState → Type 0) → AuditState → Type 0
+Becomes n old Form Next new =
+    Next new
+    ⊎ (IsFaultOf n Form new.stage × (new.journal ≡ old.journal) × (new.heading ≡ old.heading) × ((next : AuditState) → Next next → ⊥))
+    ⊎ (new.stage ≡ stages.NoMemory)
 
 -- line n of an audit: nothing changes once it has stopped
 abbrev pub Audits : AuditState → ℕ → List ℕ → AuditState → Type 0
 Audits old n line new =
-    ((is_stopped old.stage ≡ true) × (new ≡ old)) ⊎ ((is_stopped old.stage ≡ false) × Becomes n old.journal (MayCome old line) (Takes old line) new)
+    ((is_stopped old.stage ≡ true) × (new ≡ old)) ⊎ ((is_stopped old.stage ≡ false) × Becomes n old (MayCome old line) (Takes old line) new)
 
--- what became of line n, which should be the first
-abbrev pub FirstBecomes : ℕ → List ℕ → Stage → Type 0
-FirstBecomes number line stages.Edits = line ≡ first_line
-FirstBecomes number line (stages.Bad n) = (n ≡ number) × (line ≡ first_line → ⊥)
-FirstBecomes number line _ = ⊥
-
--- what became of the edit of line n after those before it: it was made, or cannot be, or there was no memory
-abbrev pub EditBecomes : ℕ → List Edit → Edit → Stage → List Edit → Type 0
-EditBecomes number old edit stages.Edits new = (verdict_of greatest old edit ≡ None) × (new ≡ old ++ edit ∷ [])
-EditBecomes number old edit (stages.No n) new = (n ≡ number) × (new ≡ old) × (verdict_of greatest old edit ≡ None → ⊥)
-EditBecomes number old edit stages.NoMemory new = Unit {0}
-EditBecomes number old edit _ new = ⊥
+-- what became of the edit of line n after those before it, of which so many stand for elements: it was made, or cannot be, or there was no memory
+abbrev pub EditBecomes : ℕ → ℕ → List Edit → Edit → Stage → List Edit → Type 0
+EditBecomes number elements old edit stages.Edits new = (verdict_of greatest old edit ≡ None) × IsInPlace elements old edit × (new ≡ old ++ edit ∷ [])
+EditBecomes number elements old edit (stages.No n) new = (n ≡ number) × (new ≡ old) × (verdict_of greatest old edit ≡ None → IsInPlace elements old edit → ⊥)
+EditBecomes number elements old edit stages.NoMemory new = Unit {0}
+EditBecomes number elements old edit _ new = ⊥
 
 -- what became of the answer of line n: it is true, or isn't, or comes out of order, or there was no memory
-abbrev pub AnswerLineBecomes : ℕ → List Edit → ℕ → Question → List ℕ → Stage → ℕ → Type 0
-AnswerLineBecomes number journal last question value stages.AnswersFollow reached = IsAnswered journal last question value × (reached ≡ question.edit)
-AnswerLineBecomes number journal last question value (stages.No n) reached = (n ≡ number) × (last ≤ question.edit) × (IsAnswered journal last question value → ⊥)
-AnswerLineBecomes number journal last question value (stages.Bad n) reached = (n ≡ number) × (question.edit < last)
-AnswerLineBecomes number journal last question value stages.NoMemory reached = Unit {0}
-AnswerLineBecomes number journal last question value _ reached = ⊥
+abbrev pub AnswerLineBecomes : ℕ → ℕ → List Edit → ℕ → Question → List ℕ → Stage → ℕ → Type 0
+AnswerLineBecomes number elements journal last question value stages.AnswersFollow reached = IsAnswered elements journal last question value × (reached ≡ question.edit)
+AnswerLineBecomes number elements journal last question value (stages.No n) reached =
+    (n ≡ number) × (last ≤ question.edit) × (IsAnswered elements journal last question value → ⊥)
+AnswerLineBecomes number elements journal last question value (stages.Bad n) reached = (n ≡ number) × (question.edit < last)
+AnswerLineBecomes number elements journal last question value stages.NoMemory reached = Unit {0}
+AnswerLineBecomes number elements journal last question value _ reached = ⊥
 
 -- what became of the answer of line n on the list after its edit: it is right, or isn't, or there was no memory
 abbrev pub AnswerBecomes : ℕ → List ℤ → Question → List ℕ → Stage → Type 0
@@ -217,32 +249,48 @@ IsVerdictAt (stages.Bad n) lines verdict = verdict ≡ verdicts.Bad n
 IsVerdictAt stages.NoMemory lines verdict = ⊥
 IsVerdictAt _ lines verdict = (n : ℕ) × (verdict ≡ verdicts.Bad n) × (lines + 1 < 2 ^ 32 → n ≡ lines + 1)
 
--- an audit, and how many lines there were
+-- an audit, how many lines there were, and how many bytes those have that were taken, but for the last line of a transcript
 pub record CountedState : Type 0 where
   pub audit : AuditState
   pub lines : ℕ
+  pub whole : ℕ
 
--- such a state, by an auditor's stage, edits and last answer, and the number of the last line
-abbrev pub counted_at : Bool → Stage → History → ℕ → ℕ → CountedState
-counted_at mixed stage edits last lines = record { audit = state_of mixed stage edits last; lines = lines }
+-- such a state, by an auditor's fields: the number of the last line, and the bytes
+abbrev pub counted_at : Bool → Option LogHeading → Stage → History → ℕ → ℕ → ℕ → CountedState
+counted_at mixed heading stage edits last lines whole = record { audit = state_of mixed heading stage edits last; lines = lines; whole = whole }
 
--- it answers its lines by nothing, and counts them
+-- the bytes behind a line, of a stage: a line and its LF more where others may follow. They are counted up to 64 bits
+abbrev pub CountsBytes : Stage → ℕ → List ℕ → ℕ → Type 0
+CountsBytes stages.Edits old line new = old + length line + 1 < 2 ^ 64 → new ≡ old + length line + 1
+CountsBytes stages.AnswersFollow old line new = old + length line + 1 < 2 ^ 64 → new ≡ old + length line + 1
+CountsBytes stage old line new = new ≡ old
+
+-- it answers its lines by nothing, and counts them and their bytes
 unfoldable pub CountedStep : CountedState → ℕ → List ℕ → List ℕ → CountedState → Type 0
-CountedStep old n line text new = (text ≡ []) × (new.lines ≡ n) × Audits old.audit n line new.audit
+CountedStep old n line text new =
+    (text ≡ []) × (new.lines ≡ n) × Audits old.audit n line new.audit × CountsBytes new.audit.stage old.whole line new.whole
 
 -- before the first line
 abbrev pub counted_start : Bool → CountedState
-counted_start mixed = record { audit = start_state mixed; lines = 0 }
+counted_start mixed = record { audit = start_state mixed; lines = 0; whole = 0 }
 
--- the verdict on a front where the audit has come to this stage, after so many lines and edits: the first line and the last are neither edits nor answers
-abbrev pub IsFoundAt : Stage → ℕ → ℕ → FrontVerdict → Type 0
-IsFoundAt stages.Start lines edits verdict = verdict ≡ fronts.Front 0 0
-IsFoundAt stages.Edits lines edits verdict = verdict ≡ fronts.Front edits (lines - 1 - edits)
-IsFoundAt stages.AnswersFollow lines edits verdict = verdict ≡ fronts.Front edits (lines - 1 - edits)
-IsFoundAt stages.End lines edits verdict = verdict ≡ fronts.Front edits (lines - 2 - edits)
-IsFoundAt (stages.No n) lines edits verdict = verdict ≡ fronts.No n
-IsFoundAt (stages.Bad n) lines edits verdict = verdict ≡ fronts.Bad n
-IsFoundAt stages.NoMemory lines edits verdict = ⊥
+-- what is told of a front with so many edits and entries, of whose edits so many stand for elements: their number; or the line behind the last, where an
+-- element is missing
+abbrev pub IsToldOf : ℕ → ℕ → ℕ → ℕ → FrontVerdict → Type 0
+IsToldOf elements lines edits entries verdict =
+    ((elements ≤ edits) × (verdict ≡ fronts.Front edits (entries - edits)))
+    ⊎ ((edits < elements) × ((n : ℕ) × (verdict ≡ fronts.Bad n) × (lines + 1 < 2 ^ 32 → n ≡ lines + 1)))
+
+-- the verdict on a front where the audit has come to this stage, after so many lines and edits, of which so many stand for elements: the first line
+-- and the last are neither edits nor answers
+abbrev pub IsFoundAt : Stage → ℕ → ℕ → ℕ → FrontVerdict → Type 0
+IsFoundAt stages.Start elements lines edits verdict = verdict ≡ fronts.Front 0 0
+IsFoundAt stages.Edits elements lines edits verdict = IsToldOf elements lines edits (lines - 1) verdict
+IsFoundAt stages.AnswersFollow elements lines edits verdict = IsToldOf elements lines edits (lines - 1) verdict
+IsFoundAt stages.End elements lines edits verdict = verdict ≡ fronts.Front edits (lines - 2 - edits)
+IsFoundAt (stages.No n) elements lines edits verdict = verdict ≡ fronts.No n
+IsFoundAt (stages.Bad n) elements lines edits verdict = verdict ≡ fronts.Bad n
+IsFoundAt stages.NoMemory elements lines edits verdict = ⊥
 
 -- a reader of whole lines: what it has still to give, and whether it has found its end
 pub record WholeState : Type 0 where

@@ -1,8 +1,9 @@
 -- What an audit says of bytes that lie in memory.
-use Rattle.std.specs.Prelude.{◌<◌, ◌≤◌, ◌^◌, ℕ, List, Result, Ok, Err, length}
+use Rattle.std.specs.Prelude.{◌<◌, ◌≤◌, ◌^◌, ℕ, List, Result, Ok, Err, length, Option}
 use Rattle.lv_lines.specs.declared.fault.Fault.{Fault}
 use Rattle.lv_lines.specs.declared.fault.Fault.TheVariants as faults
 use Rattle.lv_transcript.specs.declared.auditor.Verdict.{Verdict}
+use Rattle.lv_transcript.specs.declared.log_heading.LogHeading.{LogHeading}
 use Rattle.lv_transcript.specs.declared.fronts.FoundFront.{FoundFront}
 use Rattle.lv_transcript.specs.declared.fronts.FrontVerdict.{FrontVerdict}
 use Rattle.lv_transcript.specs.Audits.{IsRight, IsRightFound, IsRightVerdict}
@@ -29,7 +30,7 @@ abbrev pub AuditsText : List ℕ → Result Verdict Unread → Type 0
 AuditsText text result = TellsOf IsRight text result
 
 abbrev pub AuditsFront : List ℕ → Result FrontVerdict Unread → Type 0
-AuditsFront text result = TellsOf IsRightVerdict text result
+AuditsFront text result = TellsOf (λ bytes verdict. (heading : Option LogHeading) × IsRightVerdict heading bytes verdict) text result
 
 abbrev pub FindsFront : List ℕ → Result FoundFront Unread → Type 0
 FindsFront text result = TellsOf IsRightFound text result

@@ -1,11 +1,12 @@
 -- A transcript writer: which entries it was given, what it has written of them, and what it holds.
-use Rattle.std.specs.Prelude.{ℕ, Bool, true, false, List, [], ◌∷◌, ◌++◌, map, Option, Result, Ok, Err}
+use Rattle.std.specs.Prelude.{ℕ, Bool, true, false, List, [], ◌∷◌, ◌++◌, map, Option, None, Some, Result, Ok, Err}
 use Rattle.std.specs.Io.KnownBytes.{Appends}
 use mathlib.Core.List.{IsPrefix}
 use Rattle.lv_lines.specs.declared.fault.Fault.{Fault}
 use Rattle.lv_lines.specs.Output.{Writes, WritesFront}
-use Rattle.lv_transcript.specs.Fronts.{AreTrueAfter, Entry, IsFront, entry_line}
-use Rattle.lv_transcript.specs.Transcript.{end_line, ended, first_line}
+use Rattle.lv_transcript.specs.declared.log_heading.LogHeading.{LogHeading}
+use Rattle.lv_transcript.specs.Fronts.{AreTrueAfter, AreTrueOf, Entry, IsFront, IsFrontOf, all_lines, entry_line}
+use Rattle.lv_transcript.specs.Transcript.{ended, heading_line}
 
 -- the bytes that a transcript writer holds, and whether a write has failed
 pub record WriterState : Type 0 where
@@ -21,40 +22,78 @@ pub record WritingState : Type 0 where
 abbrev pub state_with : Option (List ℕ) → WriterState → WritingState
 state_with contents s = record { contents = contents; held = s.held; failed = s.failed }
 
--- the text of a front that has these entries
+-- the text of a front that has this heading and these entries
+abbrev pub front_bytes_of : Option LogHeading → List Entry → List ℕ
+front_bytes_of heading entries = ended (heading_line heading ∷ map entry_line entries)
+
+-- the same of a transcript
 abbrev pub front_bytes : List Entry → List ℕ
-front_bytes entries = ended (first_line ∷ map entry_line entries)
+front_bytes entries = front_bytes_of None entries
 
 -- the text of one that has its last line too
 abbrev pub whole_bytes : List Entry → List ℕ
-whole_bytes entries = ended (first_line ∷ (map entry_line entries ++ end_line ∷ []))
+whole_bytes entries = ended (all_lines None entries)
 
--- since a writer had got what it had at the start, it got bytes that are a front with the first of some entries
-pub record GotFront (start contents : Option (List ℕ)) (entries : List Entry) : Type 0 where
+-- ---- where a writer begins: with the first line, or behind the lines of entries that are there already
+
+-- what is there already
+abbrev pub bytes_before : Option LogHeading → Option (List Entry) → List ℕ
+bytes_before heading None = []
+bytes_before heading (Some there) = front_bytes_of heading there
+
+-- what a writer adds that is given these entries
+abbrev pub bytes_behind : Option LogHeading → Option (List Entry) → List Entry → List ℕ
+bytes_behind heading None entries = front_bytes_of heading entries
+bytes_behind heading (Some there) entries = ended (map entry_line entries)
+
+-- all entries then
+abbrev pub all_entries : Option (List Entry) → List Entry → List Entry
+all_entries None entries = entries
+all_entries (Some there) entries = there ++ entries
+
+-- since a writer had got what it had at the start, it got bytes that, behind those that were there, are a front with the first of some entries
+pub record GotFrontOf (heading : Option LogHeading) (there : Option (List Entry)) (start contents : Option (List ℕ)) (entries : List Entry) : Type 0 where
   pub bytes : List ℕ
   pub got : Appends start contents bytes
   pub some : List Entry
   pub first : IsPrefix some entries
-  pub front : IsFront bytes some
+  pub front : IsFrontOf heading (bytes_before heading there ++ bytes) (all_entries there some)
+
+-- the same of a transcript that it began
+abbrev pub GotFront : Option (List ℕ) → Option (List ℕ) → List Entry → Type 0
+GotFront start contents entries = GotFrontOf None None start contents entries
 
 -- a text was written or is held; once a write has failed, no more than a front of it was written
 abbrev pub WroteOrHolds : Bool → Option (List ℕ) → Option (List ℕ) → List ℕ → List ℕ → Type 0
 WroteOrHolds false start contents held text = Writes start [] contents held text
 WroteOrHolds true start contents held text = WritesFront start [] contents text
 
--- a transcript writer, whose writer had got what it had at the start, was given these entries: what it wrote and holds is their text; and where they
--- are true in the order of time, all that was written is a front
-pub record WasGiven (start : Option (List ℕ)) (entries : List Entry) (s : WritingState) : Type 0 where
-  pub text : WroteOrHolds s.failed start s.contents s.held (front_bytes entries)
-  pub front : AreTrueAfter [] 0 entries → GotFront start s.contents entries
+-- a transcript writer, whose writer had got what it had at the start, was given these entries, behind those that were there: what it wrote and holds is
+-- their text; and where all are true in the order of time, all that was written is a front
+pub record WasGivenOf (heading : Option LogHeading) (there : Option (List Entry)) (start : Option (List ℕ)) (entries : List Entry) (s : WritingState) : Type 0 where
+  pub text : WroteOrHolds s.failed start s.contents s.held (bytes_behind heading there entries)
+  pub front : AreTrueOf heading (all_entries there entries) → GotFrontOf heading there start s.contents entries
+
+-- the same where it began a transcript
+abbrev pub WasGiven : Option (List ℕ) → List Entry → WritingState → Type 0
+WasGiven start entries s = WasGivenOf None None start entries s
 
 -- it was given nothing yet
-abbrev pub IsUnused : WriterState → Type 0
-IsUnused s = (start : Option (List ℕ)) → WasGiven start [] (state_with start s)
+abbrev pub IsUnusedOf : Option LogHeading → Option (List Entry) → WriterState → Type 0
+IsUnusedOf heading there s = (start : Option (List ℕ)) → WasGivenOf heading there start [] (state_with start s)
 
--- whatever it was given, it was given these entries more
+abbrev pub IsUnused : WriterState → Type 0
+IsUnused s = IsUnusedOf None None s
+
+-- it goes on behind whatever lines of a front are there
+abbrev pub GoesOn : WriterState → Type 0
+GoesOn s = (heading : Option LogHeading) (there : List Entry) → IsUnusedOf heading (Some there) s
+
+-- whatever it was given, behind whatever was there, it was given these entries more
 abbrev pub Adds : WritingState → List Entry → WritingState → Type 0
-Adds old more new = (start : Option (List ℕ)) (entries : List Entry) → WasGiven start entries old → WasGiven start (entries ++ more) new
+Adds old more new =
+    (heading : Option LogHeading) (there : Option (List Entry)) (start : Option (List ℕ)) (entries : List Entry) → WasGivenOf heading there start entries old
+    → WasGivenOf heading there start (entries ++ more) new
 
 -- how a text ended that has its last line: all of it was written; or a write has failed, after no more than a front of it
 abbrev pub EndsWhole : Option (List ℕ) → Option (List ℕ) → List Entry → Result Unit Fault → Type 0

@@ -1,5 +1,5 @@
 -- Transcripts: a journal of edits, and reductions that were answered, as text; and when such a text is sound.
-use Rattle.std.specs.Prelude.{◌≡◌, ◌⊎◌, ℕ, ◌+◌, ◌^◌, ◌<◌, ◌≤◌, None, List, [], ◌∷◌, ◌++◌, length, take, map, fold, All, slice_range, codes, decimal, Option, Result, Ok, Err}
+use Rattle.std.specs.Prelude.{◌≡◌, ◌⊎◌, ℕ, ◌^◌, ◌<◌, ◌≤◌, None, List, [], ◌∷◌, ◌++◌, length, take, map, fold, All, slice_range, codes, decimal, Option, Some, Result, Ok, Err}
 use Rattle.std.specs.List.{flat_map}
 use Rattle.std.specs.List.Sorted.{IsNonDecreasingBy}
 use Rattle.std.specs.Io.KnownBytes.{Appends}
@@ -18,6 +18,7 @@ use Rattle.lv_lines.specs.Printed.{printed_edit, IsCommand}
 use Rattle.lv_lines.specs.Texts.{shown_text}
 use Rattle.lv_lines.specs.Output.{WritesFront}
 use Rattle.lv_transcript.specs.declared.claimed.Claimed.{Claimed}
+use Rattle.lv_transcript.specs.declared.log_heading.LogHeading.{LogHeading}
 
 -- ---- the text
 
@@ -25,7 +26,21 @@ use Rattle.lv_transcript.specs.declared.claimed.Claimed.{Claimed}
 abbrev pub first_line : List ℕ
 first_line = codes "livevec 1"
 
--- the line that it ends with
+-- the line that a log begins with: version 2, how many edits came before the file, and how many of its edits stand for elements
+abbrev pub log_line : LogHeading → List ℕ
+log_line heading = codes "livevec 2 " ++ decimal heading.base ++ codes " " ++ decimal heading.elements
+
+-- its numbers have 64 bits and 32 bits
+pub record IsHeading (heading : LogHeading) : Type 0 where
+  pub base : heading.base < 2 ^ 64
+  pub elements : heading.elements < 2 ^ 32
+
+-- the first line of a log, or of a transcript where there is no heading
+abbrev pub heading_line : Option LogHeading → List ℕ
+heading_line None = first_line
+heading_line (Some heading) = log_line heading
+
+-- the line that a transcript ends with
 abbrev pub end_line : List ℕ
 end_line = codes "end"
 

@@ -1,16 +1,20 @@
 //! The audit of a transcript: each edit is made anew, and each answer computed.
-ghost use Rattle.std.specs.Prelude.{◌≡◌, ◌↔◌, ℕ, ◌^◌, ◌≤◌, ◌++◌, ◌⊎◌, [], IfOk, MatchResult, IsTrue, length, take, vec_capacity};
+ghost use Rattle.std.proofs.Common.{inl};
+ghost use Rattle.std.specs.Prelude.{◌≡◌, ◌↔◌, ℕ, ◌^◌, ◌≤◌, ◌++◌, ◌⊎◌, [], IfOk, MatchOption, MatchResult, IsTrue, length, take, vec_capacity};
 ghost use Rattle.lv_lines.specs.Output.{HasRoom};
 ghost use Rattle.lv_lines.specs.Texts.{shown_text};
 ghost use Rattle.lv_edits.specs.History.{list_of};
 ghost use Rattle.lv_lines.specs.declared.replies.TheConstants.{LINE};
-ghost use Rattle.lv_transcript.specs.Auditing.{AnswerBecomes, CountedState, counted_at, counted_start, state_of, Audits, CountedStep, AnswerLineBecomes, EditBecomes, Becomes, FirstBecomes, HasLaterForm, IsVerdictAt, MayCome, MayEdit, MayEnd, Takes, TakesEdit, TakesLater};
+ghost use Rattle.lv_lines.specs.Replies.{most_read};
+ghost use Rattle.lv_transcript.specs.Auditing.{AnswerBecomes, CountedState, counted_at, counted_start, state_of, Audits, CountedStep, CountsBytes, AnswerLineBecomes, EditBecomes, Becomes, HasLaterForm, IsLast, IsVerdictAt, MayCome, MayEdit, MayEnd, Takes, TakesEdit, TakesLater};
 ghost use Rattle.lv_transcript.specs.Blocks.{AreKept};
 ghost use Rattle.lv_transcript.specs.Audits.{Audited, IsRight, ReadsInput, verdict_text};
-ghost use Rattle.lv_transcript.specs.Transcript.{greatest, HasEditForm};
+ghost use Rattle.lv_transcript.specs.Fronts.{IsFirst, IsPush, MayBegin, elements_of};
+ghost use Rattle.lv_transcript.specs.Transcript.{greatest, heading_line, HasEditForm};
 
+use crate::log_heading::LogHeading;
 use crate::plain_ranges::Replay;
-use crate::transcript_lines::{Question, read_answer, read_edit};
+use crate::transcript_lines::{Question, read_answer, read_edit, read_heading};
 use lv_bodies::Shown;
 use lv_edits::{Edit, Edits};
 use lv_geometry::Limits;
@@ -57,7 +61,7 @@ pub fn audit<R: Read, W: Write>(
 
 // Reads an input to its end as a transcript.
 fn read_transcript<R: Read>(alloc: Global, reader: &mut R) -> Result<Verdict, Fault>
-    ensures { ReadsInput IsRight (R.remaining reader.old) (R.remaining reader.new) result }
+    ensures { ReadsInput most_read IsRight (R.remaining reader.old) (R.remaining reader.new) result }
 {
     let Ok(mut auditor) = Auditor::new(alloc, false) else {
         return Err(Fault::NoMemory);
@@ -106,6 +110,10 @@ pub(crate) enum Stage {
 pub(crate) struct Auditor {
     pub(crate) stage: Stage,
     pub(crate) lines: u32,
+    // How many bytes the lines have that were taken, but for the last line of a transcript.
+    pub(crate) whole: u64,
+    // What the first line told, where the text is a log.
+    pub(crate) heading: Option<LogHeading>,
     // All edits so far, and the list after those up to the last answer.
     pub(crate) edits: Edits,
     pub(crate) replay: Replay,
@@ -125,7 +133,7 @@ pub(crate) struct Auditor {
 impl<W: Write> LineHandler<W> for Auditor {
     ghost State = { CountedState };
 
-    ghost state = { λ a. counted_at a.mixed a.stage a.edits a.replay.edit a.lines };
+    ghost state = { λ a. counted_at a.mixed a.heading a.stage a.edits a.replay.edit a.lines a.whole };
 
     ghost step = { CountedStep };
 
@@ -143,11 +151,13 @@ impl<W: Write> LineHandler<W> for Auditor {
 impl Auditor {
     // Before the first line.
     pub(crate) fn new(alloc: Global, mixed: bool) -> Result<Auditor, AllocError>
-        ensures { IfOk result (λ a. counted_at a.mixed a.stage a.edits a.replay.edit a.lines ≡ counted_start mixed) }
+        ensures { IfOk result (λ a. counted_at a.mixed a.heading a.stage a.edits a.replay.edit a.lines a.whole ≡ counted_start mixed) }
     {
         Ok(Auditor {
             stage: Stage::Start,
             lines: 0,
+            whole: 0,
+            heading: None,
             edits: Edits::new(alloc, Limits::greatest()),
             replay: Replay::new(alloc),
             mixed,
@@ -172,14 +182,16 @@ impl Auditor {
 
     // Takes a line, or finds the first fault.
     pub(crate) fn take_line(&mut self, number: u32, line: &[u8])
-        ensures line { Audits (state_of self.old.mixed self.old.stage self.old.edits self.old.replay.edit) number line.now (state_of self.old.mixed self.new.stage self.new.edits self.new.replay.edit) }
+        ensures line { Audits (state_of self.old.mixed self.old.heading self.old.stage self.old.edits self.old.replay.edit) number line.now (state_of self.old.mixed self.new.heading self.new.stage self.new.edits self.new.replay.edit) }
         ensures lines { self.new.lines ≡ number }
+        ensures whole { CountsBytes self.new.stage self.old.whole line.now self.new.whole }
         ensures mixed { self.new.mixed ≡ self.old.mixed }
     {
         match self.stage {
             Stage::No(_) | Stage::Bad(_) | Stage::NoMemory => {}
             Stage::Start | Stage::Edits | Stage::AnswersFollow | Stage::End => {
                 self.stage = self.next_stage(number, line);
+                self.whole = bytes_behind(self.stage, self.whole, line);
             }
         }
         self.lines = number;
@@ -187,18 +199,37 @@ impl Auditor {
 
     // The stage behind a line.
     fn next_stage(&mut self, number: u32, line: &[u8]) -> Stage
-        ensures stage { Becomes number self.old.edits.journal (MayCome (state_of self.old.mixed self.old.stage self.old.edits self.old.replay.edit) line.now)
-            (Takes (state_of self.old.mixed self.old.stage self.old.edits self.old.replay.edit) line.now) (state_of self.old.mixed result self.new.edits self.new.replay.edit) }
+        ensures stage { let old = state_of self.old.mixed self.old.heading self.old.stage self.old.edits self.old.replay.edit in
+            Becomes number old (MayCome old line.now) (Takes old line.now) (state_of self.old.mixed self.new.heading result self.new.edits self.new.replay.edit) }
         ensures mixed { self.new.mixed ≡ self.old.mixed }
+        ensures whole { self.new.whole ≡ self.old.whole }
     {
         if line.len() > 120 {
             return Stage::Bad(number);
         }
         match self.stage {
-            Stage::Start => first_stage(number, line),
+            Stage::Start => self.take_first(number, line),
             Stage::Edits => self.edit_or_later(number, line),
             Stage::AnswersFollow => self.behind_answer(number, line),
             Stage::End | Stage::No(_) | Stage::Bad(_) | Stage::NoMemory => Stage::Bad(number),
+        }
+    }
+
+    // The stage behind a line that should be the first.
+    fn take_first(&mut self, number: u32, line: &[u8]) -> Stage
+        requires stage { self.old.stage ≡ Stage.Start }
+        requires short { length line.now ≤ 120 }
+        ensures stage { let old = state_of self.old.mixed self.old.heading self.old.stage self.old.edits self.old.replay.edit in
+            Becomes number old (MayCome old line.now) (Takes old line.now) (state_of self.old.mixed self.new.heading result self.new.edits self.new.replay.edit) }
+        ensures mixed { self.new.mixed ≡ self.old.mixed }
+        ensures whole { self.new.whole ≡ self.old.whole }
+    {
+        match read_first(self.mixed, line, &mut self.text) {
+            Some(heading) => {
+                self.heading = heading;
+                Stage::Edits
+            }
+            None => Stage::Bad(number),
         }
     }
 
@@ -206,9 +237,10 @@ impl Auditor {
     fn behind_answer(&mut self, number: u32, line: &[u8]) -> Stage
         requires stage { self.old.stage ≡ Stage.AnswersFollow }
         requires short { length line.now ≤ 120 }
-        ensures stage { Becomes number self.old.edits.journal (MayCome (state_of self.old.mixed self.old.stage self.old.edits self.old.replay.edit) line.now)
-            (Takes (state_of self.old.mixed self.old.stage self.old.edits self.old.replay.edit) line.now) (state_of self.old.mixed result self.new.edits self.new.replay.edit) }
+        ensures stage { let old = state_of self.old.mixed self.old.heading self.old.stage self.old.edits self.old.replay.edit in
+            Becomes number old (MayCome old line.now) (Takes old line.now) (state_of self.old.mixed self.new.heading result self.new.edits self.new.replay.edit) }
         ensures mixed { self.new.mixed ≡ self.old.mixed }
+        ensures whole { self.new.whole ≡ self.old.whole }
     {
         if self.mixed {
             return self.edit_or_later(number, line);
@@ -219,10 +251,11 @@ impl Auditor {
     // The stage behind a line that may be that of an edit.
     fn edit_or_later(&mut self, number: u32, line: &[u8]) -> Stage
         requires { MayEdit self.old.mixed self.old.stage }
-        ensures stage { Becomes number self.old.edits.journal (HasEditForm line.now ⊎ HasLaterForm (state_of self.old.mixed self.old.stage self.old.edits self.old.replay.edit) line.now)
-            (λ new. TakesEdit (state_of self.old.mixed self.old.stage self.old.edits self.old.replay.edit) line.now new
-            ⊎ TakesLater (state_of self.old.mixed self.old.stage self.old.edits self.old.replay.edit) line.now new) (state_of self.old.mixed result self.new.edits self.new.replay.edit) }
+        ensures stage { let old = state_of self.old.mixed self.old.heading self.old.stage self.old.edits self.old.replay.edit in
+            Becomes number old (HasEditForm line.now ⊎ HasLaterForm old line.now) (λ new. TakesEdit old line.now new ⊎ TakesLater old line.now new)
+            (state_of self.old.mixed self.new.heading result self.new.edits self.new.replay.edit) }
         ensures mixed { self.new.mixed ≡ self.old.mixed }
+        ensures whole { self.new.whole ≡ self.old.whole }
     {
         match read_edit(line, &mut self.text) {
             Some(edit) => self.take_edit(number, edit),
@@ -232,10 +265,15 @@ impl Auditor {
 
     // Makes an edit, where that is possible.
     fn take_edit(&mut self, number: u32, edit: Edit) -> Stage
-        ensures edit { EditBecomes number self.old.edits.journal edit result self.new.edits.journal }
+        ensures edit { EditBecomes number (elements_of self.old.heading) self.old.edits.journal edit result self.new.edits.journal }
         ensures replay { self.new.replay ≡ self.old.replay }
+        ensures heading { self.new.heading ≡ self.old.heading }
         ensures mixed { self.new.mixed ≡ self.old.mixed }
+        ensures whole { self.new.whole ≡ self.old.whole }
     {
+        if self.edits.edit() < elements_of(self.heading) && !is_push(&edit) {
+            return Stage::No(number);
+        }
         if self.edits.verdict(&edit).is_some() {
             return Stage::No(number);
         }
@@ -248,11 +286,12 @@ impl Auditor {
     // The stage behind a line that is not that of an edit.
     fn answer_or_last(&mut self, number: u32, line: &[u8]) -> Stage
         requires { MayEnd self.old.stage }
-        ensures stage { Becomes number self.old.edits.journal (HasLaterForm (state_of self.old.mixed self.old.stage self.old.edits self.old.replay.edit) line.now)
-            (TakesLater (state_of self.old.mixed self.old.stage self.old.edits self.old.replay.edit) line.now) (state_of self.old.mixed result self.new.edits self.new.replay.edit) }
+        ensures stage { let old = state_of self.old.mixed self.old.heading self.old.stage self.old.edits self.old.replay.edit in
+            Becomes number old (HasLaterForm old line.now) (TakesLater old line.now) (state_of self.old.mixed self.new.heading result self.new.edits self.new.replay.edit) }
         ensures mixed { self.new.mixed ≡ self.old.mixed }
+        ensures whole { self.new.whole ≡ self.old.whole }
     {
-        if line == b"end".as_slice() {
+        if is_last(self.heading, line) {
             return Stage::End;
         }
         match read_answer(line, &mut self.text) {
@@ -263,14 +302,16 @@ impl Auditor {
 
     // Asks an answer's question anew, and compares.
     fn take_answer(&mut self, number: u32, question: Question, value: &[u8]) -> Stage
-        ensures answer { AnswerLineBecomes number self.old.edits.journal self.old.replay.edit question value.now result self.new.replay.edit }
+        ensures answer { AnswerLineBecomes number (elements_of self.old.heading) self.old.edits.journal self.old.replay.edit question value.now result self.new.replay.edit }
         ensures edits { self.new.edits ≡ self.old.edits }
+        ensures heading { self.new.heading ≡ self.old.heading }
         ensures mixed { self.new.mixed ≡ self.old.mixed }
+        ensures whole { self.new.whole ≡ self.old.whole }
     {
         if question.edit < self.replay.edit {
             return Stage::Bad(number);
         }
-        if question.edit > self.edits.edit() {
+        if self.edits.edit() < elements_of(self.heading) || self.edits.edit() < question.edit {
             return Stage::No(number);
         }
         if self
@@ -288,7 +329,9 @@ impl Auditor {
         ensures answer { AnswerBecomes number self.old.replay.list.items question value.now result }
         ensures edits { self.new.edits ≡ self.old.edits }
         ensures reached { self.new.replay.edit ≡ self.old.replay.edit }
+        ensures heading { self.new.heading ≡ self.old.heading }
         ensures mixed { self.new.mixed ≡ self.old.mixed }
+        ensures whole { self.new.whole ≡ self.old.whole }
     {
         let (lo, hi) = (question.lo as usize, question.hi as usize);
         if lo > hi || hi > self.replay.list.len() {
@@ -304,14 +347,56 @@ impl Auditor {
     }
 }
 
-// The stage behind a line that should be the first.
-fn first_stage(number: u32, line: &[u8]) -> Stage
-    ensures { FirstBecomes number line.now result }
+// What a line tells that a text may begin with: a heading, where that is a log. A whole transcript is none.
+fn read_first(mixed: bool, line: &[u8], text: &mut Vec<u8>) -> Option<Option<LogHeading>>
+    requires { LINE ≤ vec_capacity text.old }
+    ensures first { MatchOption result (IsFirst mixed line.now → ⊥) (λ heading. MayBegin mixed heading × (line.now ≡ heading_line heading)) }
+    ensures room { LINE ≤ vec_capacity text.new }
 {
     if line == b"livevec 1".as_slice() {
-        return Stage::Edits;
+        return Some(None);
     }
-    Stage::Bad(number)
+    if !mixed {
+        return None;
+    }
+    let heading = read_heading(line, text)?;
+    Some(Some(heading))
+}
+
+// How many bytes the lines have behind one that led to a stage: with it and its LF where others may follow.
+fn bytes_behind(stage: Stage, whole: u64, line: &[u8]) -> u64
+    ensures { CountsBytes stage whole line.now result }
+{
+    match stage {
+        Stage::Edits | Stage::AnswersFollow => {
+            whole.saturating_add(line.len() as u64).saturating_add(1)
+        }
+        _ => whole,
+    }
+}
+
+/// How many of the first edits stand for elements.
+pub(crate) fn elements_of(heading: Option<LogHeading>) -> u32
+    ensures { result ≡ elements_of heading }
+{
+    match heading {
+        Some(heading) => heading.elements,
+        None => 0,
+    }
+}
+
+// Whether an edit is a push.
+fn is_push(edit: &Edit) -> bool
+    ensures { IsTrue result ↔ IsPush (inl edit.now) }
+{
+    matches!(edit, Edit::Push(_))
+}
+
+// Whether a line is the last one of a transcript. A log has none.
+fn is_last(heading: Option<LogHeading>, line: &[u8]) -> bool
+    ensures { IsTrue result ↔ IsLast heading line.now }
+{
+    heading.is_none() && line == b"end".as_slice()
 }
 
 // Whether bytes are the text of a value. It is put into `text`, in place of what is there.

@@ -1,14 +1,18 @@
-//! The audit of a front of a transcript: edits and answers in the order of time, as far as they were written.
-ghost use Rattle.std.specs.Prelude.{◌≡◌, ◌++◌, MatchResult, length};
+//! The audit of a front of a transcript, or of a log: edits and answers in the order of time, as far as they were written.
+ghost use Rattle.std.specs.Prelude.{◌≡◌, ◌≤◌, ◌++◌, None, Some, MatchResult, length};
 ghost use Rattle.lv_lines.specs.Output.{HasRoom};
 ghost use Rattle.lv_lines.specs.declared.replies.TheConstants.{LINE};
-ghost use Rattle.lv_transcript.specs.Auditing.{IsFoundAt};
-ghost use Rattle.lv_transcript.specs.Audits.{FrontAudited, ReadsFront, front_text};
+ghost use Rattle.lv_transcript.specs.Auditing.{IsFoundAt, IsToldOf};
+ghost use Rattle.lv_transcript.specs.Audits.{FrontAudited, ReadsFront, counts_text, front_text};
+ghost use Rattle.lv_transcript.specs.Fronts.{elements_of};
 
-use crate::auditor::{Auditor, Stage};
+use crate::auditor::{Auditor, Stage, elements_of};
+use crate::log_heading::LogHeading;
 use crate::whole_lines::WholeLines;
 use lv_edits::Edits;
-use lv_lines::{Fault, LINE, put, put_bad, put_number, serve_lines, write_whole};
+use lv_lines::{
+    Fault, LINE, MOST_NUMBERED, put, put_bad, put_number, serve_lines_within, write_whole,
+};
 use std::alloc::Global;
 use std::io;
 use std::io::{Read, Write};
@@ -29,44 +33,55 @@ pub enum FrontVerdict {
     Bad(u32),
 }
 
-/// What was found of an input: the verdict, and the edits that were read.
+/// What was found of an input: the verdict, and what was read.
 #[derive(Drop)]
 pub struct FoundFront {
     /// Whether it is a front.
     pub verdict: FrontVerdict,
     /// Its edits, up to the first fault.
     pub edits: Edits,
+    /// What its first line tells, where it is a log.
+    pub heading: Option<LogHeading>,
+    /// How many bytes the first line and the lines of its edits and answers have.
+    pub whole: u64,
 }
 
-/// Audits a front of a transcript: reads it to its end, and writes the verdict as a line.
+/// Audits a front of a transcript, or a log: reads it to its end, and writes the verdict as a line. An input of more than `most` bytes is
+/// `TooLong`.
 ///
 /// A front has whole lines of a transcript from the first on; edits and answers may stand in the order of time, each answer behind
 /// the edits that it is true of. What stands behind the last LF doesn't count. Faults are those of `audit`.
 pub fn audit_front<R: Read + Drop, W: Write>(
     alloc: Global,
+    most: usize,
     reader: R,
     writer: &mut W,
 ) -> Result<FrontVerdict, Fault>
-    ensures { FrontAudited (R.remaining reader) (W.contents writer.old) (W.contents writer.new) result }
+    requires { most ≤ MOST_NUMBERED }
+    ensures { FrontAudited most (R.remaining reader) (W.contents writer.old) (W.contents writer.new) result }
 {
     let Ok(mut held) = Vec::with_capacity(alloc, LINE) else {
         return Err(Fault::NoMemory);
     };
-    let found = read_front(alloc, reader)?;
+    let found = read_front(alloc, most, reader)?;
     let verdict = found.verdict;
+    let heading = found.heading;
     drop(found);
-    put_front(&mut held, verdict);
+    put_front(&mut held, heading, verdict);
     write_whole(writer, held.as_slice())?;
     Ok(verdict)
 }
 
-// Puts the line of a verdict behind what is held.
-fn put_front(held: &mut Vec<u8>, verdict: FrontVerdict)
+// Puts the line of a verdict on what has a heading behind what is held.
+fn put_front(held: &mut Vec<u8>, heading: Option<LogHeading>, verdict: FrontVerdict)
     requires { HasRoom held.old LINE }
-    ensures { held.new.items ≡ held.old.items ++ front_text verdict }
+    ensures { held.new.items ≡ held.old.items ++ front_text heading verdict }
 {
     match verdict {
-        FrontVerdict::Front { edits, answers } => put_counts(held, edits, answers),
+        FrontVerdict::Front { edits, answers } => match heading {
+            Some(heading) => put_log(held, heading, edits, answers),
+            None => put_counts(held, edits, answers),
+        },
         FrontVerdict::No(line) => {
             put(held, b"no ");
             put_number(held, line.into());
@@ -79,7 +94,7 @@ fn put_front(held: &mut Vec<u8>, verdict: FrontVerdict)
 // Puts the line of a front with so many edits and answers.
 fn put_counts(held: &mut Vec<u8>, edits: u32, answers: u32)
     requires { HasRoom held.old LINE }
-    ensures { held.new.items ≡ held.old.items ++ front_text (FrontVerdict.Front edits answers) }
+    ensures { held.new.items ≡ held.old.items ++ counts_text None edits answers }
 {
     put(held, b"front ");
     put_number(held, edits.into());
@@ -88,15 +103,36 @@ fn put_counts(held: &mut Vec<u8>, edits: u32, answers: u32)
     put(held, b" answers\n");
 }
 
-/// Reads an input to its end as a front of a transcript. Faults are those of `audit`, but that nothing is written.
-pub fn read_front<R: Read + Drop>(alloc: Global, reader: R) -> Result<FoundFront, Fault>
-    ensures { ReadsFront (R.remaining reader) result }
+// Puts the line of a log with so many edits and answers. Those that stand for elements do not count.
+fn put_log(held: &mut Vec<u8>, heading: LogHeading, edits: u32, answers: u32)
+    requires { HasRoom held.old LINE }
+    ensures { held.new.items ≡ held.old.items ++ counts_text (Some heading) edits answers }
+{
+    put(held, b"log ");
+    put_number(held, heading.base);
+    put(held, b" base ");
+    put_number(held, heading.elements.into());
+    put(held, b" elements ");
+    put_number(held, edits.saturating_sub(heading.elements).into());
+    put(held, b" edits ");
+    put_number(held, answers.into());
+    put(held, b" answers\n");
+}
+
+/// Reads an input to its end as a front of a transcript, or as a log. Faults are those of `audit_front`, but that nothing is written.
+pub fn read_front<R: Read + Drop>(
+    alloc: Global,
+    most: usize,
+    reader: R,
+) -> Result<FoundFront, Fault>
+    requires { most ≤ MOST_NUMBERED }
+    ensures { ReadsFront most (R.remaining reader) result }
 {
     let Ok(mut auditor) = Auditor::new(alloc, true) else {
         return Err(Fault::NoMemory);
     };
     let mut whole = WholeLines::new(reader);
-    match serve_lines(alloc, &mut auditor, &mut whole, &mut io::sink()) {
+    match serve_lines_within(most, alloc, &mut auditor, &mut whole, &mut io::sink()) {
         Err(Fault::ReadFault) => {
             if whole.is_at_end() {
                 return auditor.found();
@@ -112,23 +148,34 @@ pub fn read_front<R: Read + Drop>(alloc: Global, reader: R) -> Result<FoundFront
 impl Auditor {
     // What was found, once all lines were read.
     fn found(self) -> Result<FoundFront, Fault>
-        ensures { MatchResult result (λ found. (found.edits ≡ self.edits)
-            × IsFoundAt self.stage self.lines (length self.edits.journal) found.verdict) (λ fault. fault ≡ Fault.NoMemory) }
+        ensures { MatchResult result (λ found. (found.edits ≡ self.edits) × (found.heading ≡ self.heading) × (found.whole ≡ self.whole)
+            × IsFoundAt self.stage (elements_of self.heading) self.lines (length self.edits.journal) found.verdict) (λ fault. fault ≡ Fault.NoMemory) }
     {
         let verdict = self.front_verdict()?;
-        let Auditor { edits, .. } = self;
-        Ok(FoundFront { verdict, edits })
+        let Auditor {
+            edits,
+            heading,
+            whole,
+            ..
+        } = self;
+        Ok(FoundFront {
+            verdict,
+            edits,
+            heading,
+            whole,
+        })
     }
 
     // The verdict.
     fn front_verdict(&self) -> Result<FrontVerdict, Fault>
-        ensures { MatchResult result (IsFoundAt self.now.stage self.now.lines (length self.now.edits.journal)) (λ fault. fault ≡ Fault.NoMemory) }
+        ensures { MatchResult result (IsFoundAt self.now.stage (elements_of self.now.heading) self.now.lines (length self.now.edits.journal)) (λ fault. fault ≡ Fault.NoMemory) }
     {
         let edits = self.edits.edit();
         match self.stage {
             Stage::Start => Ok(front_of(0, 0)),
             Stage::Edits | Stage::AnswersFollow => {
-                Ok(front_of(edits, self.lines.saturating_sub(1).saturating_sub(edits)))
+                let entries = self.lines.saturating_sub(1);
+                Ok(told_of(elements_of(self.heading), self.lines, edits, entries))
             }
             Stage::End => Ok(front_of(edits, self.lines.saturating_sub(2).saturating_sub(edits))),
             Stage::No(line) => Ok(FrontVerdict::No(line)),
@@ -136,6 +183,16 @@ impl Auditor {
             Stage::NoMemory => Err(Fault::NoMemory),
         }
     }
+}
+
+// The verdict on so many lines with so many edits and entries: where fewer edits are there than elements are told of, the next line is missing.
+fn told_of(elements: u32, lines: u32, edits: u32, entries: u32) -> FrontVerdict
+    ensures { IsToldOf elements lines edits entries result }
+{
+    if edits < elements {
+        return FrontVerdict::Bad(lines.saturating_add(1));
+    }
+    front_of(edits, entries.saturating_sub(edits))
 }
 
 // A front with so many edits and answers.

@@ -4,7 +4,7 @@ ghost use Rattle.lv_transcript.specs.ReadTexts.{AuditsFront, AuditsText, FindsFr
 
 use crate::auditor::{Verdict, audit};
 use crate::fronts::{FoundFront, FrontVerdict, audit_front, read_front};
-use lv_lines::Fault;
+use lv_lines::{Fault, MOST_READ};
 use std::alloc::Global;
 use std::io;
 
@@ -42,7 +42,7 @@ pub fn audit_text(alloc: Global, text: &[u8]) -> Result<Verdict, Unread>
 pub fn audit_front_text(alloc: Global, text: &[u8]) -> Result<FrontVerdict, Unread>
     ensures { AuditsFront text.now result }
 {
-    match audit_front(alloc, text, &mut io::sink()) {
+    match audit_front(alloc, MOST_READ, text, &mut io::sink()) {
         Ok(verdict) => Ok(verdict),
         Err(fault) => Err(why_unread(fault)),
     }
@@ -52,7 +52,7 @@ pub fn audit_front_text(alloc: Global, text: &[u8]) -> Result<FrontVerdict, Unre
 pub fn front_in(alloc: Global, text: &[u8]) -> Result<FoundFront, Unread>
     ensures { FindsFront text.now result }
 {
-    match read_front(alloc, text) {
+    match read_front(alloc, MOST_READ, text) {
         Ok(found) => Ok(found),
         Err(fault) => Err(why_unread(fault)),
     }

@@ -3,14 +3,17 @@ ghost use Rattle.std.specs.Prelude.{◌≡◌, ◌≢◌, ◌+◌, ◌≤◌, �
 ghost use Rattle.lv_lines.specs.Output.{HasRoom, KeepsRoom};
 ghost use Rattle.lv_edits.specs.declared.edit.Edit.{Edit};
 ghost use Rattle.lv_lines.specs.Words.{words_of};
-ghost use Rattle.lv_transcript.specs.Auditing.{bounds_before, question_before, question_in, range_before, text_of, IsQuestion};
-ghost use Rattle.lv_transcript.specs.Transcript.{edit_line, question_text, IsEdit};
+ghost use Rattle.lv_transcript.specs.declared.log_heading.LogHeading.{LogHeading};
+ghost use Rattle.lv_transcript.specs.Auditing.{bounds_before, heading_before, heading_in, question_before, question_in, range_before, text_of, IsQuestion};
+ghost use Rattle.lv_transcript.specs.Transcript.{edit_line, log_line, question_text, IsEdit, IsHeading};
 
+use crate::log_heading::LogHeading;
 use lv_bodies::Kind;
 use lv_edits::Edit;
 use lv_lines::grammar::kind;
 use lv_lines::{
-    Command, Line, kind_name, next_word, number, put, put_command, put_number, read_line,
+    Command, Line, kind_name, next_word, number, number_up_to, put, put_command, put_number,
+    read_line,
 };
 
 /// At most how many bytes the line of an edit has, and that of an answer before its value.
@@ -53,6 +56,55 @@ pub(crate) fn put_question(held: &mut Vec<u8>, edit: u32, kind: Kind, lo: u32, h
     put(held, b" ");
     put_number(held, hi.into());
     put(held, b" ");
+}
+
+/// Puts the line that a log begins with, without its LF, after what is held.
+pub(crate) fn put_heading(held: &mut Vec<u8>, heading: LogHeading)
+    requires { HasRoom held.old HEAD }
+    ensures text { held.new.items ≡ held.old.items ++ log_line heading }
+    ensures len { vec_len held.new ≤ vec_len held.old + HEAD }
+    ensures room { KeepsRoom held.old held.new }
+{
+    put(held, b"livevec 2 ");
+    put_number(held, heading.base);
+    put(held, b" ");
+    put_number(held, heading.elements.into());
+}
+
+/// What the line tells that a log begins with, letter for letter. Its text is put into `text`, in place of what is there.
+pub(crate) fn read_heading(line: &[u8], text: &mut Vec<u8>) -> Option<LogHeading>
+    requires { HEAD ≤ vec_capacity text.old }
+    ensures heading { MatchOption result ((heading : LogHeading) → IsHeading heading → line.now ≢ log_line heading)
+        (λ heading. IsHeading heading × (line.now ≡ log_line heading)) }
+    ensures room { KeepsRoom text.old text.new }
+{
+    let heading = likely_heading(line)?;
+    text.clear();
+    put_heading(text, heading);
+    if text.as_slice() == line {
+        return Some(heading);
+    }
+    None
+}
+
+// What a line tells, where it is that of any log: the letters are not compared.
+fn likely_heading(line: &[u8]) -> Option<LogHeading>
+    ensures { result ≡ heading_in (words_of line.now) }
+{
+    let (_, words) = next_word(line)?;
+    let (_, words) = next_word(words)?;
+    front_heading(words)
+}
+
+#[tactic(auto, unfolding(crate::specs::Auditing::heading_before))]
+fn front_heading(words: &[u8]) -> Option<LogHeading>
+    ensures { result ≡ heading_before (words_of words.now) }
+{
+    let (word, rest) = next_word(words)?;
+    let base = number_up_to(word, u64::MAX)?;
+    let (word, _) = next_word(rest)?;
+    let elements = number(word)?;
+    Some(LogHeading { base, elements })
 }
 
 /// The edit whose line this is, letter for letter. Its text is put into `text`, in place of what is there.

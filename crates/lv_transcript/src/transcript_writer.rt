@@ -1,5 +1,5 @@
 //! What writes the lines of a transcript, entry by entry, as they come.
-ghost use Rattle.std.specs.Prelude.{◌≡◌, ◌≤◌, ℕ, true, false, [], ◌∷◌, ◌++◌, All, IfErr, IfOk, List, OnOk, Option, map, vec_capacity};
+ghost use Rattle.std.specs.Prelude.{◌≡◌, ◌≤◌, ℕ, true, false, [], ◌∷◌, ◌++◌, All, IfErr, IfOk, List, None, OnOk, Option, Some, map, vec_capacity};
 ghost use Rattle.std.proofs.Common.{inl, inr};
 ghost use Rattle.lv_edits.specs.Kept.{CarriesElement};
 ghost use Rattle.std.specs.Io.KnownBytes.{Appends};
@@ -7,12 +7,13 @@ ghost use Rattle.lv_lines.specs.declared.output.TheConstants.{HELD};
 ghost use Rattle.lv_lines.specs.Output.{Puts, PutsFront, SamePlaces, Writes, WritesFront};
 ghost use Rattle.lv_transcript.specs.Fronts.{Entry};
 ghost use Rattle.lv_transcript.specs.Joined.{joined};
-ghost use Rattle.lv_transcript.specs.Transcribing.{Adds, EndsWhole, WasGiven, IsUnused, state_with};
+ghost use Rattle.lv_transcript.specs.Transcribing.{Adds, EndsWhole, GoesOn, IsUnused, IsUnusedOf, WasGiven, state_with};
 ghost use Rattle.lv_transcript.specs.Transcript.{answer_line, edit_line, end_line};
 
 use crate::claimed::Claimed;
+use crate::log_heading::LogHeading;
 use crate::queues::{Queue, take_least};
-use crate::transcript_lines::{put_edit_line, put_question};
+use crate::transcript_lines::{put_edit_line, put_heading, put_question};
 use lv_edits::Edit;
 use lv_lines::{Fault, HELD, LINE, ReplyBuffer, put, put_shown};
 use std::alloc::{AllocError, Global};
@@ -48,6 +49,30 @@ impl TranscriptWriter {
         put(&mut held, b"livevec 1\n");
         Ok(TranscriptWriter {
             held,
+            failed: false,
+        })
+    }
+
+    /// One that begins a log with this heading, and was given nothing yet. All memory that it needs is taken here.
+    pub fn of_log(alloc: Global, heading: LogHeading) -> Result<TranscriptWriter, AllocError>
+        ensures { IfOk result (IsUnusedOf (Some heading) None) }
+    {
+        let mut held = Vec::with_capacity(alloc, HELD)?;
+        put_heading(&mut held, heading);
+        put(&mut held, b"\n");
+        Ok(TranscriptWriter {
+            held,
+            failed: false,
+        })
+    }
+
+    /// One that goes on behind the lines of a front, whole ones, which are there already. It holds nothing, and all memory that it needs is
+    /// taken here.
+    pub fn behind(alloc: Global) -> Result<TranscriptWriter, AllocError>
+        ensures { IfOk result GoesOn }
+    {
+        Ok(TranscriptWriter {
+            held: Vec::with_capacity(alloc, HELD)?,
             failed: false,
         })
     }

@@ -2,6 +2,7 @@
 use Rattle.std.proofs.Common.{[], lit≤}
 use Rattle.std.proofs.KnownBytes.{Consumes-nil}
 use Rattle.std.proofs.lemmas.Result.{err_from_is_err_and}
+use Rattle.lv_lines.specs.Replies.{most_read}
 use Rattle.lv_transcript.specs.Auditing.{counted_at}
 use Rattle.lv_transcript.specs.Audits.{IsRight}
 use Rattle.lv_transcript.proofs.AuditLaws.{read_stopped, read_transcript}
@@ -16,10 +17,10 @@ returns-in_err-serve_lines g c =
     let old = c.in-Ok.auditor in
     let new = c.serve_lines.new.handler in
     rw (p.1, p.2)
-    (read_stopped IsRight (Unit {0}) (counted_at old.mixed old.stage old.edits old.replay.edit old.lines) (counted_at new.mixed new.stage new.edits new.replay.edit new.lines) _ c.in_err-serve_lines.ensures)
+    (read_stopped most_read IsRight (Unit {0}) (counted_at old.mixed old.heading old.stage old.edits old.replay.edit old.lines old.whole) (counted_at new.mixed new.heading new.stage new.edits new.replay.edit new.lines new.whole) _ c.in_err-serve_lines.ensures)
 
 pub returns : goal.returns
 returns g c =
     let old = c.in-Ok.auditor in
     let new = c.serve_lines.new.handler in
-    read_transcript (counted_at old.mixed old.stage old.edits old.replay.edit old.lines) _ (counted_at new.mixed new.stage new.edits new.replay.edit new.lines) c.verdict.result c.in-Ok.ensures c.in_ok-serve_lines.ensures c.verdict.ensures
+    read_transcript (counted_at old.mixed old.heading old.stage old.edits old.replay.edit old.lines old.whole) _ (counted_at new.mixed new.heading new.stage new.edits new.replay.edit new.lines new.whole) c.verdict.result c.in-Ok.ensures c.in_ok-serve_lines.ensures c.verdict.ensures

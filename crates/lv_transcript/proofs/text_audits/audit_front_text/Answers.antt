@@ -6,7 +6,12 @@ use Rattle.lv_transcript.proofs.SeenTexts.{text_audited, text_unaudited}
 use Rattle.lv_transcript.proofs.text_audits.audit_front_text.Goals as goal
 
 pub returns-in-Ok : goal.returns-in-Ok
-returns-in-Ok c = text_audited IsRightVerdict c.args.text.now c.in-Ok.ensures.0 front_text _ _ _ c.in-Ok.ensures.1
+returns-in-Ok c =
+    let r = c.in-Ok.ensures in
+    let told = text_audited (IsRightVerdict r.1) c.args.text.now r.0 (front_text r.1) _ _ _ r.2 in
+    (told.0, (r.1, told.1))
 
 pub returns-in-Err : goal.returns-in-Err
-returns-in-Err c = subst (IsUnread c.args.text.now) (sym c.why_unread.ensures) (text_unaudited IsRightVerdict c.args.text.now c.in-Err.ensures.0 front_text _ _ _ c.in-Err.ensures.1)
+returns-in-Err c =
+    let r = c.in-Err.ensures in
+    subst (IsUnread c.args.text.now) (sym c.why_unread.ensures) (text_unaudited (IsRightVerdict r.1) c.args.text.now r.0 (front_text r.1) _ _ _ r.2)

@@ -8,6 +8,6 @@ pub returns-clause-ok : goal.returns-clause-ok
 unfolding CountedStep
 returns-clause-ok g c = record {
   reply = [];
-  answered = (refl, c.take_line.ensures.lines, rw c.take_line.ensures.mixed c.take_line.ensures.line);
+  answered = (refl, c.take_line.ensures.lines, rw c.take_line.ensures.mixed c.take_line.ensures.line, c.take_line.ensures.whole);
   written = Writes-nil _ _;
 }

@@ -1,5 +1,5 @@
 -- Proof of `TranscriptWriter::flush`: writes all that is held, and flushes the writer.
-use Rattle.std.proofs.Common.{true, [], ◌∷◌, sym, subst}
+use Rattle.std.proofs.Common.{true, [], subst}
 use Rattle.lv_lines.proofs.OutputLemmas.{Writes-sent}
 use Rattle.lv_transcript.specs.Transcribing.{Adds, WriterState, state_with}
 use Rattle.lv_transcript.proofs.TranscribedFronts.{adds_failure, adds_none, adds_nothing}
