@@ -14,4 +14,5 @@ pub mod ReplayLemmas
 pub mod BlockLaws
 pub mod KeptLaws
 pub mod TranscribedFronts
+pub mod LogTexts
 pub mod SeenTexts

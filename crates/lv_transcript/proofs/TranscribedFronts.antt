@@ -13,7 +13,7 @@ use Rattle.lv_lines.specs.Input.{whole_lines_of, unended_of}
 use Rattle.lv_lines.specs.Output.{Writes, WritesFront}
 use Rattle.lv_lines.proofs.InputLemmas.{whole_lines_of-append, whole_lines_of-ended}
 use Rattle.lv_lines.proofs.OutputLemmas.{Writes-all, Writes-put, Writes-sent, Writes-trans, WritesFront-after, WritesFront-longer}
-use Rattle.lv_transcript.specs.Fronts.{AreEntryLines, AreFrontLines, AreTrueAfter, AreTrueOf, Entry, IsFront, IsPush, all_lines, ending, entry_line}
+use Rattle.lv_transcript.specs.Fronts.{AreEntryLines, AreFrontLines, AreTrueAfter, AreTrueOf, Entry, IsFront, IsFrontOf, IsPush, all_lines, ending, entry_line}
 use Rattle.lv_transcript.specs.Transcribing.{Adds, EndsWhole, GotFront, GotFrontOf, WasGiven, WasGivenOf, WritingState, WroteOrHolds, all_entries, bytes_before, bytes_behind, front_bytes, front_bytes_of, whole_bytes}
 use Rattle.lv_transcript.specs.declared.claimed.Claimed.{Claimed}
 use Rattle.lv_transcript.specs.declared.log_heading.LogHeading.{LogHeading}
@@ -226,10 +226,17 @@ whole_front entries holds = record {
   all_true = holds;
 }
 
+-- and so is that without the last line
+pub entry_lines_front : (heading : Option LogHeading) (entries : List Entry) → AreTrueOf heading entries → IsFrontOf heading (front_bytes_of heading entries) entries
+entry_lines_front heading entries holds =
+    let lines = heading_line heading ∷ map entry_line entries in
+    let none : All IsUnended lines = All-earlier IsUnended lines (ending heading) (whole_unended heading entries holds) in
+    record { lines = subst (AreFrontLines heading entries) (sym (whole_lines_of_text lines none)) (refl, inl refl); all_true = holds }
+
 -- ---- what a transcript writer does
 
 -- what was written is a front of the text, whether a write has failed or not
-front_written : (failed : Bool) (start contents : Option (List ℕ)) (held text : List ℕ) → WroteOrHolds failed start contents held text → WritesFront start [] contents text
+pub front_written : (failed : Bool) (start contents : Option (List ℕ)) (held text : List ℕ) → WroteOrHolds failed start contents held text → WritesFront start [] contents text
 front_written false start contents held text w = record { unsent = held; written = w }
 front_written true start contents held text w = w
 

@@ -6,6 +6,7 @@ pub mod FlatEdits
 pub mod Fronts
 pub mod Joined
 pub mod LeastFirst
+pub mod Logs
 pub mod PutTexts
 pub mod ReadTexts
 pub mod Transcribing

@@ -64,6 +64,7 @@ pub(crate) fn put_heading(held: &mut Vec<u8>, heading: LogHeading)
     ensures text { held.new.items ≡ held.old.items ++ log_line heading }
     ensures len { vec_len held.new ≤ vec_len held.old + HEAD }
     ensures room { KeepsRoom held.old held.new }
+    ensures numbers { IsHeading heading }
 {
     put(held, b"livevec 2 ");
     put_number(held, heading.base);

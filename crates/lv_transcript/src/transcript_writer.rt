@@ -6,9 +6,11 @@ ghost use Rattle.std.specs.Io.KnownBytes.{Appends};
 ghost use Rattle.lv_lines.specs.declared.output.TheConstants.{HELD};
 ghost use Rattle.lv_lines.specs.Output.{Puts, PutsFront, SamePlaces, Writes, WritesFront};
 ghost use Rattle.lv_transcript.specs.Fronts.{Entry};
+ghost use Rattle.lv_geometry.specs.Elements.{IsElement};
 ghost use Rattle.lv_transcript.specs.Joined.{joined};
+ghost use Rattle.lv_transcript.specs.Logs.{pushed, pushes_of_elements};
 ghost use Rattle.lv_transcript.specs.Transcribing.{Adds, EndsWhole, GoesOn, IsUnused, IsUnusedOf, WasGiven, state_with};
-ghost use Rattle.lv_transcript.specs.Transcript.{answer_line, edit_line, end_line};
+ghost use Rattle.lv_transcript.specs.Transcript.{IsHeading, answer_line, edit_line, end_line};
 
 use crate::claimed::Claimed;
 use crate::log_heading::LogHeading;
@@ -55,7 +57,8 @@ impl TranscriptWriter {
 
     /// One that begins a log with this heading, and was given nothing yet. All memory that it needs is taken here.
     pub fn of_log(alloc: Global, heading: LogHeading) -> Result<TranscriptWriter, AllocError>
-        ensures { IfOk result (IsUnusedOf (Some heading) None) }
+        ensures unused { IfOk result (IsUnusedOf (Some heading) None) }
+        ensures numbers { IfOk result (λ log. IsHeading heading) }
     {
         let mut held = Vec::with_capacity(alloc, HELD)?;
         put_heading(&mut held, heading);
@@ -115,6 +118,24 @@ impl TranscriptWriter {
         for edit in edits {
             self.edit(edit, writer);
         }
+    }
+
+    /// Takes elements, each as the push of it.
+    pub fn pushes<W: Write>(&mut self, elements: &[i64], writer: &mut W)
+        ensures added { Adds (state_with (W.contents writer.old) self.old) (pushes_of_elements elements.now) (state_with (W.contents writer.new) self.new) }
+        ensures elements { All IsElement elements.now }
+    {
+        for element in elements {
+            self.push(*element, writer);
+        }
+    }
+
+    // Takes an element.
+    fn push<W: Write>(&mut self, element: i64, writer: &mut W)
+        ensures added { Adds (state_with (W.contents writer.old) self.old) (pushed element ∷ []) (state_with (W.contents writer.new) self.new) }
+        ensures element { IsElement element }
+    {
+        self.edit(&Edit::Push(element), writer);
     }
 
     /// Takes answers, one after the other.

@@ -4,7 +4,7 @@ use Rattle.lv_transcript.specs.Transcript.{log_line}
 use Rattle.lv_transcript.proofs.TranscribedFronts.{unused}
 use Rattle.lv_transcript.proofs.transcript_writer.TranscriptWriter.of_log.Goals as goal
 
-pub returns : goal.returns
-returns c =
+pub returns-clause-unused : goal.returns-clause-unused
+returns-clause-unused c =
     let line = log_line c.args.heading in
     λ start. unused (Some c.args.heading) None start _ (c.put.ensures.items ∙ ap (λ (xs : List ℕ). xs ++ 10 ∷ []) (c.put_heading.ensures.text ∙ ap (λ (xs : List ℕ). xs ++ line) c.in_ok-held.ensures.items) ∙ sym (append-nil (line ++ 10 ∷ [])))
