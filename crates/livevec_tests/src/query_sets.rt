@@ -6,7 +6,7 @@ use lv_bodies::{Kind, Name, Shown, Six};
 use lv_edits::Edit;
 use lv_geometry::{Limits, Refusal};
 use lv_live::Live;
-use lv_standing::{Asks, Note, Query, QuerySet};
+use lv_standing::{Askable, Asks, Note, Query, QuerySet};
 use std::alloc::{AllocError, Global};
 use std::process::Abort;
 use std::test::Fail;
@@ -47,7 +47,7 @@ fn ends_of(notes: &[Note]) -> Ends {
 }
 
 // Asks all queries, and puts their notes into a list, which has room for them.
-fn tell_into<A, Q: Asks<A>>(set: &mut QuerySet<Q>, asked: &mut A, notes: &mut Vec<Note>)
+fn tell_into<A: Askable, Q: Asks<A>>(set: &mut QuerySet<Q>, asked: &mut A, notes: &mut Vec<Note>)
     requires { vec_len notes.old + length set.old.queries ≤ vec_capacity notes.old }
 {
     set.ask(asked);
@@ -56,7 +56,7 @@ fn tell_into<A, Q: Asks<A>>(set: &mut QuerySet<Q>, asked: &mut A, notes: &mut Ve
 }
 
 // What is told now.
-pub(crate) fn told_now<A, Q: Asks<A>>(
+pub(crate) fn told_now<A: Askable, Q: Asks<A>>(
     alloc: Global,
     set: &mut QuerySet<Q>,
     asked: &mut A,

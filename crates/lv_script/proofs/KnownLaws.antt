@@ -31,7 +31,7 @@ use Rattle.lv_script.specs.declared.long_commands.Search.{Search}
 use Rattle.lv_standing.specs.declared.queries.Query.{Query}
 use Rattle.lv_script.specs.Inside.{AreNotesDue, IsReady, Told, SeriesStep, brought_up, known_of}
 use Rattle.lv_script.specs.LongGrammar.{watch_of}
-use Rattle.lv_standing.specs.Queries.{query_refusal}
+use Rattle.lv_standing.specs.Queries.{query_refusal, terms_of}
 use Rattle.lv_standing.specs.Standings.{HaveOwnNames}
 use Rattle.lv_script.specs.LongTexts.{index_text, long_receipt_text, run_text}
 use Rattle.lv_script.specs.PlainSeriesScript.{PlainSeries, after, long_answer, refusal_of, reply_of, series_script, series_of, start_series}
@@ -164,7 +164,7 @@ module _ (s : SeriesState) (set : QuerySetState Query) where
       wanted series_script (known_of s set.queries) (known_of s after.queries) 0 (watch_of q) text refl (ap (option_map name_number) free) (is ∙ ap (λ r. refused_by (name_number r)) out) (ap (known_of s) same)
 
   -- what the one at a place is answered
-  pub unwatch_told : (name : List ℕ) (i : ℕ) (text : List ℕ) → HaveOwnNames set.queries → place_of (λ q. q.name) set.queries name ≡ Some i → text ≡ unwatched_text name
+  pub unwatch_told : (name : List ℕ) (i : ℕ) (text : List ℕ) → HaveOwnNames set.queries → place_of terms_of set.queries name ≡ Some i → text ≡ unwatched_text name
       → Told (known_of s set.queries) (command.Unwatch name) text (known_of s (remove set.queries i))
   unwatch_told name i text apart at is =
       done (known_of s set.queries) (known_of s (remove set.queries i)) (command.Unwatch name) text
@@ -173,16 +173,16 @@ module _ (s : SeriesState) (set : QuerySetState Query) where
       (ap (known_of s) (without_placed name set.queries i apart at))
 
   -- where there is none of a name
-  pub unwatch_refused : (name : List ℕ) (text : List ℕ) → place_of (λ q. q.name) set.queries name ≡ None → text ≡ refused_by (name_number NoSuchName) → Told (known_of s set.queries) (command.Unwatch name) text (known_of s set.queries)
+  pub unwatch_refused : (name : List ℕ) (text : List ℕ) → place_of terms_of set.queries name ≡ None → text ≡ refused_by (name_number NoSuchName) → Told (known_of s set.queries) (command.Unwatch name) text (known_of s set.queries)
   unwatch_refused name text none is =
       away (known_of s set.queries) (command.Unwatch name) (name_number NoSuchName) text (ap (λ q. option_map name_number (unknown q)) (not_placed name set.queries none)) is
 
-  pub answer_refused : (name : List ℕ) (text : List ℕ) → place_of (λ q. q.name) set.queries name ≡ None → text ≡ refused_by (name_number NoSuchName) → Told (known_of s set.queries) (command.Answer name) text (known_of s set.queries)
+  pub answer_refused : (name : List ℕ) (text : List ℕ) → place_of terms_of set.queries name ≡ None → text ≡ refused_by (name_number NoSuchName) → Told (known_of s set.queries) (command.Answer name) text (known_of s set.queries)
   answer_refused name text none is =
       away (known_of s set.queries) (command.Answer name) (name_number NoSuchName) text (ap (λ q. option_map name_number (unknown q)) (not_placed name set.queries none)) is
 
   -- what one was told last is its answer
-  pub answer_told : (name : List ℕ) (i : ℕ) (d : Shown) (edit : ℕ) (told : List Shown) → told ≡ set.told → set.told ≡ map (long_answer s.held) set.queries → place_of (λ q. q.name) set.queries name ≡ Some i → edit ≡ s.edits
+  pub answer_told : (name : List ℕ) (i : ℕ) (d : Shown) (edit : ℕ) (told : List Shown) → told ≡ set.told → set.told ≡ map (long_answer s.held) set.queries → place_of terms_of set.queries name ≡ Some i → edit ≡ s.edits
       → Told (known_of s set.queries) (command.Answer name) (named_text edit name (get_or told i d)) (known_of s set.queries)
   answer_told name i d edit told same all at count =
       let here = placed name (long_answer s.held) set.queries i d at in

@@ -15,5 +15,6 @@ mod KnownLaws
 mod LongShown
 mod Notes
 mod SearchedLaws
+mod SampleAnswerLaws
 mod ValueLaws
 mod WholeSeriesLaws

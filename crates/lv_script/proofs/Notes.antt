@@ -1,25 +1,24 @@
 -- The notes that are due are those of the queries, one by one.
-use Rattle.std.proofs.Common.{◌≡◌, ℕ, ◌≤◌, false, true, List, [], ◌∷◌, ◌++◌, length, map, flat_map, sym, ap, ap₂, ◌∙◌, subst, inl, inr, arith}
+use Rattle.std.proofs.Common.{◌≡◌, List, [], ◌∷◌, ◌++◌, map, flat_map, sym, ap, ap₂, ◌∙◌, subst, inl, inr}
 use Rattle.std.proofs.lemmas.Bool.{cond-false, cond-true}
 use Rattle.lv_bodies.specs.declared.kinds.Shown.{Shown}
 use Rattle.lv_lines.specs.Texts.{note_text}
 use Rattle.lv_script.specs.Script.{notes_text}
 use Rattle.lv_series.specs.Series.{Held}
-use Rattle.lv_standing.specs.QuerySets.{AddsDue, AreDue, QuerySetState, with_answers}
+use Rattle.lv_standing.specs.QuerySets.{QuerySetState, with_answers}
 use Rattle.lv_standing.specs.declared.notes.Note.{Note}
 use Rattle.lv_standing.specs.declared.queries.Query.{Query}
 use Rattle.lv_script.specs.Inside.{AreNotesDue}
-use Rattle.lv_standing.specs.Queries.{AreNotesOf, is_due}
+use Rattle.lv_standing.specs.Queries.{AddsNotesOf, AreNotesOf, is_due}
 use Rattle.lv_script.specs.PlainScript.{note_of}
 use Rattle.lv_script.specs.PlainSeriesScript.{long_answer}
 
 -- those that a set puts behind none, where its queries were answered by what is kept now
 pub notes_due : (h : Held) (set asked : QuerySetState Query) (before after : List Note) → asked ≡ with_answers set (map (long_answer h) set.queries) → before ≡ []
-    → AddsDue (λ q. q.name) (λ q before now. is_due q.bound before now ≡ false) (λ q before now. is_due q.bound before now ≡ true) asked.queries asked.told asked.answers before after
-    → AreNotesDue h set.queries set.told after
+    → AddsNotesOf asked.queries asked.told asked.answers before after → AreNotesDue h set.queries set.told after
 notes_due h set asked before after are none due =
     subst (AreNotesDue h set.queries set.told) (sym (due.all ∙ ap (λ notes. notes ++ due.added) none))
-    (subst (λ t. AreDue (λ q. q.name) (λ q before now. is_due q.bound before now ≡ false) (λ q before now. is_due q.bound before now ≡ true) t.queries t.told t.answers due.added) are due.are)
+    (subst (λ t. AreNotesOf t.queries t.told t.answers due.added) are due.are)
 
 -- where the queries answered so before and answer so now, their text is that of each, one by one
 pub notes_text_of : (before now : Query → Shown) (qs : List Query) (notes : List Note) → AreNotesOf qs (map before qs) (map now qs) notes → notes_text notes ≡ flat_map (λ q. note_of q (before q) (now q)) qs
@@ -29,12 +28,3 @@ notes_text_of before now (q ∷ qs) notes (inl idle) =
 notes_text_of before now (q ∷ qs) notes (inr due) =
     ap notes_text due.2
     ∙ ap₂ ◌++◌ (sym (cond-true (is_due q.bound (before q) (now q)) (note_text q.name (now q)) [] due.0)) (notes_text_of before now qs due.1 due.3)
-
--- there are no more of them than queries
-few_due : (before now : Query → Shown) (qs : List Query) (notes : List Note) → AreNotesOf qs (map before qs) (map now qs) notes → length notes ≤ length qs
-few_due before now [] notes none = omega (arith, ap length none)
-few_due before now (q ∷ qs) notes (inl idle) = omega (arith, few_due before now qs notes idle.1)
-few_due before now (q ∷ qs) notes (inr due) = omega (arith, ap length due.2, few_due before now qs due.1 due.3)
-
-pub few_told : (old new : Held) (qs : List Query) (told : List Shown) (notes : List Note) → told ≡ map (long_answer old) qs → AreNotesDue new qs told notes → length notes ≤ length qs
-few_told old new qs told notes is due = few_due (long_answer old) (long_answer new) qs notes (subst (λ told. AreNotesDue new qs told notes) is due)

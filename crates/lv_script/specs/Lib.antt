@@ -3,6 +3,7 @@ pub mod Interpreter
 pub mod OneText
 pub mod PlainRuns
 pub mod PlainScript
+pub mod Puts
 pub mod Restored
 pub mod Schedule
 pub mod Played

@@ -1,6 +1,5 @@
 -- What queries ask of a series and of samples, and what they are answered.
-use Rattle.std.specs.Prelude.{ℕ, ℤ, Bool, false, Option, List, is_some, length}
-use Rattle.lv_geometry.specs.declared.refusals.Refusal.{Refusal}
+use Rattle.std.specs.Prelude.{ℤ, Bool, false, List}
 use Rattle.lv_bodies.specs.declared.kinds.Shown.{Shown}
 use Rattle.lv_bodies.specs.Plain.{plain_value_with, program_table}
 use Rattle.lv_series.specs.Samples.{SamplesState, is_among_last, newest_of, plain_samples, values_in}
@@ -8,7 +7,7 @@ use Rattle.lv_series.specs.Series.{SeriesState}
 use Rattle.lv_series.specs.declared.sample_edits.SampleEdit.{SampleEdit}
 use Rattle.lv_standing.specs.Askable.{AskableState, span_from}
 use Rattle.lv_standing.specs.Queries.{is_backwards as is_span_backwards}
-use Rattle.lv_standing.specs.QuerySets.{place_of, refusal_by}
+use Rattle.lv_standing.specs.declared.questions.Terms.{Terms}
 use Rattle.lv_script.specs.declared.sample_queries.SampleQuery.{SampleQuery}
 use Rattle.lv_script.specs.declared.sample_queries.SampleSpan.{SampleSpan}
 use Rattle.lv_script.specs.declared.sample_queries.SampleSpan.TheVariants.{Among, Within}
@@ -36,7 +35,6 @@ abbrev pub is_backwards : SampleSpan → Bool
 is_backwards (Among span) = is_span_backwards span
 is_backwards (Within time) = false
 
--- why a query is refused among others, of which so many are allowed, out of memory apart: its range is backwards, or its name is taken, or
--- there are as many as are allowed
-abbrev pub sample_query_refusal : ℕ → List SampleQuery → SampleQuery → Option Refusal
-sample_query_refusal most queries q = refusal_by (is_backwards q.span) (is_some (place_of (λ other. other.name) queries q.name)) (length queries) most
+-- what a set sees of a query
+abbrev pub terms_of : SampleQuery → Terms
+terms_of q = record { name = q.name; bound = q.bound; is_backwards = is_backwards q.span }

@@ -62,7 +62,7 @@ pub use lv_transcript::{
 pub use query_grammar::read_query;
 pub use restored::{Unrestored, restore_script, resume_script};
 pub use running_scans::{Elements, Slice, put_running_scan};
-pub use sample_queries::{SampleQuery, SampleSpan};
+pub use sample_queries::{SampleQuery, SampleSpan, samples_answer_by_their_edits};
 pub use scans::Asked;
 pub use schedule_replies::{put_said, said_shown};
 pub use schedules::run_schedule;

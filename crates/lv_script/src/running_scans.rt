@@ -7,6 +7,7 @@ ghost use Rattle.lv_bodies.specs.Plain.{plain_value, program_table};
 ghost use Rattle.lv_lines.specs.Output.{HasRoom, Puts, PutsFront, SamePlaces};
 ghost use Rattle.lv_lines.specs.Texts.{scan_text, values_text};
 ghost use Rattle.lv_script.specs.PlainScript.{scan_by};
+ghost use Rattle.lv_script.specs.Puts.{FailsToPut};
 
 use crate::scan_replies::put_scanned;
 use lv_bodies::{Affine, Automaton, Highest, Kind, Lowest, Runs, Shown, Sum, long_laws};
@@ -81,8 +82,7 @@ fn put_values<E: Elements, W: Write>(
     ensures places { SamePlaces buffer.old buffer.new }
     ensures ok { OnOk result (Puts W.contents buffer.old buffer.new
         (values_text (scan_by (plain_value kind) inclusive (E.list elements.now)))) }
-    ensures fault { IfErr result (λ fault. (fault ≡ Fault.WriteFault) × PutsFront W.contents buffer.old buffer.new
-        (values_text (scan_by (plain_value kind) inclusive (E.list elements.now)))) }
+    ensures fault { FailsToPut W.contents buffer.old buffer.new (values_text (scan_by (plain_value kind) inclusive (E.list elements.now))) result }
 {
     match kind {
         Kind::Sum => put_running_values(buffer, &Sum, inclusive, elements),
@@ -106,8 +106,7 @@ fn put_running_values<K: OfKind, E: Elements, W: Write>(
     ensures places { SamePlaces buffer.old buffer.new }
     ensures ok { OnOk result (Puts W.contents buffer.old buffer.new
         (values_text (scan_by (plain_value K.told_kind) inclusive (E.list elements.now)))) }
-    ensures fault { IfErr result (λ fault. (fault ≡ Fault.WriteFault) × PutsFront W.contents buffer.old buffer.new
-        (values_text (scan_by (plain_value K.told_kind) inclusive (E.list elements.now)))) }
+    ensures fault { FailsToPut W.contents buffer.old buffer.new (values_text (scan_by (plain_value K.told_kind) inclusive (E.list elements.now))) result }
 {
     long_laws(body);
     let mut sum = body.identity();

@@ -1,12 +1,14 @@
 //! Queries of samples by name: of a range, of the last so many, or of the last so much time.
-ghost use Rattle.std.specs.Prelude.{◌≡◌};
-ghost use Rattle.lv_script.specs.SampleQueries.{is_backwards};
+ghost use Rattle.std.specs.Prelude.{◌≡◌, List, []};
+ghost use Rattle.lv_bodies.specs.Plain.{program_table};
+ghost use Rattle.lv_series.specs.Samples.{SampleCalled, SampleRun, SamplesState, accepted_samples, plain_samples};
+ghost use Rattle.lv_script.specs.declared.sample_queries.SampleQuery.{SampleQuery as Asked};
+ghost use Rattle.lv_script.specs.SampleQueries.{is_backwards, sample_answer, sample_answer_after};
 
 use crate::asked_samples::AskedSamples;
 use lv_bodies::{Kind, Name, Shown};
-use lv_geometry::Refusal;
 use lv_series::Window;
-use lv_standing::{Askable, Asks, Question, Span, is_due, refusal_by, value_in_span};
+use lv_standing::{Askable, Asks, Question, Span, Terms, value_in_span};
 use lv_tree::Bound;
 
 /// Which samples a query is about.
@@ -41,29 +43,16 @@ pub struct SampleQuery {
 }
 
 impl Question for SampleQuery {
-    ghost use Rattle.std.specs.Prelude.{◌≡◌, true, false};
-    ghost use Rattle.lv_standing.specs.Queries.{is_due};
-    ghost use Rattle.lv_script.specs.SampleQueries.{sample_query_refusal};
+    ghost use Rattle.lv_script.specs.SampleQueries.{terms_of};
 
-    ghost refusal = { sample_query_refusal };
+    ghost terms_of = { terms_of };
 
-    ghost name_of = { λ q. q.name };
-
-    ghost idle = { λ q before now. is_due q.bound before now ≡ false };
-
-    ghost due = { λ q before now. is_due q.bound before now ≡ true };
-
-    // `BadRange`, `NameTaken`, then `TooMany`.
-    fn refusal_among(&self, is_taken: bool, count: usize, most: usize) -> Option<Refusal> {
-        refusal_by(self.span.is_backwards(), is_taken, count, most)
-    }
-
-    fn name(&self) -> Name {
-        self.name
-    }
-
-    fn is_due(&self, before: &Shown, now: &Shown) -> bool {
-        is_due(self.bound, *before, *now)
+    fn terms(&self) -> Terms {
+        Terms {
+            name: self.name,
+            bound: self.bound,
+            is_backwards: self.span.is_backwards(),
+        }
     }
 }
 
@@ -82,3 +71,11 @@ impl Asks<AskedSamples<'_>> for SampleQuery {
         }
     }
 }
+
+/// Whatever the calls on new samples, and whatever each was answered, a query is answered by the edits that were accepted. So a window of
+/// time moves at edits alone: where none was accepted, each query is answered as before.
+#[tactic(auto, using(crate::proofs::SampleAnswerLaws::answered_by_edits, crate::proofs::SampleAnswerLaws::answered_as_before))]
+pub fn samples_answer_by_their_edits()
+    ensures answers { (calls : List SampleCalled) (s : SamplesState) (q : Asked) → SampleRun (plain_samples program_table []) calls s → sample_answer s q ≡ sample_answer_after (accepted_samples calls) q }
+    ensures still { (calls : List SampleCalled) (s next : SamplesState) (q : Asked) → SampleRun s calls next → accepted_samples calls ≡ [] → sample_answer next q ≡ sample_answer s q }
+{}

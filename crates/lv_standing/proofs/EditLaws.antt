@@ -1,5 +1,5 @@
 -- What an edit of a vector with queries leaves, refused or accepted.
-use Rattle.std.proofs.Common.{◌≡◌, None, IfSome, Result, Ok, Err, List, [], ◌∷◌, ◌++◌, false, true, length, map, refl, sym, ap, subst, ◌∙◌, arith}
+use Rattle.std.proofs.Common.{◌≡◌, None, IfSome, Result, Ok, Err, List, [], ◌∷◌, ◌++◌, length, map, refl, sym, ap, subst, ◌∙◌, arith}
 use Rattle.std.proofs.lemmas.List.{append-nil}
 use Rattle.lv_geometry.specs.declared.refusals.Refusal.{Refusal}
 use Rattle.lv_bodies.specs.Plain.{program_table}
@@ -17,7 +17,7 @@ use Rattle.lv_standing.specs.declared.changes.Changed.{Changed}
 use Rattle.lv_standing.specs.declared.notes.Note.{Note}
 use Rattle.lv_standing.specs.declared.queries.Query.{Query}
 use Rattle.lv_standing.specs.Inner.{AnswersNoted, IsChangedBy, IsPushed, SameElsewhere, asked}
-use Rattle.lv_standing.specs.Queries.{AddsNotesOf, AreNotesOf, is_due, span_of, watch_answer}
+use Rattle.lv_standing.specs.Queries.{AddsNotesOf, AreNotesOf, span_of, terms_of, watch_answer}
 use Rattle.lv_standing.specs.QuerySets.{QuerySetState}
 use Rattle.lv_standing.specs.Standings.{HaveOwnNames, IsStanding, LeavesUnasked, summary_at}
 use Rattle.lv_standing.proofs.QuerySetLaws.{few_due}
@@ -116,7 +116,7 @@ module _ (before after : LiveState Six SixSummary) (set : QuerySetState Query) (
           told = added.added;
           more_is = added.all;
           are = are;
-          few = omega (arith, few_due (λ q. q.name) (λ q before now. is_due q.bound before now ≡ false) (λ q before now. is_due q.bound before now ≡ true) set.queries (map (watch_answer old) set.queries) (map (watch_answer new) set.queries) added.added are, standing.few);
+          few = omega (arith, few_due terms_of set.queries (map (watch_answer old) set.queries) (map (watch_answer new) set.queries) added.added are, standing.few);
         };
         untold = tt;
       }

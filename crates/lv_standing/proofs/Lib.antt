@@ -4,7 +4,7 @@ pub mod BesideLaws
 pub mod EditLaws
 mod NameLaws
 pub mod QueryLaws
-mod QuerySetLaws
+pub mod QuerySetLaws
 pub mod RangeLaws
 mod RoomLaws
 pub mod TellLaws

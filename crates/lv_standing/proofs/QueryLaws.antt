@@ -1,6 +1,5 @@
 -- Queries by name: at most one has it. And when no note of an answer is due.
-use Rattle.std.proofs.Common.{◌≡◌, ◌≢◌, ℕ, zero, suc, ◌<◌, ◌≤◌, Bool, true, false, cond, Option, Some, None, List, [], ◌∷◌, ◌++◌, filter, length, map, not, ◌&&◌, ap₂, ℤ, position, is_some, remove, get_or, take, drop, refl, sym, ap, ◌∙◌, inl, inr, arith, true≢false}
-use Rattle.std.specs.Prelude.{nat_lt}
+use Rattle.std.proofs.Common.{◌≡◌, ◌≢◌, ℕ, zero, suc, ◌<◌, Bool, true, false, cond, Option, Some, None, List, [], ◌∷◌, ◌++◌, filter, length, map, not, ◌&&◌, ap₂, ℤ, position, is_some, remove, get_or, take, drop, refl, sym, ap, ◌∙◌, inl, inr, arith, true≢false}
 use Rattle.std.specs.Bool.{beq}
 use Rattle.std.specs.Option.{option_eq}
 use Rattle.std.specs.Ordering.{int_eq}
@@ -13,14 +12,14 @@ use Rattle.std.proofs.lemmas.List.Quantifiers.{all_pairs_push, position-Some}
 use Rattle.std.proofs.lemmas.List.Sums.{fails_before_first}
 use Rattle.std.proofs.lemmas.Option.{none-some}
 use Rattle.std.proofs.lemmas.Slice.Eq.{bytes_eq-Decides}
-use Rattle.lv_geometry.specs.declared.refusals.Refusal.TheVariants.{BadRange, NameTaken, TooMany}
+use Rattle.lv_geometry.specs.declared.refusals.Refusal.{Refusal}
+use Rattle.lv_geometry.specs.declared.refusals.Refusal.TheVariants.{BadRange, NameTaken}
 use Rattle.lv_bodies.specs.declared.kinds.Shown.{Shown}
 use Rattle.lv_bodies.specs.declared.kinds.Shown.TheVariants.{Sum, Least, Greatest, Best, Affine, Automaton}
 use Rattle.lv_tree.specs.declared.places.Bound.{Bound}
 use Rattle.lv_standing.specs.declared.queries.Query.{Query}
 use Rattle.lv_standing.specs.declared.spans.Span.{Span}
-use Rattle.lv_standing.specs.QuerySets.{refusal_by}
-use Rattle.lv_standing.specs.Queries.{holds, is_backwards, is_due, name_refusal, query_of, query_refusal, same_value, span_refusal, without_query}
+use Rattle.lv_standing.specs.Queries.{holds, is_backwards, is_due, query_of, same_value, span_refusal, without_query}
 use Rattle.lv_standing.specs.Standings.{HaveOwnNames}
 
 -- ---- one element of a list
@@ -134,30 +133,16 @@ apart_more qs q apart none =
 -- ---- refusals
 
 -- where a query isn't refused its name is new
-free_name : (most : ℕ) (all : List Query) (o : Option Query) → name_refusal most all o ≡ None → o ≡ None
-free_name most all None free = refl
-free_name most all (Some q) free = absurd (none-some NameTaken (sym free))
+free_name : (qs : List Query) (name : List ℕ) (o : Option ℕ) (rest : Option Refusal) → position (has name) qs ≡ o → cond (is_some o) (Some NameTaken) rest ≡ None → query_of qs name ≡ None
+free_name qs name None rest at free = not_placed name qs at
+free_name qs name (Some i) rest at free = absurd (none-some NameTaken (sym free))
 
 pub new_name : (most : ℕ) (qs : List Query) (name : List ℕ) (span : Span) → span_refusal most qs name span ≡ None → query_of qs name ≡ None
 new_name most qs name span free =
     elim (cases_Bool (is_backwards span)) [
       | inl backwards ↦ absurd (none-some BadRange (sym free ∙ cond-true _ _ _ backwards))
-      | inr order ↦ free_name most qs (query_of qs name) (sym (cond-false _ _ _ order) ∙ free)
+      | inr order ↦ free_name qs name (position (has name) qs) _ refl (sym (cond-false _ _ _ order) ∙ free)
     ]
-
--- a query is refused for its name where one of them has it, else where they are as many as may be
-refused_by_place : (most : ℕ) (qs : List Query) (name : List ℕ) (o : Option ℕ) → position (has name) qs ≡ o → name_refusal most qs (query_of qs name) ≡ cond (is_some o) (Some NameTaken) (cond (nat_lt (length qs) most) None (Some TooMany))
-refused_by_place most qs name None at = ap (name_refusal most qs) (not_placed name qs at)
-refused_by_place most qs name (Some i) at = ap (name_refusal most qs) (placed name (λ q. q.name) qs i [] at).1
-
--- so it is refused by its range, by whether its name is taken, and by how many there are
-pub why_refused : (most count : ℕ) (qs : List Query) (q : Query) (taken : Bool) → length qs ≡ count → is_some (position (has q.name) qs) ≡ taken
-    → query_refusal most qs q ≡ refusal_by (is_backwards q.span) taken count most
-why_refused most count qs q taken many at =
-    ap (cond (is_backwards q.span) (Some BadRange)) (
-    refused_by_place most qs q.name (position (has q.name) qs) refl
-    ∙ ap₂ (λ b n. cond b (Some NameTaken) (cond (nat_lt n most) None (Some TooMany))) at many
-    )
 
 -- ---- notes
 

@@ -1,8 +1,9 @@
 -- The notes and the answers of some queries, one query after another.
-use Rattle.std.proofs.Common.{◌≡◌, ◌<◌, ◌≤◌, ◌+◌, ℕ, List, [], ◌∷◌, ◌++◌, length, map, take, get_or, append_assoc, ap, sym, subst, ◌∙◌, inl, inr, arith}
-use Rattle.std.proofs.lemmas.List.{length-take-le, map-append, take_more}
+use Rattle.std.proofs.Common.{◌≡◌, ◌<◌, ◌≤◌, ◌+◌, ℕ, List, [], ◌∷◌, ◌++◌, length, take, get_or, append_assoc, ap, sym, subst, ◌∙◌, inl, inr, arith}
+use Rattle.std.proofs.lemmas.List.{length-take-le, take_more}
 use Rattle.lv_bodies.specs.declared.kinds.Shown.{Shown}
 use Rattle.lv_standing.specs.declared.notes.Note.{Note}
+use Rattle.lv_standing.specs.declared.questions.Terms.{Terms}
 use Rattle.lv_standing.specs.QuerySets.{AddsDue, AreDue}
 
 -- a list up to an index, and what stands there
@@ -10,12 +11,12 @@ next_of : {A : Type 0} (xs : List A) (i : ℕ) (x : A) → x ≡ get_or xs i x �
 next_of xs i x is inside = take_more xs i x inside ∙ ap (λ y. take i xs ++ y ∷ []) (sym is)
 
 module _ {Q : Type 0} where
-  module _ (name_of : Q → List ℕ) (is_idle is_due : Q → Shown → Shown → Type 0) where
+  module _ (terms_of : Q → Terms) where
     -- the notes of some queries and those of one more are the notes of all
     due_more : (queries : List Q) (told answers : List Shown) (notes : List Note) (q : Q) (before answer : Shown) (more : List Note) → length told ≡ length queries → length answers ≡ length queries
-        → AreDue name_of is_idle is_due queries told answers notes → AreDue name_of is_idle is_due (q ∷ []) (before ∷ []) (answer ∷ []) more → AreDue name_of is_idle is_due (queries ++ q ∷ []) (told ++ before ∷ []) (answers ++ answer ∷ []) (notes ++ more)
+        → AreDue terms_of queries told answers notes → AreDue terms_of (q ∷ []) (before ∷ []) (answer ∷ []) more → AreDue terms_of (queries ++ q ∷ []) (told ++ before ∷ []) (answers ++ answer ∷ []) (notes ++ more)
     due_more [] [] [] notes q before answer more as_told as_answers none one =
-        subst (λ ns. AreDue name_of is_idle is_due (q ∷ []) (before ∷ []) (answer ∷ []) (ns ++ more)) (sym none) one
+        subst (λ ns. AreDue terms_of (q ∷ []) (before ∷ []) (answer ∷ []) (ns ++ more)) (sym none) one
     due_more [] [] (v ∷ answers) notes q before answer more as_told as_answers none one = absurd (omega (arith, as_answers))
     due_more [] (b ∷ told) answers notes q before answer more as_told as_answers none one = absurd (omega (arith, as_told))
     due_more (p ∷ queries) [] answers notes q before answer more as_told as_answers none one = absurd (omega (arith, as_told))
@@ -26,9 +27,9 @@ module _ {Q : Type 0} where
         inr (due.0, due.1 ++ more, ap (λ ns. ns ++ more) due.2, due_more queries told answers due.1 q before answer more (omega (arith, as_told)) (omega (arith, as_answers)) due.3 one)
 
     -- what is due of the queries up to an index was noted, and then what stands there
-    pub next_due : (q : Q) (before answer : Shown) (queries : List Q) (told answers : List Shown) (first notes more : List Note) (i : ℕ) → AddsDue name_of is_idle is_due (q ∷ []) (before ∷ []) (answer ∷ []) notes more
+    pub next_due : (q : Q) (before answer : Shown) (queries : List Q) (told answers : List Shown) (first notes more : List Note) (i : ℕ) → AddsDue terms_of (q ∷ []) (before ∷ []) (answer ∷ []) notes more
         → length told ≡ length queries → length answers ≡ length queries → i < length queries → q ≡ get_or queries i q → before ≡ get_or told i before → answer ≡ get_or answers i answer
-        → AddsDue name_of is_idle is_due (take i queries) (take i told) (take i answers) first notes → AddsDue name_of is_idle is_due (take (i + 1) queries) (take (i + 1) told) (take (i + 1) answers) first more
+        → AddsDue terms_of (take i queries) (take i told) (take i answers) first notes → AddsDue terms_of (take (i + 1) queries) (take (i + 1) told) (take (i + 1) answers) first more
     next_due q before answer queries told answers first notes more i one as_told as_answers inside q_is before_is answer_is so_far =
         let many_told : length (take i told) ≡ length (take i queries) = length-take-le i told (omega arith) ∙ sym (length-take-le i queries (omega arith)) in
         let many_answers : length (take i answers) ≡ length (take i queries) = length-take-le i answers (omega arith) ∙ sym (length-take-le i queries (omega arith)) in
@@ -40,7 +41,7 @@ module _ {Q : Type 0} where
         }
 
     -- there are no more of them than queries
-    pub few_due : (queries : List Q) (told answers : List Shown) (notes : List Note) → AreDue name_of is_idle is_due queries told answers notes → length notes ≤ length queries
+    pub few_due : (queries : List Q) (told answers : List Shown) (notes : List Note) → AreDue terms_of queries told answers notes → length notes ≤ length queries
     few_due [] told answers notes none = omega (arith, ap length none)
     few_due (q ∷ queries) [] answers notes none = omega (arith, ap length none)
     few_due (q ∷ queries) (b ∷ told) [] notes none = omega (arith, ap length none)

@@ -11,7 +11,7 @@ use Rattle.lv_standing.specs.declared.changes.Changed.{Changed}
 use Rattle.lv_standing.specs.declared.notes.Note.{Note}
 use Rattle.lv_standing.specs.declared.queries.Query.{Query}
 use Rattle.lv_standing.specs.Inner.{AddsNotesUpTo, SameElsewhere, asked, has_changed, up_to}
-use Rattle.lv_standing.specs.Queries.{AddsNotesOf, AreNotes, AreNotesOf, is_due, watch_answer}
+use Rattle.lv_standing.specs.Queries.{AddsNotesOf, AreNotes, AreNotesOf, is_due, terms_of, watch_answer}
 use Rattle.lv_standing.specs.Standings.{summary_at}
 use Rattle.lv_standing.proofs.QueryLaws.{never_due}
 use Rattle.lv_standing.proofs.QuerySetLaws.{next_due}
@@ -99,7 +99,7 @@ module _ (old new : List Edit) (qs : List Query) (i : ℕ) (q : Query) (inside :
   -- the notes so far, and that of the query at the place
   pub noted : (notes more : List Note) → AddsNotesOf (q ∷ []) (watch_answer old q ∷ []) (watch_answer new q ∷ []) notes more → (first : List Note) → AddsNotesUpTo old new i qs first notes → AddsNotesUpTo old new (i + 1) qs first more
   noted notes more one first so_far =
-      next_due (λ q. q.name) (λ q before now. is_due q.bound before now ≡ false) (λ q before now. is_due q.bound before now ≡ true)
+      next_due terms_of
       q (watch_answer old q) (watch_answer new q) qs (map (watch_answer old) qs) (map (watch_answer new) qs) first notes more i one (length-map qs (watch_answer old)) (length-map qs (watch_answer new)) inside at
       (answer_at (watch_answer old)) (answer_at (watch_answer new)) so_far
 

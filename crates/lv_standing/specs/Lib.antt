@@ -4,3 +4,5 @@ pub mod Inner
 pub mod Queries
 pub mod QuerySets
 pub mod Standings
+pub mod Thresholds
+pub mod Values

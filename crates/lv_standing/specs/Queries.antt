@@ -1,29 +1,23 @@
 -- Standing queries: what each answers, and which notes an edit sends.
-use Rattle.std.specs.Prelude.{◌≡◌, ◌≤◌, ◌-◌, ◌&&◌, ℕ, ℤ, Bool, true, false, Option, Some, None, List, [], ◌∷◌, ◌++◌, drop, length, filter, map, not, int_le, nat_eq, nat_lt, if◌then◌else◌}
-use Rattle.std.specs.Bool.{beq}
-use Rattle.std.specs.Int.{w64, cast_signed}
+use Rattle.std.specs.Prelude.{◌≡◌, ◌≤◌, ◌-◌, ℕ, ℤ, Bool, false, Option, Some, None, List, [], ◌∷◌, ◌++◌, drop, length, filter, map, not, nat_lt, if◌then◌else◌}
 use Rattle.std.specs.List.{slice_range}
-use Rattle.std.specs.Option.{option_eq, option_map_or}
-use Rattle.std.specs.Ordering.{int_eq}
 use Rattle.std.specs.Str.{bytes_eq}
 use Rattle.lv_geometry.specs.declared.refusals.Refusal.{Refusal}
-use Rattle.lv_geometry.specs.declared.refusals.Refusal.TheVariants.{BadRange, NameTaken, TooMany}
 use Rattle.lv_bodies.specs.declared.kinds.Kind.{Kind}
 use Rattle.lv_bodies.specs.declared.kinds.Shown.{Shown}
-use Rattle.lv_bodies.specs.declared.kinds.Shown.TheVariants.{Sum, Least, Greatest, Best, Affine, Automaton}
 use Rattle.lv_bodies.specs.Plain.{plain_value}
 use Rattle.lv_edits.specs.declared.edit.Edit.{Edit}
 use Rattle.lv_edits.specs.History.{list_of}
 use Rattle.lv_edits.specs.Ranges.{range_refusal, slice_of}
-use Rattle.lv_tree.specs.declared.places.Bound.{Bound}
-use Rattle.lv_tree.specs.declared.places.Bound.TheVariants.{AtLeast, AtMost}
 use Rattle.lv_standing.specs.declared.notes.Answered.{Answered}
 use Rattle.lv_standing.specs.declared.notes.Note.{Note}
 use Rattle.lv_standing.specs.declared.queries.Query.{Query}
+use Rattle.lv_standing.specs.declared.questions.Terms.{Terms}
 use Rattle.lv_standing.specs.declared.spans.Span.{Span}
 use Rattle.lv_standing.specs.declared.spans.Span.TheVariants.{Between, Last}
 use Rattle.lv_standing.specs.Askable.{AskableState, value_in_span}
-use Rattle.lv_standing.specs.QuerySets.{AddsDue, AreDue}
+use Rattle.lv_standing.specs.QuerySets.{AddsDue, AreDue, is_taken, refusal_by}
+pub use Rattle.lv_standing.specs.Thresholds.{crosses, holds, is_due, is_within, number_in, same_value}
 
 -- what is shown of a range at the last edit, by what is shown of a list: nothing refuses the range
 pub record IsShown (plain : List ℤ → Shown) (edits : List Edit) (lo hi : ℕ) (answered : Answered) : Type 0 where
@@ -54,52 +48,25 @@ answer_in s q = value_in_span s q.kind q.span
 abbrev pub untold : Query → Shown
 untold q = plain_value q.kind []
 
--- ---- when a note is due
+-- ---- what a set sees of a query
 
--- whether two answers are the same
-abbrev pub same_value : Shown → Shown → Bool
-same_value (Sum a) (Sum b) = nat_eq a b
-same_value (Least a) (Least b) = option_eq int_eq a b
-same_value (Greatest a) (Greatest b) = option_eq int_eq a b
-same_value (Best a) (Best b) = option_eq int_eq a b
-same_value (Affine a b) (Affine c d) = nat_eq a c && nat_eq b d
-same_value (Automaton a) (Automaton b) = bytes_eq a b
-same_value _ _ = false
+-- whether a span is a range whose end is before its start
+abbrev pub is_backwards : Span → Bool
+is_backwards (Between lo hi) = nat_lt hi lo
+is_backwards (Last n) = false
 
--- the one number that an answer is, if it is one; a sum is signed here, by its 64 bits
-abbrev pub number_in : Shown → Option ℤ
-number_in (Sum n) = Some (cast_signed w64 n)
-number_in (Least x) = x
-number_in (Greatest x) = x
-number_in (Best x) = x
-number_in (Affine a b) = None
-number_in (Automaton states) = None
+abbrev pub terms_of : Query → Terms
+terms_of q = record { name = q.name; bound = q.bound; is_backwards = is_backwards q.span }
 
--- whether a number is within a bound: at least so great, or at most
-abbrev pub is_within : Bound → ℤ → Bool
-is_within (AtLeast least) x = int_le least x
-is_within (AtMost most) x = int_le x most
-
--- whether an answer is within a bound: none is not
-abbrev pub holds : Bound → Shown → Bool
-holds bound answer = option_map_or (is_within bound) (number_in answer) false
-
--- whether it begins or ceases to be, from one answer to the next
-abbrev pub crosses : Bound → Shown → Shown → Bool
-crosses bound before now = not (beq (holds bound before) (holds bound now))
-
--- whether a note is due: the answer is another than before; or if there is a bound, it begins or ceases to be within that
-abbrev pub is_due : Option Bound → Shown → Shown → Bool
-is_due None before now = not (same_value now before)
-is_due (Some bound) before now = crosses bound before now
+-- ---- which notes are due
 
 -- the notes of queries that answered so before, and answer so now: one for each, in order, of which a note is due, with its answer now
 abbrev pub AreNotesOf : List Query → List Shown → List Shown → List Note → Type 0
-AreNotesOf = AreDue (λ q. q.name) (λ q before now. is_due q.bound before now ≡ false) (λ q before now. is_due q.bound before now ≡ true)
+AreNotesOf = AreDue terms_of
 
 -- they stand behind the notes that a list had
 abbrev pub AddsNotesOf : List Query → List Shown → List Shown → List Note → List Note → Type 0
-AddsNotesOf = AddsDue (λ q. q.name) (λ q before now. is_due q.bound before now ≡ false) (λ q before now. is_due q.bound before now ≡ true)
+AddsNotesOf = AddsDue terms_of
 
 -- the notes of an edit, by the edits before and after it
 abbrev pub AreNotes : List Edit → List Edit → List Query → List Note → Type 0
@@ -127,20 +94,10 @@ query_of (q ∷ queries) name = if bytes_eq q.name name then Some q else query_o
 abbrev pub without_query : List Query → List ℕ → List Query
 without_query queries name = filter (λ q. not (bytes_eq q.name name)) queries
 
--- a name is taken where a query has it, else there may be as many queries as are allowed already
-abbrev pub name_refusal : ℕ → List Query → Option Query → Option Refusal
-name_refusal most queries (Some q) = Some NameTaken
-name_refusal most queries None = if nat_lt (length queries) most then None else Some TooMany
-
--- whether a span is a range whose end is before its start
-abbrev pub is_backwards : Span → Bool
-is_backwards (Between lo hi) = nat_lt hi lo
-is_backwards (Last n) = false
-
 -- why a query of a name and a span is refused among others, of which so many are allowed, out of memory apart: its range is backwards, or
 -- its name is taken, or there are as many as are allowed
 abbrev pub span_refusal : ℕ → List Query → List ℕ → Span → Option Refusal
-span_refusal most queries name span = if is_backwards span then Some BadRange else name_refusal most queries (query_of queries name)
+span_refusal most queries name span = refusal_by (is_backwards span) (is_taken terms_of queries name) (length queries) most
 
 abbrev pub query_refusal : ℕ → List Query → Query → Option Refusal
 query_refusal most queries q = span_refusal most queries q.name q.span

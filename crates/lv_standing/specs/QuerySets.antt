@@ -1,11 +1,13 @@
 -- Sets of queries by name, whatever they ask: what a set has, and which notes are due.
-use Rattle.std.specs.Prelude.{◌≡◌, ◌⊎◌, ℕ, Bool, Option, Some, None, List, [], ◌∷◌, ◌++◌, nat_lt, position, slice_set, if◌then◌else◌}
+use Rattle.std.specs.Prelude.{◌≡◌, ◌⊎◌, ℕ, Bool, true, false, Option, Some, None, List, [], ◌∷◌, ◌++◌, is_some, length, nat_lt, position, slice_set, if◌then◌else◌}
 use Rattle.std.specs.List.{remove}
 use Rattle.std.specs.Str.{bytes_eq}
 use Rattle.lv_geometry.specs.declared.refusals.Refusal.{Refusal}
 use Rattle.lv_geometry.specs.declared.refusals.Refusal.TheVariants.{BadRange, NameTaken, TooMany}
 use Rattle.lv_bodies.specs.declared.kinds.Shown.{Shown}
 use Rattle.lv_standing.specs.declared.notes.Note.{Note}
+use Rattle.lv_standing.specs.declared.questions.Terms.{Terms}
+use Rattle.lv_standing.specs.Thresholds.{is_due}
 
 -- a set: its queries in the order of their registration, what each was told last, what they were answered last, and how many it may have
 pub record QuerySetState (Q : Type 0) : Type 0 where
@@ -39,23 +41,32 @@ module _ {Q : Type 0} where
   abbrev pub with_told : QuerySetState Q → QuerySetState Q
   with_told s = record { queries = s.queries; told = s.answers; answers = []; most = s.most }
 
-  module _ (name_of : Q → List ℕ) where
-    -- where the query of a name is, if there is one
+  module _ (terms_of : Q → Terms) where
+    abbrev pub name_of : Q → List ℕ
+    name_of q = (terms_of q).name
+
+    -- where the query of a name is, if there is one, and whether there is
     abbrev pub place_of : List Q → List ℕ → Option ℕ
     place_of queries name = position (λ q. bytes_eq (name_of q) name) queries
 
-    module _ (is_idle is_due : Q → Shown → Shown → Type 0) where
-      -- the notes of some answers: one for each query, in order, whose answer is to be told after what it was told, with that answer
-      abbrev pub AreDue : List Q → List Shown → List Shown → List Note → Type 0
-      AreDue [] told answers notes = notes ≡ []
-      AreDue (q ∷ queries) [] answers notes = notes ≡ []
-      AreDue (q ∷ queries) (before ∷ told) [] notes = notes ≡ []
-      AreDue (q ∷ queries) (before ∷ told) (answer ∷ answers) notes =
-          (is_idle q before answer × AreDue queries told answers notes)
-          ⊎ (is_due q before answer × (rest : List Note) × (notes ≡ record { name = name_of q; value = answer } ∷ rest) × AreDue queries told answers rest)
+    abbrev pub is_taken : List Q → List ℕ → Bool
+    is_taken queries name = is_some (place_of queries name)
 
-      -- they stand behind the notes that a list had
-      pub record AddsDue (queries : List Q) (told answers : List Shown) (notes more : List Note) : Type 0 where
-        pub added : List Note
-        pub are : AreDue queries told answers added
-        pub all : more ≡ notes ++ added
+    -- why a set that has some queries, and may have so many, refuses one more
+    abbrev pub refusal_of : ℕ → List Q → Q → Option Refusal
+    refusal_of most queries q = refusal_by (terms_of q).is_backwards (is_taken queries (name_of q)) (length queries) most
+
+    -- the notes of some answers: one for each query, in order, whose answer is to be told after what it was told, with that answer
+    abbrev pub AreDue : List Q → List Shown → List Shown → List Note → Type 0
+    AreDue [] told answers notes = notes ≡ []
+    AreDue (q ∷ queries) [] answers notes = notes ≡ []
+    AreDue (q ∷ queries) (before ∷ told) [] notes = notes ≡ []
+    AreDue (q ∷ queries) (before ∷ told) (answer ∷ answers) notes =
+        ((is_due (terms_of q).bound before answer ≡ false) × AreDue queries told answers notes)
+        ⊎ ((is_due (terms_of q).bound before answer ≡ true) × (rest : List Note) × (notes ≡ record { name = name_of q; value = answer } ∷ rest) × AreDue queries told answers rest)
+
+    -- they stand behind the notes that a list had
+    pub record AddsDue (queries : List Q) (told answers : List Shown) (notes more : List Note) : Type 0 where
+      pub added : List Note
+      pub are : AreDue queries told answers added
+      pub all : more ≡ notes ++ added

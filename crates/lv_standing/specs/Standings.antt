@@ -1,5 +1,6 @@
 -- What a vector with standing queries holds.
-use Rattle.std.specs.Prelude.{◌≡◌, ◌≢◌, ◌≤◌, ℕ, All, AllPairs, List, length, map}
+use Rattle.std.specs.Prelude.{◌≡◌, ◌≢◌, ◌≤◌, ℕ, ℤ, All, AllPairs, IfErr, IfOk, List, None, Result, Some, length, map}
+use Rattle.lv_geometry.specs.declared.refusals.Refusal.{Refusal}
 use Rattle.lv_bodies.specs.declared.kinds.Kind.{Kind}
 use Rattle.lv_bodies.specs.declared.sixes.Six.{Six}
 use Rattle.lv_bodies.specs.Plain.{program_table}
@@ -7,9 +8,10 @@ use Rattle.lv_bodies.specs.Six.{SixSummary}
 use Rattle.lv_edits.specs.declared.edit.Edit.{Edit}
 use Rattle.lv_edits.specs.History.{list_of}
 use Rattle.lv_edits.specs.Kept.{IsLegalInLimits}
+use Rattle.lv_edits.specs.Ranges.{range_refusal}
 use Rattle.lv_live.specs.State.{LiveState}
 use Rattle.lv_tree.specs.declared.kind_summaries.KindSummary.{KindSummary}
-use Rattle.lv_tree.specs.Kinds.{AreReady, HaveRoomFor, IsLeftOrFollows, KindsState, blocks_of, followed_by}
+use Rattle.lv_tree.specs.Kinds.{AreReady, HaveRoomFor, IsLeftOrFollows, KindsState, LeavesOthers, blocks_of, followed_by}
 use Rattle.lv_tree.specs.KindSummaries.{summary_of}
 use Rattle.lv_standing.specs.declared.queries.Query.{Query}
 use Rattle.lv_standing.specs.Queries.{span_of, watch_answer}
@@ -45,6 +47,15 @@ pub record LeavesOrFollowsUnasked (edits : List Edit) (queries : List Query) (ol
   pub table : new.table ≡ old.table
   pub followed : (k : Kind) → IsUnasked queries k → IsLeftOrFollows edits k old new
   pub room : (size : ℕ) → HaveRoomFor old size → HaveRoomFor new size
+
+-- a search of a range finds a place in the vector's list, or the range is refused; nothing has changed but what is kept by one kind
+pub record Searches {T : Type 0} (IsPlace : List ℤ → ℕ → ℕ → T → Type 0) (kind : Kind) (old : StandingState) (lo hi : ℕ) (result : Result T Refusal) (new : StandingState) : Type 0 where
+  pub ok : IfOk result (λ place. IsPlace (list_of old.live.history.journal) lo hi place)
+  pub granted : IfOk result (λ _. range_refusal old.live.history.journal lo hi ≡ None)
+  pub err : IfErr result (λ refusal. range_refusal old.live.history.journal lo hi ≡ Some refusal)
+  pub live : new.live ≡ old.live
+  pub queries : new.queries ≡ old.queries
+  pub others : LeavesOthers kind old.kinds new.kinds
 
 -- the vector is within its limits, there are at most 64 queries, each by its own name, each counts as told what it answers at the last edit
 -- and has the summary of its elements, what is kept by kind is right for the vector, and there is room for all that it may be asked

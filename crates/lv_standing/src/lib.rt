@@ -31,7 +31,7 @@ pub use lv_bodies::Name;
 pub use notes::{Answered, Note};
 pub use queries::Query;
 pub use query_set::QuerySet;
-pub use questions::{Asks, Question, refusal_by};
+pub use questions::{Asks, Question, Terms};
 pub use spans::{Indices, Span};
 pub use standing::Standing;
 pub use thresholds::is_due;

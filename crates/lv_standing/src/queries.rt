@@ -1,13 +1,11 @@
 //! Queries by name, and why one is refused.
 ghost use Rattle.std.specs.Prelude.{◌≡◌, []};
-ghost use Rattle.lv_standing.specs.Queries.{between, query_refusal, untold, watch_answer};
+ghost use Rattle.lv_standing.specs.Queries.{between, untold, watch_answer};
 
 use crate::askable::{Askable, value_in_span};
-use crate::questions::{Asks, Question, refusal_by};
+use crate::questions::{Asks, Question, Terms};
 use crate::spans::Span;
-use crate::thresholds::is_due;
 use lv_bodies::{Body, Kind, Name, Shown, Six, face};
-use lv_geometry::Refusal;
 use lv_tree::Bound;
 
 /// A query by a name: the value of a kind over the elements of a span, and the bound by which it is told of, if it has one.
@@ -20,28 +18,16 @@ pub struct Query {
 }
 
 impl Question for Query {
-    ghost use Rattle.std.specs.Prelude.{◌≡◌, true, false};
-    ghost use Rattle.lv_standing.specs.Queries.{is_due, query_refusal};
+    ghost use Rattle.lv_standing.specs.Queries.{terms_of};
 
-    ghost refusal = { query_refusal };
+    ghost terms_of = { terms_of };
 
-    ghost name_of = { λ q. q.name };
-
-    ghost idle = { λ q before now. is_due q.bound before now ≡ false };
-
-    ghost due = { λ q before now. is_due q.bound before now ≡ true };
-
-    // `BadRange`, `NameTaken`, then `TooMany`.
-    fn refusal_among(&self, is_taken: bool, count: usize, most: usize) -> Option<Refusal> {
-        refusal_by(self.span.is_backwards(), is_taken, count, most)
-    }
-
-    fn name(&self) -> Name {
-        self.name
-    }
-
-    fn is_due(&self, before: &Shown, now: &Shown) -> bool {
-        is_due(self.bound, *before, *now)
+    fn terms(&self) -> Terms {
+        Terms {
+            name: self.name,
+            bound: self.bound,
+            is_backwards: self.span.is_backwards(),
+        }
     }
 }
 

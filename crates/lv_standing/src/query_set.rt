@@ -2,10 +2,11 @@
 ghost use Rattle.std.specs.Prelude.{◌≡◌, ◌+◌, ◌<◌, ◌≤◌, ◌∷◌, [], None, IfErr, OnErr, OnOk, get_or, length, map, vec_capacity, vec_len};
 ghost use Rattle.lv_bodies.specs.declared.kinds.Shown.{Shown as Told};
 ghost use Rattle.lv_edits.specs.Verdict.{IsRefusal};
-ghost use Rattle.lv_standing.specs.QuerySets.{AddsDue, place_of, told_at, with_answers, with_query, without_place, with_told};
+ghost use Rattle.lv_standing.specs.QuerySets.{AddsDue, name_of, place_of, refusal_of, told_at, with_answers, with_query, without_place, with_told};
 
+use crate::askable::Askable;
 use crate::notes::Note;
-use crate::questions::{Asks, Question};
+use crate::questions::{Asks, Question, Terms, refusal_by};
 use indexmap::IndexSet;
 use lv_bodies::{Name, Shown};
 use lv_geometry::Refusal;
@@ -28,13 +29,13 @@ pub struct QuerySet<Q: Question> {
 
 impl<Q: Question> Model for QuerySet<Q> {
     ghost use Rattle.std.specs.Prelude.{◌≡◌, ◌≤◌, length, map, vec_capacity};
-    ghost use Rattle.lv_standing.specs.QuerySets.{QuerySetState};
+    ghost use Rattle.lv_standing.specs.QuerySets.{QuerySetState, name_of};
 
     ghost Value = { QuerySetState Q };
 
     ghost view = { λ s. record { queries = s.queries.items; told = s.told.items; answers = s.answers.items; most = s.most } };
 
-    ghost invariant = { λ s. (s.names.keys ≡ map Q.name_of s.queries.items) × (length s.told.items ≡ length s.queries.items) × (length s.queries.items ≤ vec_capacity s.told) × (length s.queries.items ≤ vec_capacity s.answers) × (length s.queries.items ≤ s.most) };
+    ghost invariant = { λ s. (s.names.keys ≡ map (name_of Q.terms_of) s.queries.items) × (length s.told.items ≡ length s.queries.items) × (length s.queries.items ≤ vec_capacity s.told) × (length s.queries.items ≤ vec_capacity s.answers) × (length s.queries.items ≤ s.most) };
 }
 
 impl<Q: Question> QuerySet<Q> {
@@ -54,8 +55,8 @@ impl<Q: Question> QuerySet<Q> {
     /// Registers a query behind the others, which counts as told this answer. Refused as `refusal` says, then with `NoMemory`; nothing has
     /// changed then. What was answered before is forgotten.
     pub fn watch(&mut self, query: &Q, told: Shown) -> Result<(), Refusal>
-        ensures ok { OnOk result ((Q.refusal self.old.most self.old.queries query.now ≡ None) × (self.new ≡ with_query self.old query.now told)) }
-        ensures err { IfErr result (λ refusal. IsRefusal (Q.refusal self.old.most self.old.queries query.now) refusal) }
+        ensures ok { OnOk result ((refusal_of Q.terms_of self.old.most self.old.queries query.now ≡ None) × (self.new ≡ with_query self.old query.now told)) }
+        ensures err { IfErr result (λ refusal. IsRefusal (refusal_of Q.terms_of self.old.most self.old.queries query.now) refusal) }
         ensures unchanged { OnErr result (self.new ≡ self.old) }
     {
         match self.refusal(query) {
@@ -66,17 +67,22 @@ impl<Q: Question> QuerySet<Q> {
 
     /// Why a query is refused, out of memory apart, if it is.
     pub fn refusal(&self, query: &Q) -> Option<Refusal>
-        ensures why { result ≡ Q.refusal self.now.most self.now.queries query.now }
-        ensures free { result ≡ None → place_of Q.name_of self.now.queries (Q.name_of query.now) ≡ None }
+        ensures why { result ≡ refusal_of Q.terms_of self.now.most self.now.queries query.now }
+        ensures free { result ≡ None → place_of Q.terms_of self.now.queries (name_of Q.terms_of query.now) ≡ None }
         ensures few { result ≡ None → length self.now.queries < self.now.most }
     {
-        let place = self.place(&query.name());
-        query.refusal_among(place.is_some(), self.queries.len(), self.most)
+        let Terms {
+            name,
+            is_backwards,
+            ..
+        } = query.terms();
+        let place = self.place(&name);
+        refusal_by(is_backwards, place.is_some(), self.queries.len(), self.most)
     }
 
     // Registers a query that only a lack of memory refuses.
     fn add(&mut self, query: &Q, told: Shown) -> Result<(), Refusal>
-        requires free { place_of Q.name_of self.old.queries (Q.name_of query.now) ≡ None }
+        requires free { place_of Q.terms_of self.old.queries (name_of Q.terms_of query.now) ≡ None }
         requires few { length self.old.queries < self.old.most }
         ensures ok { OnOk result (self.new ≡ with_query self.old query.now told) }
         ensures err { IfErr result (λ refusal. refusal ≡ Refusal.NoMemory) }
@@ -85,7 +91,7 @@ impl<Q: Question> QuerySet<Q> {
         let Ok(()) = make_room(&mut self.queries, &mut self.told, &mut self.answers) else {
             return Err(Refusal::NoMemory);
         };
-        let Ok(_) = self.names.insert(query.name()) else {
+        let Ok(_) = self.names.insert(query.terms().name) else {
             return Err(Refusal::NoMemory);
         };
         self.queries.push_reserved(*query);
@@ -96,7 +102,7 @@ impl<Q: Question> QuerySet<Q> {
 
     /// Where the query of a name is, if there is one.
     pub fn place(&self, name: &Name) -> Option<usize>
-        ensures { result ≡ place_of Q.name_of self.now.queries name.now }
+        ensures { result ≡ place_of Q.terms_of self.now.queries name.now }
     {
         self.names.get_index_of(name)
     }
@@ -143,21 +149,23 @@ impl<Q: Question> QuerySet<Q> {
         &self.answers
     }
 
-    /// Asks all of them at once. Takes no memory, and nothing counts as told by it.
-    pub fn ask<A>(&mut self, asked: &mut A)
+    /// Asks all of them at once, and gives the number of the edit at which they answer so. Takes no memory, and nothing counts as told by it.
+    pub fn ask<A: Askable>(&mut self, asked: &mut A) -> u64
     where
         Q: Asks<A>,
         ensures answers { self.new ≡ with_answers self.old (map (Q.answer_of asked.old) self.old.queries) }
+        ensures edit { result ≡ (A.state asked.old).edit }
         ensures same { asked.new ≡ asked.old }
     {
         ask_each(&self.queries, asked, &mut self.answers);
+        asked.edit()
     }
 
     /// Puts a note of each query, in order, whose last answer is due behind the notes that a list has.
     pub fn put_due(&self, notes: &mut Vec<Note>)
         requires asked { length self.now.answers ≡ length self.now.queries }
         requires room { vec_len notes.old + length self.now.queries ≤ vec_capacity notes.old }
-        ensures notes { AddsDue Q.name_of Q.idle Q.due self.now.queries self.now.told self.now.answers notes.old.items notes.new.items }
+        ensures notes { AddsDue Q.terms_of self.now.queries self.now.told self.now.answers notes.old.items notes.new.items }
         ensures capacity { vec_capacity notes.new ≡ vec_capacity notes.old }
     {
         note_each(&self.queries, &self.told, &self.answers, notes);
@@ -169,7 +177,7 @@ impl<Q: Question> QuerySet<Q> {
         requires room { vec_len notes.old + 1 ≤ vec_capacity notes.old }
         ensures told { self.new ≡ told_at self.old place answer }
         ensures noted { (q : Q) (before : Told) → q ≡ get_or self.old.queries place q → before ≡ get_or self.old.told place before
-            → AddsDue Q.name_of Q.idle Q.due (q ∷ []) (before ∷ []) (answer ∷ []) notes.old.items notes.new.items }
+            → AddsDue Q.terms_of (q ∷ []) (before ∷ []) (answer ∷ []) notes.old.items notes.new.items }
         ensures few { vec_len notes.new ≤ vec_len notes.old + 1 }
         ensures capacity { vec_capacity notes.new ≡ vec_capacity notes.old }
     {
@@ -227,7 +235,7 @@ fn note_each<Q: Question>(queries: &[Q], told: &[Shown], answers: &[Shown], note
     requires told { length told.now ≡ length queries.now }
     requires answers { length answers.now ≡ length queries.now }
     requires room { vec_len notes.old + length queries.now ≤ vec_capacity notes.old }
-    ensures notes { AddsDue Q.name_of Q.idle Q.due queries.now told.now answers.now notes.old.items notes.new.items }
+    ensures notes { AddsDue Q.terms_of queries.now told.now answers.now notes.old.items notes.new.items }
     ensures capacity { vec_capacity notes.new ≡ vec_capacity notes.old }
 {
     for i in 0..queries.len() {
@@ -238,13 +246,13 @@ fn note_each<Q: Question>(queries: &[Q], told: &[Shown], answers: &[Shown], note
 // Puts a note of a query, if its answer is due.
 fn note_one<Q: Question>(query: &Q, before: &Shown, answer: &Shown, notes: &mut Vec<Note>)
     requires { vec_len notes.old + 1 ≤ vec_capacity notes.old }
-    ensures noted { AddsDue Q.name_of Q.idle Q.due (query.now ∷ []) (before.now ∷ []) (answer.now ∷ []) notes.old.items notes.new.items }
+    ensures noted { AddsDue Q.terms_of (query.now ∷ []) (before.now ∷ []) (answer.now ∷ []) notes.old.items notes.new.items }
     ensures few { vec_len notes.new ≤ vec_len notes.old + 1 }
     ensures capacity { vec_capacity notes.new ≡ vec_capacity notes.old }
 {
     if query.is_due(before, answer) {
         notes.push_reserved(Note {
-            name: query.name(),
+            name: query.terms().name,
             value: *answer,
         });
     }

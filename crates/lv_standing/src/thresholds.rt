@@ -1,6 +1,6 @@
 //! Thresholds: when a note of an answer is due.
 ghost use Rattle.std.specs.Prelude.{◌≡◌};
-ghost use Rattle.lv_standing.specs.Queries.{crosses, holds, is_due, is_within, number_in};
+ghost use Rattle.lv_standing.specs.Thresholds.{crosses, holds, is_due, is_within, number_in};
 
 use lv_bodies::Shown;
 use lv_tree::Bound;

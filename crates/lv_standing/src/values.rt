@@ -5,6 +5,7 @@ ghost use Rattle.lv_edits.specs.Kept.{IsLegalInLimits};
 ghost use Rattle.lv_edits.specs.Ranges.{range_refusal};
 ghost use Rattle.lv_tree.specs.Kinds.{AreReady, IsCaughtUp, IsNear, LeavesOthers};
 ghost use Rattle.lv_standing.specs.Queries.{IsShown, IsValue};
+ghost use Rattle.lv_standing.specs.Values.{AnswersValue};
 
 use crate::asking::ask_by_kind;
 use crate::notes::Answered;
@@ -88,11 +89,7 @@ fn asked<B: Body>(
 ) -> Result<Answered, Refusal>
     requires limits { IsLegalInLimits live.now.history }
     requires kept { AreReady program_table live.now.history.journal kinds.old }
-    ensures ok { IfOk result (λ answered. IsValue live.now.history.journal kind lo hi answered) }
-    ensures err { IfErr result (λ refusal. range_refusal live.now.history.journal lo hi ≡ Some refusal) }
-    ensures kept { AreReady program_table live.now.history.journal kinds.new }
-    ensures others { LeavesOthers kind kinds.old kinds.new }
-    ensures caught_up { IfOk result (λ _. IsNear kind lo hi kinds.old ⊎ IsCaughtUp live.now.history.journal kind hi kinds.new) }
+    ensures { AnswersValue live.now.history.journal kind lo hi kinds.old kinds.new result }
 {
     match kind {
         Kind::Sum => asked_by(live, kinds, Kind::Sum, lo, hi),
@@ -111,11 +108,7 @@ fn asked_apart<B: Body>(
 ) -> Result<Answered, Refusal>
     requires limits { IsLegalInLimits live.now.history }
     requires kept { AreReady program_table live.now.history.journal kinds.old }
-    ensures ok { IfOk result (λ answered. IsValue live.now.history.journal kind lo hi answered) }
-    ensures err { IfErr result (λ refusal. range_refusal live.now.history.journal lo hi ≡ Some refusal) }
-    ensures kept { AreReady program_table live.now.history.journal kinds.new }
-    ensures others { LeavesOthers kind kinds.old kinds.new }
-    ensures caught_up { IfOk result (λ _. IsNear kind lo hi kinds.old ⊎ IsCaughtUp live.now.history.journal kind hi kinds.new) }
+    ensures { AnswersValue live.now.history.journal kind lo hi kinds.old kinds.new result }
 {
     match kind {
         Kind::Sum => asked_by(live, kinds, Kind::Sum, lo, hi),
@@ -138,11 +131,7 @@ fn asked_by<B: Body>(
 ) -> Result<Answered, Refusal>
     requires limits { IsLegalInLimits live.now.history }
     requires kept { AreReady program_table live.now.history.journal kinds.old }
-    ensures ok { IfOk result (λ answered. IsValue live.now.history.journal kind lo hi answered) }
-    ensures err { IfErr result (λ refusal. range_refusal live.now.history.journal lo hi ≡ Some refusal) }
-    ensures kept { AreReady program_table live.now.history.journal kinds.new }
-    ensures others { LeavesOthers kind kinds.old kinds.new }
-    ensures caught_up { IfOk result (λ _. IsNear kind lo hi kinds.old ⊎ IsCaughtUp live.now.history.journal kind hi kinds.new) }
+    ensures { AnswersValue live.now.history.journal kind lo hi kinds.old kinds.new result }
 {
     let answer = ask_by_kind(live, kinds, kind, lo, hi)?;
     Ok(Answered {

@@ -20,7 +20,7 @@ pub use lv_live::{
 pub use lv_reduce::{Answer, Reads, Scan};
 pub use lv_refresh::{Job, Outcome, SubtreeJob, SubtreeOutcome};
 pub use lv_standing::{
-    Answered, Askable, Asks, Name, Note, Query, QuerySet, Question, Span, Standing,
+    Answered, Askable, Asks, Name, Note, Query, QuerySet, Question, Span, Standing, Terms,
 };
 pub use lv_summary::Accepted;
 pub use lv_tree::{

@@ -4,7 +4,9 @@
 pub use lv_saved::{
     LoadRefusal, Loader, damage_shows, save, save_samples, saved_bytes, saved_samples_bytes,
 };
-pub use lv_script::{AskedSamples, AskedSeries, SampleQuery, SampleSpan};
+pub use lv_script::{
+    AskedSamples, AskedSeries, SampleQuery, SampleSpan, samples_answer_by_their_edits,
+};
 pub use lv_series::{
     LongAnswer, LongEdit, LongReceipt, LongRefusal, LongScan, Sample, SampleEdit, SampleRefusal,
     Samples, Series, Window, every_answer_is_plain, every_sample_answer_is_plain,

@@ -17,4 +17,4 @@ pub returns-clause-fault : goal.returns-clause-fault
 returns-clause-fault g c =
     let count = length-scan (plain_value c.args.kind) c.args.inclusive (g.E.Elements.list c.args.elements.now) in
     let text = c.put_scan_head.ensures.text ∙ ap (λ n. c.args.buffer.now.held.now.items ++ scan_head c.args.edit c.args.inclusive c.args.kind n) (c.count.ensures ∙ sym count) in
-    IfErr-weaker c.put_values.result _ _ (λ fault fails. (fails.0, WritesFront-after (Writes-put _ _ _ _ text) fails.1)) c.put_values.ensures.fault
+    IfErr-weaker c.put_values.result _ _ (λ fault fails. (fails.0, WritesFront-after (Writes-put _ _ _ _ text) fails.1)) c.put_values.ensures.fault.fails

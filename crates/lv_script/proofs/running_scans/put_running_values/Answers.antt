@@ -21,7 +21,7 @@ pub returns-in_err-put_scanned-clause-fault : goal.returns-in_err-put_scanned-cl
 returns-in_err-put_scanned-clause-fault g c =
     let p = err_from_is_err_and c.from_residual.result c.from_residual.ensures.1 in
     let fails = c.in_err-put_scanned.ensures.fault in
-    rw (p.1, p.2) (fails.0, WritesFront-so_far (plain_value g.K.OfKind.told_kind) c.args.inclusive (g.E.Elements.list c.args.elements.now) c.loop-i.i c.loop-i.invariant.written fails.1)
+    rw (p.1, p.2) (record { fails = (fails.0, WritesFront-so_far (plain_value g.K.OfKind.told_kind) c.args.inclusive (g.E.Elements.list c.args.elements.now) c.loop-i.i c.loop-i.invariant.written fails.1) })
 
 pub loop-i-preserved : goal.loop-i-preserved
 loop-i-preserved g c =

@@ -6,9 +6,8 @@ use Rattle.lv_standing.proofs.query_set.note_each.Goals as goal
 pub loop-i-preserved : goal.loop-i-preserved
 loop-i-preserved g c =
     let inv = c.loop-i.invariant in
-    let trait = g.Q.Question in
     record {
-      notes = next_due trait.name_of trait.idle trait.due _ _ _ c.args.queries.now c.args.told.now c.args.answers.now c.args.notes.now.items c.loop-i.notes.items c.note_one.new.notes.items c.loop-i.i c.note_one.ensures.noted
+      notes = next_due g.Q.Question.terms_of _ _ _ c.args.queries.now c.args.told.now c.args.answers.now c.args.notes.now.items c.loop-i.notes.items c.note_one.new.notes.items c.loop-i.i c.note_one.ensures.noted
           c.requires.told c.requires.answers (omega arith) (search rules) (search rules) (search rules) inv.notes;
       few = omega (arith, c.note_one.ensures.few, inv.few);
       room = omega (arith, c.note_one.ensures.capacity, inv.room);

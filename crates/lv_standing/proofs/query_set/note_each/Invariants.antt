@@ -5,7 +5,7 @@ use Rattle.lv_standing.proofs.query_set.note_each.Given as goal
 
 abbrev pub invariant-loop-i : goal.invariant-loop-i
 invariant-loop-i g l = record {
-  notes : AddsDue g.Q.Question.name_of g.Q.Question.idle g.Q.Question.due (take l.i l.queries) (take l.i l.told) (take l.i l.answers) l.fn.notes.items l.notes.items;
+  notes : AddsDue g.Q.Question.terms_of (take l.i l.queries) (take l.i l.told) (take l.i l.answers) l.fn.notes.items l.notes.items;
   few : vec_len l.notes ≤ vec_len l.fn.notes + l.i;
   room : vec_len l.fn.notes + length l.queries ≤ vec_capacity l.notes;
   capacity : vec_capacity l.notes ≡ vec_capacity l.fn.notes;

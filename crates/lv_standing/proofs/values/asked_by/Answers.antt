@@ -6,12 +6,17 @@ use Rattle.lv_tree.proofs.KindLaws.{shown_is_plain}
 use Rattle.lv_standing.proofs.RangeLaws.{range_can_fold}
 use Rattle.lv_standing.proofs.values.asked_by.Goals as goal
 
-pub returns-clause-ok : goal.returns-clause-ok
-returns-clause-ok g c =
+pub returns : goal.returns
+returns g c =
     let h = c.args.live.now.history in
-    let is = c.in_ok-answer.ensures.ok in
-    record {
-      granted = is.granted;
-      edit = is.edit;
-      value = c.shown.ensures ∙ ap shown_of is.summary ∙ shown_is_plain c.args.kind (slice_of h.journal c.args.lo c.args.hi) (range_can_fold h c.args.lo c.args.hi c.requires.limits);
+    let answer = c.in_ok-answer.ensures in record {
+      ok = record {
+        granted = answer.ok.granted;
+        edit = answer.ok.edit;
+        value = c.shown.ensures ∙ ap shown_of answer.ok.summary ∙ shown_is_plain c.args.kind (slice_of h.journal c.args.lo c.args.hi) (range_can_fold h c.args.lo c.args.hi c.requires.limits);
+      };
+      err = tt;
+      kept = answer.kept;
+      others = answer.others;
+      caught_up = answer.caught_up;
     }

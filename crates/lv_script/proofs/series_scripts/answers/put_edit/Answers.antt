@@ -1,16 +1,19 @@
 -- Proof of `put_edit`: makes an edit: its receipt and its notes, or its refusal.
-use Rattle.std.proofs.Common.{◌++◌, append_assoc, arith, ap, length, vec_capacity, ◌∙◌}
+use Rattle.std.proofs.Common.{◌++◌, append_assoc, arith, ap, length, map, vec_capacity, ◌∙◌}
+use Rattle.lv_standing.specs.Queries.{terms_of}
+use Rattle.lv_standing.proofs.QuerySetLaws.{few_due}
 use Rattle.lv_script.specs.Script.{notes_text}
+use Rattle.lv_script.specs.PlainSeriesScript.{long_answer}
 use Rattle.lv_script.specs.Inside.{known_of}
 use Rattle.lv_script.specs.LongTexts.{long_receipt_text}
 use Rattle.lv_script.specs.declared.long_commands.LongCommand.TheVariants as command
 use Rattle.lv_script.proofs.KnownLaws.{edit_granted, edit_ready, ready_still, told_still}
-use Rattle.lv_script.proofs.Notes.{few_told}
 use Rattle.lv_script.proofs.series_scripts.answers.put_edit.Goals as goal
 
 pub put_notes-requires : goal.put_notes-requires
 put_notes-requires c =
-    let few = few_told c.args.series.now.held c.apply.new.self.held c.args.queries.now.queries c.args.queries.now.told c.tell.new.notes.items c.requires.ready.told c.tell.ensures.notes in
+    let queries = c.args.queries.now in
+    let few = few_due terms_of queries.queries queries.told (map (long_answer c.apply.new.self.held) queries.queries) c.tell.new.notes.items c.tell.ensures.notes in
     omega (arith, c.requires.room, c.put_receipt.ensures.len, c.put_receipt.ensures.room, c.requires.ready.few, few, ap length c.as_slice.ensures.value)
 
 pub returns-in-Ok-clause-answer : goal.returns-in-Ok-clause-answer
