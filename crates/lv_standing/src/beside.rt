@@ -134,9 +134,28 @@ pub fn write_beside<B: Body>(
     match live.write_through(index, value) {
         Err(refusal) => Err(refusal),
         Ok(receipt) => {
-            kinds.follow_write(index, element_before(&receipt), value);
+            let Overwritten { before, after } = change_of(&receipt, value);
+            kinds.follow_write(index, before, after);
             Ok(receipt)
         }
+    }
+}
+
+// The elements that an index has before a write, and after it.
+struct Overwritten {
+    before: i64,
+    after: i64,
+}
+
+// The elements before and after a write of a value, by its receipt.
+#[inline(always)]
+fn change_of(receipt: &Receipt, value: i64) -> Overwritten
+    ensures before { (edit : ℕ) (x : ℤ) → receipt.now ≡ Written edit x → result.before ≡ x }
+    ensures after { result.after ≡ value }
+{
+    Overwritten {
+        before: element_before(receipt),
+        after: value,
     }
 }
 

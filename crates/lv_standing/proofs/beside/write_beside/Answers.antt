@@ -3,8 +3,9 @@ use Rattle.std.proofs.Common.{length, of_z, pos, rules, subst, sym, to_z, ◌+�
 use Rattle.std.specs.Int.{w64}
 use Rattle.std.specs.List.{slice_index_or}
 use Rattle.std.proofs.lemmas.Int.{to_z-of_z}
-use Rattle.lv_edits.specs.History.{list_of}
-use Rattle.lv_tree.specs.Kinds.{AreReady}
+use Rattle.lv_edits.specs.declared.edit.Edit.TheVariants.{Write}
+use Rattle.lv_edits.specs.History.{list_of, with_edit}
+use Rattle.lv_tree.specs.Kinds.{AreKept, AreReady}
 use Rattle.lv_tree.proofs.KeptLaws.{LeavesAll-same}
 use Rattle.lv_standing.proofs.BesideLaws.{ready_written}
 use Rattle.lv_standing.proofs.beside.write_beside.Goals as goal
@@ -12,11 +13,13 @@ use Rattle.lv_standing.proofs.beside.write_beside.Goals as goal
 pub returns-in-Ok-clause-kept : goal.returns-in-Ok-clause-kept
 returns-in-Ok-clause-kept g c =
     let old = c.args.live.now.history in
+    let kinds = c.args.kinds.now in
     let answer = c.in-Ok.ensures.answer in
-    let read = to_z-of_z w64 c.element_before.result (search rules) in
-    let before = c.element_before.ensures (length old.journal + 1) (slice_index_or (list_of old.journal) c.args.index (pos 0)) answer.receipt_is in
-    ready_written old c.write_through.new.self.history c.args.index (to_z w64 (of_z w64 c.args.value)) (to_z w64 (of_z w64 c.element_before.result)) c.args.kinds.now c.follow_write.new.self c.keeps.ensures.limits answer.verdict answer.journal (read ∙ before)
-    c.follow_write.ensures.kept c.follow_write.ensures.leaves c.requires.kept
+    let now = c.change_of-before.ensures in
+    let before = to_z-of_z w64 c.change_of-before.result.before (search rules) ∙ now.before (length old.journal + 1) (slice_index_or (list_of old.journal) c.args.index (pos 0)) answer.receipt_is in
+    let after = to_z-of_z w64 c.change_of-before.result.after (search rules) ∙ now.after in
+    ready_written old c.write_through.new.self.history c.args.index _ (to_z w64 (of_z w64 c.change_of-before.result.before)) kinds c.follow_write.new.self c.keeps.ensures.limits answer.verdict answer.journal before
+    (λ table h at kept. subst (λ x. AreKept table (with_edit h (Write c.args.index x)).journal c.follow_write.new.self) after (c.follow_write.ensures.kept table h at kept)) c.follow_write.ensures.leaves c.requires.kept
 
 pub returns-in-Err-clause-kept : goal.returns-in-Err-clause-kept
 returns-in-Err-clause-kept g c =
