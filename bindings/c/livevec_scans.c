@@ -45,38 +45,22 @@ static livevec_scanned judge(livevec_vector *slot, uint32_t lo, uint32_t hi, siz
 
 FILLED(read, int64_t, livevec_proved_get(slot, lo + i).value)
 
-/* Scans: a proved call writes the whole column. It is never given a null pointer: where there are no places, they begin anywhere. */
-#define SCANNED(ending, cell, call)                                                                                                     \
-    static livevec_scanned scanned##ending(livevec_vector *slot, uint32_t lo, uint32_t hi, bool inclusive, cell *column, size_t length) \
-    {                                                                                                                                   \
-        cell nowhere, *places = column ? column : &nowhere;                                                                             \
-        uint32_t why = first_of(THERE(slot), ARRAY(column, length));                                                                    \
-        if (why)                                                                                                                        \
-            return (livevec_scanned){.refusal = why};                                                                                   \
-        if (!enter_to_read(&slot->busy_))                                                                                               \
-            return (livevec_scanned){.refusal = LIVEVEC_BUSY};                                                                          \
-        LEAVES(left, slot);                                                                                                             \
-        return livevec_proved_##call;                                                                                                   \
-    }                                                                                                                                   \
-    livevec_scanned livevec_scan_inclusive##ending(livevec_vector *slot, uint32_t lo, uint32_t hi, cell *column, size_t length)         \
-    {                                                                                                                                   \
-        return scanned##ending(slot, lo, hi, true, column, length);                                                                     \
-    }                                                                                                                                   \
-    livevec_scanned livevec_scan_exclusive##ending(livevec_vector *slot, uint32_t lo, uint32_t hi, cell *column, size_t length)         \
-    {                                                                                                                                   \
-        return scanned##ending(slot, lo, hi, false, column, length);                                                                    \
-    }
-/* By a proved export that is of one kind, or of all six. */
-#define SCANNED_BY(name, ending, cell)                                                                                                       \
-    livevec_scanned livevec_proved_scan_##name(livevec_vector *slot, uint32_t lo, uint32_t hi, bool inclusive, cell *column, size_t length); \
-    SCANNED(ending, cell, scan_##name(slot, lo, hi, inclusive, places, length))
-livevec_scanned livevec_proved_scan_extreme(livevec_vector *slot, bool greatest, uint32_t lo, uint32_t hi, bool inclusive, int64_t *column,
-                                            size_t length);
+/* Scans: a proved call fills the whole column. */
+livevec_scanned livevec_proved_scan(livevec_vector *slot, uint32_t by, uint32_t lo, uint32_t hi, bool inclusive, COLUMNS);
 
-SCANNED_BY(sum, _sum, uint64_t)
-SCANNED(_least, int64_t, scan_extreme(slot, false, lo, hi, inclusive, places, length))
-SCANNED(_greatest, int64_t, scan_extreme(slot, true, lo, hi, inclusive, places, length))
-SCANNED_BY(best, _best, livevec_total)
-SCANNED_BY(affine, _affine, livevec_map)
-SCANNED_BY(automaton, _automaton, livevec_states)
-SCANNED_BY(values, , livevec_values)
+static livevec_scanned scan(uint32_t why, livevec_vector *slot, columns to, uint32_t by, uint32_t lo, uint32_t hi, bool inclusive)
+{
+    if (why)
+        return (livevec_scanned){.refusal = why};
+    if (!enter_to_read(&slot->busy_))
+        return (livevec_scanned){.refusal = LIVEVEC_BUSY};
+    LEAVES(left, slot);
+    return livevec_proved_scan(slot, by, lo, hi, inclusive, EACH_OF(to));
+}
+
+#define INTO(cell) (livevec_vector *slot, uint32_t lo, uint32_t hi, cell *column, size_t length)
+#define SCANNED(ending, by, field, cell)                                                                       \
+    SCAN(livevec_scanned, livevec_scan_inclusive##ending, INTO(cell), scan, field, by, lo, hi, true)           \
+    SCAN(livevec_scanned, livevec_scan_exclusive##ending, INTO(cell), scan, field, by, lo, hi, false)
+
+EACH_SCAN(SCANNED)

@@ -50,42 +50,22 @@ livevec_series_found livevec_proved_series_find(livevec_series *slot, uint32_t w
 
 EACH_SEARCH(FOUND_BY, FOUND_BY_BOUND)
 
-/* Scans: a proved call writes a piece of the column. It is never given a null pointer: where there are no places, they begin anywhere. */
-#define SCANNED(ending, cell, call)                                                                                                          \
-    static livevec_series_scanned scanned##ending(livevec_series *slot, uint64_t lo, uint64_t at, uint64_t hi, bool inclusive, cell *column, \
-                                                  size_t length)                                                                             \
-    {                                                                                                                                        \
-        cell nowhere, *places = column ? column : &nowhere;                                                                                  \
-        uint32_t why = first_of(THERE(slot), ARRAY(column, length));                                                                         \
-        if (why)                                                                                                                             \
-            return (livevec_series_scanned){.refusal = why};                                                                                 \
-        if (!enter_to_read(&slot->busy_))                                                                                                    \
-            return (livevec_series_scanned){.refusal = LIVEVEC_BUSY};                                                                        \
-        LEAVES(left, slot);                                                                                                                  \
-        return livevec_proved_series_##call;                                                                                                 \
-    }                                                                                                                                        \
-    livevec_series_scanned livevec_series_scan_inclusive##ending(livevec_series *slot, uint64_t lo, uint64_t at, uint64_t hi, cell *column,  \
-                                                                 size_t length)                                                              \
-    {                                                                                                                                        \
-        return scanned##ending(slot, lo, at, hi, true, column, length);                                                                      \
-    }                                                                                                                                        \
-    livevec_series_scanned livevec_series_scan_exclusive##ending(livevec_series *slot, uint64_t lo, uint64_t at, uint64_t hi, cell *column,  \
-                                                                 size_t length)                                                              \
-    {                                                                                                                                        \
-        return scanned##ending(slot, lo, at, hi, false, column, length);                                                                     \
-    }
-/* By a proved export that is of one kind, or of all six. */
-#define SCANNED_BY(name, ending, cell)                                                                                                    \
-    livevec_series_scanned livevec_proved_series_scan_##name(livevec_series *slot, uint64_t lo, uint64_t at, uint64_t hi, bool inclusive, \
-                                                             cell *column, size_t length);                                                \
-    SCANNED(ending, cell, scan_##name(slot, lo, at, hi, inclusive, places, length))
-livevec_series_scanned livevec_proved_series_scan_extreme(livevec_series *slot, bool greatest, uint64_t lo, uint64_t at, uint64_t hi, bool inclusive,
-                                                          int64_t *column, size_t length);
+/* Scans: a proved call fills a piece of the column. */
+livevec_series_scanned livevec_proved_series_scan(livevec_series *slot, uint32_t by, uint64_t lo, uint64_t at, uint64_t hi, bool inclusive, COLUMNS);
 
-SCANNED_BY(sum, _sum, uint64_t)
-SCANNED(_least, int64_t, scan_extreme(slot, false, lo, at, hi, inclusive, places, length))
-SCANNED(_greatest, int64_t, scan_extreme(slot, true, lo, at, hi, inclusive, places, length))
-SCANNED_BY(best, _best, livevec_total)
-SCANNED_BY(affine, _affine, livevec_map)
-SCANNED_BY(automaton, _automaton, livevec_states)
-SCANNED_BY(values, , livevec_values)
+static livevec_series_scanned scan(uint32_t why, livevec_series *slot, columns to, uint32_t by, uint64_t lo, uint64_t at, uint64_t hi, bool inclusive)
+{
+    if (why)
+        return (livevec_series_scanned){.refusal = why};
+    if (!enter_to_read(&slot->busy_))
+        return (livevec_series_scanned){.refusal = LIVEVEC_BUSY};
+    LEAVES(left, slot);
+    return livevec_proved_series_scan(slot, by, lo, at, hi, inclusive, EACH_OF(to));
+}
+
+#define INTO(cell) (livevec_series *slot, uint64_t lo, uint64_t at, uint64_t hi, cell *column, size_t length)
+#define SCANNED(ending, by, field, cell)                                                                                  \
+    SCAN(livevec_series_scanned, livevec_series_scan_inclusive##ending, INTO(cell), scan, field, by, lo, at, hi, true)    \
+    SCAN(livevec_series_scanned, livevec_series_scan_exclusive##ending, INTO(cell), scan, field, by, lo, at, hi, false)
+
+EACH_SCAN(SCANNED)

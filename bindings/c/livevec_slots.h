@@ -230,6 +230,51 @@ enum {
     by(last_at_least, WANTED_LAST_AT_LEAST)   \
     by(last_at_most, WANTED_LAST_AT_MOST)
 
+/* The columns of the proved scans, each of cells of its own type: a scan fills that of its kind, or of all six, and the others have no places.
+ * A proved call is never given a null pointer: a column without places begins anywhere. */
+typedef struct columns {
+    uint64_t *sums;
+    int64_t *extremes;
+    livevec_total *totals;
+    livevec_map *maps;
+    livevec_states *states;
+    livevec_values *values;
+    size_t sums_length, extremes_length, totals_length, maps_length, states_length, values_length;
+} columns;
+static inline columns no_columns(void)
+{
+    static livevec_values nowhere;
+    void *any = &nowhere;
+    return (columns){.sums = any, .extremes = any, .totals = any, .maps = any, .states = any, .values = any};
+}
+#define COLUMNS                                                                                                                   \
+    uint64_t *sums, size_t sums_length, int64_t *extremes, size_t extremes_length, livevec_total *totals, size_t totals_length,   \
+        livevec_map *maps, size_t maps_length, livevec_states *states, size_t states_length, livevec_values *values, size_t values_length
+#define EACH_OF(to)                                                                                                               \
+    to.sums, to.sums_length, to.extremes, to.extremes_length, to.totals, to.totals_length, to.maps, to.maps_length, to.states,    \
+        to.states_length, to.values, to.values_length
+
+/* `NAME`, a scan into a column: `scan` is told why it is refused before its slot is entered, and which column is filled. */
+#define SCAN(answer, name, parameters, scan, field, ...)                      \
+    answer name parameters                                                    \
+    {                                                                         \
+        columns to = no_columns();                                            \
+        if (column)                                                           \
+            to.field = column;                                                \
+        to.field##_length = length;                                           \
+        return scan(first_of(THERE(slot), ARRAY(column, length)), slot, to, __VA_ARGS__); \
+    }
+/* All of them, by their endings, by the numbers of the proved exports, by the columns and by their cells. */
+enum { ALL_SIX = 6 };
+#define EACH_SCAN(scanned)                                   \
+    scanned(_sum, LIVEVEC_SUM, sums, uint64_t)               \
+    scanned(_least, LIVEVEC_LEAST, extremes, int64_t)        \
+    scanned(_greatest, LIVEVEC_GREATEST, extremes, int64_t)  \
+    scanned(_best, LIVEVEC_BEST, totals, livevec_total)      \
+    scanned(_affine, LIVEVEC_AFFINE, maps, livevec_map)      \
+    scanned(_automaton, LIVEVEC_AUTOMATON, states, livevec_states) \
+    scanned(, ALL_SIX, values, livevec_values)
+
 /* What is counted of a vector, by the numbers of the proved export. */
 enum { ELEMENTS = 0, ROOM = 1, ACCEPTED = 2 };
 livevec_count livevec_proved_count(livevec_vector *slot, uint32_t what);

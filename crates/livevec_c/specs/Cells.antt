@@ -20,11 +20,6 @@ least_cell xs = unwrap_or (plain_least xs) (pos 0)
 abbrev pub greatest_cell : List ℤ → ℤ
 greatest_cell xs = unwrap_or (plain_greatest xs) (pos 0)
 
--- the greatest or the least
-abbrev pub extreme_cell : Bool → List ℤ → ℤ
-extreme_cell true xs = greatest_cell xs
-extreme_cell false xs = least_cell xs
-
 abbrev pub total_cell : Option ℤ → TotalCell
 total_cell best = record { low = low_half (unwrap_or best (pos 0)); high = high_half (unwrap_or best (pos 0)) }
 

@@ -1,5 +1,5 @@
 -- What a scan by one kind, or by all six, answers, and what it leaves in a column of the caller's, by what lies behind a slot.
-use Rattle.std.specs.Prelude.{ℕ, ℤ, ◌+◌, ◌-◌, ◌^◌, ◌≤◌, ◌++◌, Bool, true, false, Option, Some, None, List, length, drop, nat_lt}
+use Rattle.std.specs.Prelude.{ℕ, ℤ, ◌+◌, ◌-◌, ◌^◌, ◌≤◌, ◌++◌, Bool, true, false, Option, Some, None, List, [], ◌∷◌, length, drop, nat_lt, slice_get, unwrap_or}
 use Rattle.lv_geometry.specs.Numbers.{number_of}
 use Rattle.lv_geometry.specs.declared.refusals.Refusal.{Refusal}
 use Rattle.lv_bodies.specs.Automata.{table_of}
@@ -19,11 +19,6 @@ pub record CanGoOnLong {S : Type 0} (within : S → ℕ → Type 0) (s : S) (mor
   pub count : ℕ
   pub count_within : within s count
   pub few : count + more ≤ 2 ^ 62
-
--- the kind of the greatest or of the least elements
-abbrev pub extreme_kind : Bool → Kind
-extreme_kind true = kinds.Greatest
-extreme_kind false = kinds.Least
 
 -- a scan that was refused
 abbrev pub unscanned : ℕ → ℕ → Scanned
@@ -75,3 +70,17 @@ scanned_behind asked lo hi places (Some object) = object_scanned asked lo hi pla
 abbrev pub filled_behind : {C : Type 0} → Option Kind → (List (List ℕ) → List ℤ → C) → Bool → ℕ → ℕ → List C → Option Object → List C
 filled_behind asked cell inclusive lo hi old None = old
 filled_behind asked cell inclusive lo hi old (Some object) = object_filled asked cell inclusive lo hi old object
+
+-- by the kind of a number, or by all six (6), into the column of that, which has so many places
+abbrev pub scanned_by : ℕ → ℕ → ℕ → ℕ → ℕ → ℕ → ℕ → ℕ → ℕ → Option Object → Scanned
+scanned_by number lo hi sums extremes totals maps states values slot =
+    unwrap_or (slice_get (
+    scanned_behind (Some kinds.Sum) lo hi sums slot
+    ∷ scanned_behind (Some kinds.Least) lo hi extremes slot
+    ∷ scanned_behind (Some kinds.Greatest) lo hi extremes slot
+    ∷ scanned_behind (Some kinds.Best) lo hi totals slot
+    ∷ scanned_behind (Some kinds.Affine) lo hi maps slot
+    ∷ scanned_behind (Some kinds.Automaton) lo hi states slot
+    ∷ scanned_behind None lo hi values slot
+    ∷ []
+    ) number) (unscanned 113 0)

@@ -1,11 +1,12 @@
 -- What a piece of a range of a series answers, and what it leaves in a buffer of the caller's, by what lies behind a slot.
-use Rattle.std.specs.Prelude.{ℕ, ℤ, ◌+◌, ◌-◌, ◌++◌, Bool, Option, Some, None, List, length, drop, map, min, if◌then◌else◌}
+use Rattle.std.specs.Prelude.{ℕ, ℤ, ◌+◌, ◌-◌, ◌++◌, Bool, Option, Some, None, List, [], ◌∷◌, slice_get, unwrap_or, length, drop, map, min, if◌then◌else◌}
 use Rattle.std.specs.List.{range_with_len}
 use Rattle.lv_series.specs.Series.{range_refused, slice_of}
 use Rattle.lv_series.specs.declared.refusals.LongRefusal.{LongRefusal}
 use Rattle.livevec_c.specs.declared.series_results.SeriesScanned.{SeriesScanned}
 use Rattle.livevec_c.specs.SeriesAnswers.{long_scanned, unheld, unscanned_by}
 use Rattle.livevec_c.specs.SeriesHeld.{Long}
+use Rattle.livevec_c.specs.SeriesValued.{unkind}
 
 -- what a buffer has after a call that was not refused: so many that were put there, and what it had behind them; else what it had
 abbrev pub put_there : {C : Type 0} → Option LongRefusal → ℕ → List C → List C → List C
@@ -54,3 +55,17 @@ scanned_in lo at hi places (Some s) = piece_scanned lo at hi places s
 abbrev pub column_in : {C : Type 0} → (List (List ℕ) → List ℤ → C) → Bool → ℕ → ℕ → ℕ → List C → Option Long → List C
 column_in cell inclusive lo at hi old None = old
 column_in cell inclusive lo at hi old (Some s) = piece_put cell inclusive lo at hi old s
+
+-- by the kind of a number, or by all six (6), into the column of that, which has so many places
+abbrev pub scanned_by : ℕ → ℕ → ℕ → ℕ → ℕ → ℕ → ℕ → ℕ → ℕ → ℕ → Option Long → SeriesScanned
+scanned_by number lo at hi sums extremes totals maps states values held =
+    unwrap_or (slice_get (
+    scanned_in lo at hi sums held
+    ∷ scanned_in lo at hi extremes held
+    ∷ scanned_in lo at hi extremes held
+    ∷ scanned_in lo at hi totals held
+    ∷ scanned_in lo at hi maps held
+    ∷ scanned_in lo at hi states held
+    ∷ scanned_in lo at hi values held
+    ∷ []
+    ) number) (unscanned_by unkind)

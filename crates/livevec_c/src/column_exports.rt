@@ -1,128 +1,69 @@
-//! The exports that scan: one for each kind, whose columns have a type of their own, and one for all six at once.
-ghost use Rattle.std.specs.Prelude.{◌≡◌, None, Some, length};
+//! The export that scans a vector: by one kind, or by all six at once, into the column of that.
+ghost use Rattle.std.specs.Prelude.{◌≡◌, None, Some, length, if◌then◌else◌, ◌==◌};
 ghost use Rattle.lv_bodies.specs.Plain.{plain_sum};
 ghost use Rattle.lv_bodies.specs.declared.kinds.Kind.TheVariants as kinds;
-ghost use Rattle.livevec_c.specs.Cells.{affine_cell, automaton_cell, best_cell, extreme_cell, values_cell};
-ghost use Rattle.livevec_c.specs.Columns.{extreme_kind, filled_behind, scanned_behind};
+ghost use Rattle.livevec_c.specs.Cells.{affine_cell, automaton_cell, best_cell, greatest_cell, least_cell, values_cell};
+ghost use Rattle.livevec_c.specs.Columns.{filled_behind, scanned_by};
 
 use crate::cells::{MapCell, StatesCell, TotalCell};
-use crate::columns::{Scanned, scan_held};
+use crate::columns::{Scanned, not_scanned, scan_held};
+use crate::results::BAD_KIND;
 use crate::slots::Slot;
 use crate::values::PlainValues;
 use lv_bodies::{Affine, Automaton, Best, Greatest, Kind, Least, SixPairs, Sum};
 use std::alloc::Global;
 
-/// Puts the sums of the beginnings of a range into a column, each with the element at its end or without it.
+/// Puts what the beginnings of a range come to into a column, each with the element at its end or without it. A number says by which kind, or
+/// by all six (6), and so into which column: the others stay as they are.
 #[unsafe(no_mangle)]
-pub extern "C" fn livevec_proved_scan_sum(
+pub extern "C" fn livevec_proved_scan(
     alloc: Global,
     slot: &mut Slot,
+    by: u32,
     lo: u32,
     hi: u32,
     inclusive: bool,
-    column: &mut [u64],
+    sums: &mut [u64],
+    extremes: &mut [i64],
+    totals: &mut [TotalCell],
+    maps: &mut [MapCell],
+    states: &mut [StatesCell],
+    values: &mut [PlainValues],
 ) -> Scanned
-    ensures answer { result ≡ scanned_behind (Some kinds.Sum) lo hi (length column.old) slot.old.raw.inner }
-    ensures column { column.new ≡ filled_behind (Some kinds.Sum) (λ _. plain_sum) inclusive lo hi column.old slot.old.raw.inner }
+    ensures answer { result ≡ scanned_by by lo hi (length sums.old) (length extremes.old) (length totals.old) (length maps.old) (length states.old) (length values.old) slot.old.raw.inner }
+    ensures sums { sums.new ≡ (if by == 0 then filled_behind (Some kinds.Sum) (λ _. plain_sum) inclusive lo hi sums.old slot.old.raw.inner else sums.old) }
+    ensures extremes { extremes.new ≡ (if by == 1 then filled_behind (Some kinds.Least) (λ _. least_cell) inclusive lo hi extremes.old slot.old.raw.inner
+        else (if by == 2 then filled_behind (Some kinds.Greatest) (λ _. greatest_cell) inclusive lo hi extremes.old slot.old.raw.inner else extremes.old)) }
+    ensures totals { totals.new ≡ (if by == 3 then filled_behind (Some kinds.Best) (λ _. best_cell) inclusive lo hi totals.old slot.old.raw.inner else totals.old) }
+    ensures maps { maps.new ≡ (if by == 4 then filled_behind (Some kinds.Affine) (λ _. affine_cell) inclusive lo hi maps.old slot.old.raw.inner else maps.old) }
+    ensures states { states.new ≡ (if by == 5 then filled_behind (Some kinds.Automaton) automaton_cell inclusive lo hi states.old slot.old.raw.inner else states.old) }
+    ensures values { values.new ≡ (if by == 6 then filled_behind None values_cell inclusive lo hi values.old slot.old.raw.inner else values.old) }
     ensures same { slot.new.raw.inner ≡ slot.old.raw.inner }
 {
-    scan_held::<Sum>(alloc, slot, Some(Kind::Sum), lo, hi, inclusive, column)
-}
-
-/// The same of the least elements, or of the greatest.
-#[unsafe(no_mangle)]
-pub extern "C" fn livevec_proved_scan_extreme(
-    alloc: Global,
-    slot: &mut Slot,
-    greatest: bool,
-    lo: u32,
-    hi: u32,
-    inclusive: bool,
-    column: &mut [i64],
-) -> Scanned
-    ensures answer { result ≡ scanned_behind (Some (extreme_kind greatest)) lo hi (length column.old) slot.old.raw.inner }
-    ensures column { column.new ≡ filled_behind (Some (extreme_kind greatest)) (λ _. extreme_cell greatest) inclusive lo hi column.old slot.old.raw.inner }
-    ensures same { slot.new.raw.inner ≡ slot.old.raw.inner }
-{
-    if greatest {
-        scan_held::<Greatest>(alloc, slot, Some(Kind::Greatest), lo, hi, inclusive, column)
-    } else {
-        scan_held::<Least>(alloc, slot, Some(Kind::Least), lo, hi, inclusive, column)
+    match by {
+        0 => scan_held::<Sum>(alloc, slot, Some(Kind::Sum), lo, hi, inclusive, sums),
+        1 => scan_held::<Least>(alloc, slot, Some(Kind::Least), lo, hi, inclusive, extremes),
+        2 => scan_held::<Greatest>(
+            alloc,
+            slot,
+            Some(Kind::Greatest),
+            lo,
+            hi,
+            inclusive,
+            extremes,
+        ),
+        3 => scan_held::<Best>(alloc, slot, Some(Kind::Best), lo, hi, inclusive, totals),
+        4 => scan_held::<Affine>(alloc, slot, Some(Kind::Affine), lo, hi, inclusive, maps),
+        5 => scan_held::<Automaton>(
+            alloc,
+            slot,
+            Some(Kind::Automaton),
+            lo,
+            hi,
+            inclusive,
+            states,
+        ),
+        6 => scan_held::<SixPairs>(alloc, slot, None, lo, hi, inclusive, values),
+        _ => not_scanned(BAD_KIND, 0),
     }
-}
-
-/// The same of the greatest totals of neighbours.
-#[unsafe(no_mangle)]
-pub extern "C" fn livevec_proved_scan_best(
-    alloc: Global,
-    slot: &mut Slot,
-    lo: u32,
-    hi: u32,
-    inclusive: bool,
-    column: &mut [TotalCell],
-) -> Scanned
-    ensures answer { result ≡ scanned_behind (Some kinds.Best) lo hi (length column.old) slot.old.raw.inner }
-    ensures column { column.new ≡ filled_behind (Some kinds.Best) (λ _. best_cell) inclusive lo hi column.old slot.old.raw.inner }
-    ensures same { slot.new.raw.inner ≡ slot.old.raw.inner }
-{
-    scan_held::<Best>(alloc, slot, Some(Kind::Best), lo, hi, inclusive, column)
-}
-
-/// The same of the maps.
-#[unsafe(no_mangle)]
-pub extern "C" fn livevec_proved_scan_affine(
-    alloc: Global,
-    slot: &mut Slot,
-    lo: u32,
-    hi: u32,
-    inclusive: bool,
-    column: &mut [MapCell],
-) -> Scanned
-    ensures answer { result ≡ scanned_behind (Some kinds.Affine) lo hi (length column.old) slot.old.raw.inner }
-    ensures column { column.new ≡ filled_behind (Some kinds.Affine) (λ _. affine_cell) inclusive lo hi column.old slot.old.raw.inner }
-    ensures same { slot.new.raw.inner ≡ slot.old.raw.inner }
-{
-    scan_held::<Affine>(alloc, slot, Some(Kind::Affine), lo, hi, inclusive, column)
-}
-
-/// The same of the automaton's states.
-#[unsafe(no_mangle)]
-pub extern "C" fn livevec_proved_scan_automaton(
-    alloc: Global,
-    slot: &mut Slot,
-    lo: u32,
-    hi: u32,
-    inclusive: bool,
-    column: &mut [StatesCell],
-) -> Scanned
-    ensures answer { result ≡ scanned_behind (Some kinds.Automaton) lo hi (length column.old) slot.old.raw.inner }
-    ensures column { column.new ≡ filled_behind (Some kinds.Automaton) automaton_cell inclusive lo hi column.old slot.old.raw.inner }
-    ensures same { slot.new.raw.inner ≡ slot.old.raw.inner }
-{
-    scan_held::<Automaton>(
-        alloc,
-        slot,
-        Some(Kind::Automaton),
-        lo,
-        hi,
-        inclusive,
-        column,
-    )
-}
-
-/// The same of all six plain values at once.
-#[unsafe(no_mangle)]
-pub extern "C" fn livevec_proved_scan_values(
-    alloc: Global,
-    slot: &mut Slot,
-    lo: u32,
-    hi: u32,
-    inclusive: bool,
-    column: &mut [PlainValues],
-) -> Scanned
-    ensures answer { result ≡ scanned_behind None lo hi (length column.old) slot.old.raw.inner }
-    ensures column { column.new ≡ filled_behind None values_cell inclusive lo hi column.old slot.old.raw.inner }
-    ensures same { slot.new.raw.inner ≡ slot.old.raw.inner }
-{
-    scan_held::<SixPairs>(alloc, slot, None, lo, hi, inclusive, column)
 }

@@ -27,8 +27,8 @@ pub struct Scanned {
     pub length: u32,
 }
 
-// What a scan that was refused answers.
-fn not_scanned(refusal: u32, detail: u32) -> Scanned
+/// What a scan that was refused answers.
+pub fn not_scanned(refusal: u32, detail: u32) -> Scanned
     ensures { result ≡ unscanned refusal detail }
 {
     Scanned {
