@@ -5,15 +5,43 @@
 
 TOLD_AT_TWO(board_sit, (livevec_board *board, livevec_seat *seat), board, seat, (board, seat))
 TOLD_AT_TWO(board_take_back, (livevec_board *board, livevec_seat *seat), board, seat, (board, seat))
-livevec_edited livevec_proved_seat_edit(livevec_seat *slot, uint32_t what, uint32_t index, int64_t value, uint32_t tries);
-EDITED(livevec_edited, seat_push, (livevec_seat *slot, int64_t value, uint32_t tries), seat_edit(slot, LIVEVEC_PUSH, 0, value, tries))
-EDITED(livevec_edited, seat_pop, (livevec_seat *slot, uint32_t tries), seat_edit(slot, LIVEVEC_POP, 0, 0, tries))
+/* A seat's calls are an edit by its livevec_edit_kind, or one of these. */
+enum { LOOK_AT = 4, COUNT = 5, REFRESH = 6 };
+livevec_edited livevec_proved_seat_call(livevec_seat *slot, uint32_t what, uint32_t index, int64_t value, uint32_t tries);
+EDITED(livevec_edited, seat_push, (livevec_seat *slot, int64_t value, uint32_t tries), seat_call(slot, LIVEVEC_PUSH, 0, value, tries))
+EDITED(livevec_edited, seat_pop, (livevec_seat *slot, uint32_t tries), seat_call(slot, LIVEVEC_POP, 0, 0, tries))
 EDITED(livevec_edited, seat_write, (livevec_seat *slot, uint32_t index, int64_t value, uint32_t tries),
-       seat_edit(slot, LIVEVEC_WRITE, index, value, tries))
-READS(livevec_element, seat_get, (livevec_seat *seat, uint32_t index), seat, (seat, index))
-READS(livevec_count, seat_size, (livevec_seat *seat), seat, (seat))
+       seat_call(slot, LIVEVEC_WRITE, index, value, tries))
+
+static livevec_edited called(livevec_seat *seat, bool (*as_slot)(unsigned char *), uint32_t what, uint32_t index)
+{
+    if (!seat)
+        return (livevec_edited){.refusal = LIVEVEC_NULL};
+    if (!as_slot(&seat->busy_))
+        return (livevec_edited){.refusal = LIVEVEC_BUSY};
+    LEAVES(left, seat);
+    return livevec_proved_seat_call(seat, what, index, 0, 1);
+}
+
+livevec_element livevec_seat_get(livevec_seat *seat, uint32_t index)
+{
+    livevec_edited told = called(seat, enter_to_read, LOOK_AT, index);
+    return (livevec_element){.refusal = told.refusal, .detail = told.detail, .value = told.value};
+}
+
+livevec_count livevec_seat_size(livevec_seat *seat)
+{
+    livevec_edited told = called(seat, enter_to_read, COUNT, 0);
+    return (livevec_count){.refusal = told.refusal, .value = told.place};
+}
+
+livevec_renewed livevec_seat_refresh(livevec_seat *seat, uint32_t block)
+{
+    livevec_edited told = called(seat, enter, REFRESH, block);
+    return (livevec_renewed){.refusal = told.refusal, .detail = told.detail, .edit = told.edit, .version = told.place};
+}
+
 READS(livevec_reduced, seat_reduce, (livevec_seat *seat, uint32_t lo, uint32_t hi), seat, (seat, lo, hi))
-ANSWERED(livevec_renewed, seat_refresh, (livevec_seat *seat, uint32_t block), seat, (seat, block))
 ANSWERED(livevec_count, board_close, (livevec_board *board), board, (board))
 READS(livevec_count, closed_size, (livevec_board *board), board, (board))
 READS(livevec_element, closed_get, (livevec_board *board, uint32_t index), board, (board, index))

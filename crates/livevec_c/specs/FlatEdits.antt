@@ -17,6 +17,7 @@ abbrev pub long_edit_at : ℕ → ℕ → ℕ → ℤ → Option LongEdit
 long_edit_at what i j x =
     unwrap_or (slice_get (None ∷ Some (longs.Push x) ∷ Some longs.Pop ∷ Some (longs.Write i x) ∷ None ∷ Some (longs.Swap i j) ∷ Some (longs.Truncate i) ∷ Some (longs.Expire i) ∷ []) what) None
 
--- the same by a seat
-abbrev pub seat_edit_at : ℕ → ℕ → ℤ → Option Call
-seat_edit_at what i x = unwrap_or (slice_get (None ∷ Some (calls.Push x) ∷ Some calls.Pop ∷ Some (calls.Write i x) ∷ []) what) None
+-- a call of a seat: the first three edits, a look at an element or at how many there are, and a refresh of a block
+abbrev pub seat_call_at : ℕ → ℕ → ℤ → Option Call
+seat_call_at what i x =
+    unwrap_or (slice_get (None ∷ Some (calls.Push x) ∷ Some calls.Pop ∷ Some (calls.Write i x) ∷ Some (calls.Get i) ∷ Some calls.Size ∷ Some (calls.Refresh i) ∷ []) what) None

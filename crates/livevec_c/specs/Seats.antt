@@ -10,31 +10,23 @@ use Rattle.lv_board.specs.Sharing.{Makes}
 use Rattle.livevec_c.specs.declared.kind_seats.KindSeat.{KindSeat}
 use Rattle.livevec_c.specs.declared.objects.Object.{Object}
 use Rattle.livevec_c.specs.declared.objects.Object.TheVariants.{Seat}
-use Rattle.livevec_c.specs.declared.results.Count.{Count}
 use Rattle.livevec_c.specs.declared.results.Edited.{Edited}
-use Rattle.livevec_c.specs.declared.results.Element.{Element}
 use Rattle.livevec_c.specs.declared.values.PlainValues.{PlainValues}
 use Rattle.livevec_c.specs.declared.results.Reduced.{Reduced}
-use Rattle.livevec_c.specs.declared.results.Renewed.{Renewed}
-use Rattle.livevec_c.specs.Answers.{detail_of, edited_by, element_by, high_half, low_half, no_element, received, unedited, unreduced, valueless, word_of}
-use Rattle.livevec_c.specs.Behind.{no_count}
+use Rattle.livevec_c.specs.Answers.{detail_of, edited_by, high_half, low_half, received, unedited, unreduced, valueless, word_of}
 use Rattle.livevec_c.specs.Kinds.{sat_at}
 
 -- ---- what the library's answer to a call is for C, or that to none where a slot holds no seat
 
-abbrev pub edited_for : Option (Said Shown) → Edited
-edited_for (Some (said.Did receipt)) = received receipt
-edited_for (Some (said.Refused refusal)) = edited_by (Err refusal)
-edited_for _ = unedited
-
-abbrev pub element_for : Option (Said Shown) → Element
-element_for (Some (said.Read read)) = record { refusal = 0; detail = 0; value = read.value }
-element_for (Some (said.Refused refusal)) = element_by (Err refusal)
-element_for _ = no_element
-
-abbrev pub count_for : Option (Said Shown) → Count
-count_for (Some (said.Sized sized)) = record { refusal = 0; value = sized.size }
-count_for _ = no_count
+-- beside what an edit answers: the number of the last edit where an element was read, with that element; where there were so many elements; and
+-- where a block was refreshed, with the last edit that touched it
+abbrev pub told_for : Option (Said Shown) → Edited
+told_for (Some (said.Did receipt)) = received receipt
+told_for (Some (said.Read read)) = record { refusal = 0; detail = 0; edit = read.edit; place = 0; value = read.value }
+told_for (Some (said.Sized sized)) = record { refusal = 0; detail = 0; edit = sized.edit; place = sized.size; value = pos 0 }
+told_for (Some (said.Refreshed refreshed)) = record { refusal = 0; detail = 0; edit = refreshed.edit; place = refreshed.version; value = pos 0 }
+told_for (Some (said.Refused refusal)) = edited_by (Err refusal)
+told_for _ = unedited
 
 -- the value of a kind among the plain values; whether there is an element is told beside it
 abbrev pub values_for : Bool → Shown → PlainValues
@@ -49,15 +41,6 @@ abbrev pub reduced_for : Bool → Option (Said Shown) → Reduced
 reduced_for any (Some (said.Answered answer)) = record { refusal = 0; detail = 0; edit = answer.edit; cells = answer.cells_read; summaries = answer.summaries_read; values = values_for any answer.value }
 reduced_for any (Some (said.Refused refusal)) = unreduced (number_of refusal) (detail_of refusal)
 reduced_for any _ = unreduced 101 0
-
--- a refresh that was refused
-abbrev pub unrenewed : ℕ → ℕ → Renewed
-unrenewed refusal detail = record { refusal = refusal; detail = detail; edit = 0; version = 0 }
-
-abbrev pub renewed_for : Option (Said Shown) → Renewed
-renewed_for (Some (said.Refreshed refreshed)) = record { refusal = 0; detail = 0; edit = refreshed.edit; version = refreshed.version }
-renewed_for (Some (said.Refused refusal)) = unrenewed (number_of refusal) (detail_of refusal)
-renewed_for _ = unrenewed 101 0
 
 -- ---- what a call does
 
@@ -79,7 +62,7 @@ Calls tries asked end (Some old) new = (object : Object) × (new ≡ Some object
 abbrev pub Answers : {A : Type 0} → (Option (Said Shown) → A) → ℕ → Call → A → Option Object → Option Object → Type 0
 Answers answer_for tries asked answer old new = (end : Option (Said Shown)) × (answer ≡ answer_for end) × Calls tries asked end old new
 
--- an edit by a seat, where there is such an edit
-abbrev pub EditsBySeat : ℕ → Option Call → Edited → Option Object → Option Object → Type 0
-EditsBySeat tries None answer old new = (answer ≡ unedited) × (new ≡ old)
-EditsBySeat tries (Some asked) answer old new = Answers edited_for tries asked answer old new
+-- a call that a number tells, where there is such a call
+abbrev pub CallsBy : ℕ → Option Call → Edited → Option Object → Option Object → Type 0
+CallsBy tries None answer old new = (answer ≡ unedited) × (new ≡ old)
+CallsBy tries (Some asked) answer old new = Answers told_for tries asked answer old new

@@ -1,6 +1,6 @@
 //! Edits by plain numbers, as C has them.
 ghost use Rattle.std.specs.Prelude.{◌≡◌};
-ghost use Rattle.livevec_c.specs.FlatEdits.{edit_at, long_edit_at, seat_edit_at};
+ghost use Rattle.livevec_c.specs.FlatEdits.{edit_at, long_edit_at, seat_call_at};
 
 use lv_edits::Edit;
 use lv_machine::Call;
@@ -44,14 +44,17 @@ pub fn long_edit_of(what: u32, index: u64, second: u64, value: i64) -> Option<Lo
     }
 }
 
-/// The same by a seat.
-pub fn seat_edit_of(what: u32, index: u32, value: i64) -> Option<Call>
-    ensures { result ≡ seat_edit_at what index value }
+/// The call of a seat that a number is of, nothing where it is no number of these.
+pub fn seat_call_of(what: u32, index: u32, value: i64) -> Option<Call>
+    ensures { result ≡ seat_call_at what index value }
 {
     match what {
         1 => Some(Call::Push(value)),
         2 => Some(Call::Pop),
         3 => Some(Call::Write { index, value }),
+        4 => Some(Call::Get(index)),
+        5 => Some(Call::Size),
+        6 => Some(Call::Refresh(index)),
         _ => None,
     }
 }

@@ -108,16 +108,6 @@ pub struct Reduced {
     pub values: PlainValues,
 }
 
-/// What a refresh of a block answers: after which edit it looked, and the last edit that touched the block.
-#[repr(C)]
-#[derive(Clone, Copy)]
-pub struct Renewed {
-    pub refusal: u32,
-    pub detail: u32,
-    pub edit: u32,
-    pub version: u32,
-}
-
 /// What a refusal tells beside its number: the size, the limit, or the edit that came first.
 pub fn detail(refusal: Refusal) -> u32
     ensures { result ≡ detail_of refusal }

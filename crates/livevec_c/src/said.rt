@@ -1,45 +1,36 @@
 //! What a board's answer to a call is for C, or that to none where a slot holds no seat.
 ghost use Rattle.std.specs.Prelude.{◌≡◌};
-ghost use Rattle.livevec_c.specs.Seats.{count_for, edited_for, element_for, reduced_for, renewed_for, unrenewed, values_for};
+ghost use Rattle.livevec_c.specs.Seats.{reduced_for, told_for, values_for};
 
-use crate::reads::{count_answer, missing, uncounted};
-use crate::results::{
-    Count, Edited, Element, NO_HANDLE, Reduced, Renewed, detail, edit_answer, element_answer,
-    not_edited, not_reduced,
-};
+use crate::results::{Edited, NO_HANDLE, Reduced, detail, edit_answer, not_edited, not_reduced};
 use crate::values::{PlainValues, halves, no_values};
 use lv_bodies::Shown;
 use lv_machine::Said;
 
-/// What an edit answers.
-pub fn edit_said(said: Option<Said<Shown>>) -> Edited
-    ensures { result ≡ edited_for said }
+// What a look or a refresh answers that was not refused.
+fn told(edit: u32, place: u32, value: i64) -> Edited
+    ensures { result ≡ record { refusal = 0; detail = 0; edit = edit; place = place; value = value } }
+{
+    Edited {
+        refusal: 0,
+        detail: 0,
+        edit,
+        place,
+        value,
+    }
+}
+
+/// What an edit, a look or a refresh answers.
+pub fn call_said(said: Option<Said<Shown>>) -> Edited
+    ensures { result ≡ told_for said }
 {
     match said {
         Some(Said::Did(receipt)) => edit_answer(Ok(receipt)),
+        Some(Said::Read(read)) => told(read.edit, 0, read.value),
+        Some(Said::Sized(sized)) => told(sized.edit, sized.size, 0),
+        Some(Said::Refreshed(refreshed)) => told(refreshed.edit, refreshed.version, 0),
         Some(Said::Refused(refusal)) => edit_answer(Err(refusal)),
         _ => not_edited(NO_HANDLE, 0),
-    }
-}
-
-/// What a read of an element answers.
-pub fn element_said(said: Option<Said<Shown>>) -> Element
-    ensures { result ≡ element_for said }
-{
-    match said {
-        Some(Said::Read(read)) => element_answer(Ok(read.value)),
-        Some(Said::Refused(refusal)) => element_answer(Err(refusal)),
-        _ => missing(),
-    }
-}
-
-/// How many elements there are.
-pub fn size_said(said: Option<Said<Shown>>) -> Count
-    ensures { result ≡ count_for said }
-{
-    match said {
-        Some(Said::Sized(sized)) => count_answer(sized.size),
-        _ => uncounted(),
     }
 }
 
@@ -75,33 +66,5 @@ pub fn reduction_said(any: bool, said: Option<Said<Shown>>) -> Reduced
         },
         Some(Said::Refused(refusal)) => not_reduced(refusal.number(), detail(refusal)),
         _ => not_reduced(NO_HANDLE, 0),
-    }
-}
-
-// What a refresh that was refused answers.
-fn not_renewed(refusal: u32, detail: u32) -> Renewed
-    ensures { result ≡ unrenewed refusal detail }
-{
-    Renewed {
-        refusal,
-        detail,
-        edit: 0,
-        version: 0,
-    }
-}
-
-/// What a refresh answers.
-pub fn refresh_said(said: Option<Said<Shown>>) -> Renewed
-    ensures { result ≡ renewed_for said }
-{
-    match said {
-        Some(Said::Refreshed(refreshed)) => Renewed {
-            refusal: 0,
-            detail: 0,
-            edit: refreshed.edit,
-            version: refreshed.version,
-        },
-        Some(Said::Refused(refusal)) => not_renewed(refusal.number(), detail(refusal)),
-        _ => not_renewed(NO_HANDLE, 0),
     }
 }

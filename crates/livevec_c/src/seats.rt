@@ -2,15 +2,15 @@
 ghost use Rattle.std.specs.Prelude.{◌≡◌, nat_lt};
 ghost use Rattle.lv_machine.specs.declared.events.Call.TheVariants as asked;
 ghost use Rattle.lv_board.specs.Sharing.{Makes};
-ghost use Rattle.livevec_c.specs.FlatEdits.{seat_edit_at};
+ghost use Rattle.livevec_c.specs.FlatEdits.{seat_call_at};
 ghost use Rattle.livevec_c.specs.Kinds.{sat_at};
-ghost use Rattle.livevec_c.specs.Seats.{Answers, Calls, CallsObject, EditsBySeat, count_for, edited_for, element_for, reduced_for, renewed_for};
+ghost use Rattle.livevec_c.specs.Seats.{Answers, Calls, CallsBy, CallsObject, reduced_for, told_for};
 
-use crate::flat_edits::seat_edit_of;
+use crate::flat_edits::seat_call_of;
 use crate::kind_seats::KindSeat;
 use crate::objects::Object;
-use crate::results::{Count, Edited, Element, Reduced, Renewed};
-use crate::said::{edit_said, element_said, reduction_said, refresh_said, size_said};
+use crate::results::{Edited, Reduced};
+use crate::said::{call_said, reduction_said};
 use crate::slots::{Slot, put, take};
 use lv_bodies::Shown;
 use lv_machine::{Call, Said};
@@ -54,9 +54,9 @@ fn call_held(alloc: Global, slot: &mut Slot, call: Call, tries: u32) -> Option<S
     }
 }
 
-/// Makes an edit by its number, by so many tries at most.
+/// Makes a call by its number, an edit by so many tries at most: an edit, a look at an element or at how many there are, or a refresh of a block.
 #[unsafe(no_mangle)]
-pub extern "C" fn livevec_proved_seat_edit(
+pub extern "C" fn livevec_proved_seat_call(
     alloc: Global,
     slot: &mut Slot,
     what: u32,
@@ -64,28 +64,12 @@ pub extern "C" fn livevec_proved_seat_edit(
     value: i64,
     tries: u32,
 ) -> Edited
-    ensures { EditsBySeat tries (seat_edit_at what index value) result slot.old.raw.inner slot.new.raw.inner }
+    ensures { CallsBy tries (seat_call_at what index value) result slot.old.raw.inner slot.new.raw.inner }
 {
-    match seat_edit_of(what, index, value) {
-        None => edit_said(None),
-        Some(call) => edit_said(call_held(alloc, slot, call, tries)),
+    match seat_call_of(what, index, value) {
+        None => call_said(None),
+        Some(call) => call_said(call_held(alloc, slot, call, tries)),
     }
-}
-
-/// The element at an index, where the seat looks.
-#[unsafe(no_mangle)]
-pub extern "C" fn livevec_proved_seat_get(alloc: Global, slot: &mut Slot, index: u32) -> Element
-    ensures { Answers element_for 1 (asked.Get index) result slot.old.raw.inner slot.new.raw.inner }
-{
-    element_said(call_held(alloc, slot, Call::Get(index), 1))
-}
-
-/// How many elements there are, where the seat looks.
-#[unsafe(no_mangle)]
-pub extern "C" fn livevec_proved_seat_size(alloc: Global, slot: &mut Slot) -> Count
-    ensures { Answers count_for 1 asked.Size result slot.old.raw.inner slot.new.raw.inner }
-{
-    size_said(call_held(alloc, slot, Call::Size, 1))
 }
 
 /// The plain value of a range by the board's kind, where the seat looks.
@@ -99,12 +83,4 @@ pub extern "C" fn livevec_proved_seat_reduce(
     ensures { Answers (reduced_for (nat_lt lo hi)) 1 (asked.Reduce lo hi) result slot.old.raw.inner slot.new.raw.inner }
 {
     reduction_said(lo < hi, call_held(alloc, slot, Call::Reduce { lo, hi }, 1))
-}
-
-/// Makes the parts of a block's summary, where the seat looks.
-#[unsafe(no_mangle)]
-pub extern "C" fn livevec_proved_seat_refresh(alloc: Global, slot: &mut Slot, block: u32) -> Renewed
-    ensures { Answers renewed_for 1 (asked.Refresh block) result slot.old.raw.inner slot.new.raw.inner }
-{
-    refresh_said(call_held(alloc, slot, Call::Refresh(block), 1))
 }
