@@ -43,8 +43,8 @@ livevec_renewed livevec_seat_refresh(livevec_seat *seat, uint32_t block)
 
 READS(livevec_reduced, seat_reduce, (livevec_seat *seat, uint32_t lo, uint32_t hi), seat, (seat, lo, hi))
 ANSWERED(livevec_count, board_close, (livevec_board *board), board, (board))
-READS(livevec_count, closed_size, (livevec_board *board), board, (board))
-READS(livevec_element, closed_get, (livevec_board *board, uint32_t index), board, (board, index))
+COUNTED(livevec_count, closed_size, livevec_board, A_BOARD, ELEMENTS)
+ENTERED(livevec_element, AS_STRUCT, closed_get, (livevec_board *slot, uint32_t index), THERE(slot), slot, enter_to_read, get(slot, A_BOARD, index))
 
 FREED(free_board, livevec_board, A_BOARD)
 FREED(free_seat, livevec_seat, A_SEAT)
@@ -71,13 +71,13 @@ uint32_t livevec_closed_read(livevec_board *board, int64_t *buffer, size_t room,
     if (!enter_to_read(&board->busy_))
         return LIVEVEC_BUSY;
     LEAVES(left, board);
-    livevec_count size = livevec_proved_closed_size(board);
+    livevec_series_count size = livevec_proved_count(board, A_BOARD, ELEMENTS);
     if (size.refusal)
         return size.refusal;
-    *count = size.value;
+    *count = (uint32_t)size.value;
     if (room < size.value)
         return LIVEVEC_SHORT_BUFFER;
     for (uint32_t i = 0; i < size.value; i++)
-        buffer[i] = livevec_proved_closed_get(board, i).value;
+        buffer[i] = livevec_proved_get(board, A_BOARD, i).value;
     return LIVEVEC_OK;
 }

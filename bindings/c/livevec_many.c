@@ -16,7 +16,7 @@ livevec_pushed livevec_push_many(livevec_vector *slot, const int64_t *values, si
         return (livevec_pushed){.refusal = LIVEVEC_BUSY};
     LEAVES(left, slot);
     if (!length)
-        return (livevec_pushed){.refusal = livevec_proved_count(slot, ELEMENTS).refusal};
+        return (livevec_pushed){.refusal = livevec_proved_count(slot, A_VECTOR, ELEMENTS).refusal};
     return livevec_proved_push_all(slot, values, length);
 }
 
@@ -44,7 +44,7 @@ static livevec_many judge_ranges(livevec_vector *slot, uint32_t kind, const live
     livevec_many answer = {.refusal = none.refusal, .edit = none.edit};
     if (answer.refusal)
         return answer;
-    uint32_t size = livevec_proved_count(slot, ELEMENTS).value;
+    uint32_t size = (uint32_t)livevec_proved_count(slot, A_VECTOR, ELEMENTS).value;
     for (size_t i = 0; i < length; i++) {
         if (ranges[i].hi < ranges[i].lo)
             return (livevec_many){.refusal = LIVEVEC_BAD_RANGE, .place = i};

@@ -5,12 +5,11 @@
 uint32_t livevec_proved_samples_new(livevec_series *slot);
 livevec_series_edited livevec_proved_samples_push(livevec_series *slot, int64_t time, int64_t value);
 livevec_series_edited livevec_proved_samples_expire_before(livevec_series *slot, int64_t time);
-livevec_sample livevec_proved_samples_get(livevec_series *slot, uint64_t index);
+livevec_sample livevec_proved_series_get(livevec_series *slot, uint64_t index, bool timed);
 livevec_series_scanned livevec_proved_samples_times(livevec_series *slot, uint64_t lo, uint64_t hi, int64_t *buffer, size_t length);
 livevec_window livevec_proved_samples_between(livevec_series *slot, int64_t since, int64_t until);
 livevec_window livevec_proved_samples_last(livevec_series *slot, uint64_t span);
 livevec_series_reduced livevec_proved_series_value(livevec_series *slot, uint32_t kind, uint64_t lo, uint64_t hi);
-livevec_series_count livevec_proved_series_saved_length(livevec_series *slot);
 livevec_series_scanned livevec_proved_series_save(livevec_series *slot, uint64_t from, uint8_t *buffer, size_t length);
 uint32_t livevec_proved_series_begin_load(livevec_series *slot);
 uint32_t livevec_proved_series_load(livevec_series *slot, const uint8_t *bytes, size_t length);
@@ -25,7 +24,7 @@ AT_VALUES(livevec_series_edited, AS_STRUCT, samples_push, (livevec_samples *slot
           enter, samples_push(&slot->values, time, value))
 AT_VALUES(livevec_series_edited, AS_STRUCT, samples_expire_before, (livevec_samples *slot, int64_t time),
           enter, samples_expire_before(&slot->values, time))
-AT_VALUES(livevec_sample, AS_STRUCT, samples_get, (livevec_samples *slot, uint64_t index), enter_to_read, samples_get(&slot->values, index))
+AT_VALUES(livevec_sample, AS_STRUCT, samples_get, (livevec_samples *slot, uint64_t index), enter_to_read, series_get(&slot->values, index, true))
 AT_VALUES(livevec_window, AS_STRUCT, samples_between, (livevec_samples *slot, int64_t since, int64_t until),
           enter_to_read, samples_between(&slot->values, since, until))
 AT_VALUES(livevec_window, AS_STRUCT, samples_last, (livevec_samples *slot, uint64_t span), enter_to_read, samples_last(&slot->values, span))
@@ -83,7 +82,6 @@ livevec_series_reduced livevec_samples_value_of_last(livevec_samples *slot, uint
 }
 
 /* As bytes. */
-ENTERED(livevec_series_count, AS_STRUCT, series_saved_length, (livevec_series *slot), THERE(slot), slot, enter_to_read, series_saved_length(slot))
 ENTERED(livevec_series_scanned, AS_STRUCT, series_save, (livevec_series *slot, uint64_t from, uint8_t *buffer, size_t length),
         first_of(THERE(slot), ARRAY(buffer, length)), slot, enter_to_read, series_save(slot, from, buffer ? buffer : &(uint8_t){0}, length))
 ENTERED(uint32_t, AS_NUMBER, series_begin_load, (livevec_series *slot), THERE(slot), slot, enter, series_begin_load(slot))

@@ -1,26 +1,23 @@
 /* The elements of a range, and its running values, into buffers. */
 #include "livevec_slots.h"
 
-/* A proved export over which livevec.c stands too. */
-livevec_element livevec_proved_get(livevec_vector *slot, uint32_t index);
-
 /* What refuses a range of a slot that is entered, for a buffer of so many values. */
 static livevec_scanned judge(livevec_vector *slot, uint32_t lo, uint32_t hi, size_t length)
 {
     livevec_scanned answer = {LIVEVEC_OK, 0, 0, 0};
-    livevec_count size = livevec_proved_count(slot, ELEMENTS);
+    livevec_series_count size = livevec_proved_count(slot, A_VECTOR, ELEMENTS);
     if (size.refusal) {
         answer.refusal = size.refusal;
     } else if (hi < lo) {
         answer.refusal = LIVEVEC_BAD_RANGE;
     } else if (hi > size.value) {
         answer.refusal = LIVEVEC_OUT_OF_RANGE;
-        answer.detail = size.value;
+        answer.detail = (uint32_t)size.value;
     } else if (length < hi - lo) {
         answer.refusal = LIVEVEC_SHORT_BUFFER;
         answer.detail = hi - lo;
     } else {
-        answer.edit = livevec_proved_count(slot, ACCEPTED).value;
+        answer.edit = (uint32_t)livevec_proved_count(slot, A_VECTOR, ACCEPTED).value;
         answer.length = hi - lo;
     }
     return answer;
@@ -43,7 +40,7 @@ static livevec_scanned judge(livevec_vector *slot, uint32_t lo, uint32_t hi, siz
         return answer;                                                                                         \
     }
 
-FILLED(read, int64_t, livevec_proved_get(slot, lo + i).value)
+FILLED(read, int64_t, livevec_proved_get(slot, A_VECTOR, lo + i).value)
 
 /* Scans: a proved call fills the whole column. */
 livevec_scanned livevec_proved_scan(livevec_vector *slot, uint32_t by, uint32_t lo, uint32_t hi, bool inclusive, COLUMNS);

@@ -12,30 +12,27 @@ EDITED(livevec_series_edited, series_pop, (livevec_series *slot), series_edit(sl
 EDITED(livevec_series_edited, series_swap, (livevec_series *slot, uint64_t first, uint64_t second), series_edit(slot, LIVEVEC_SWAP, first, second, 0))
 EDITED(livevec_series_edited, series_truncate, (livevec_series *slot, uint64_t size), series_edit(slot, LIVEVEC_TRUNCATE, size, 0, 0))
 EDITED(livevec_series_edited, series_expire, (livevec_series *slot, uint64_t index), series_edit(slot, EXPIRE, index, 0, 0))
-READS(livevec_series_element, series_get, (livevec_series *slot, uint64_t index), slot, (slot, index))
 READS(livevec_series_reduced, series_reduce, (livevec_series *slot, uint64_t lo, uint64_t hi), slot, (slot, lo, hi))
 READS(livevec_series_reduced, series_ask, (livevec_series *slot, uint64_t lo, uint64_t hi), slot, (slot, lo, hi))
 
-/* `livevec_series_NAME` tells one of them. */
-#define COUNTED(name)                                                \
-    livevec_series_count livevec_series_##name(livevec_series *slot) \
-    {                                                                \
-        livevec_series_count answer = {.refusal = LIVEVEC_NULL};     \
-        if (!slot)                                                   \
-            return answer;                                           \
-        answer.refusal = LIVEVEC_BUSY;                               \
-        if (!enter_to_read(&slot->busy_))                            \
-            return answer;                                           \
-        LEAVES(left, slot);                                          \
-        series_counts counts = livevec_proved_series_counts(slot);   \
-        answer.refusal = counts.refusal;                             \
-        answer.value = counts.name;                                  \
-        return answer;                                               \
-    }
+COUNTED(livevec_series_count, series_first, livevec_series, A_SERIES, FIRST_KEPT)
+COUNTED(livevec_series_count, series_size, livevec_series, A_SERIES, BEHIND_LAST)
+COUNTED(livevec_series_count, series_edits, livevec_series, A_SERIES, SERIES_ACCEPTED)
+COUNTED(livevec_series_count, series_saved_length, livevec_series, A_SERIES, SAVED_BYTES)
 
-COUNTED(first)
-COUNTED(size)
-COUNTED(edits)
+/* An element of a series, or of samples with its time. */
+livevec_sample livevec_proved_series_get(livevec_series *slot, uint64_t index, bool timed);
+
+livevec_series_element livevec_series_get(livevec_series *slot, uint64_t index)
+{
+    if (!slot)
+        return (livevec_series_element){.refusal = LIVEVEC_NULL};
+    if (!enter_to_read(&slot->busy_))
+        return (livevec_series_element){.refusal = LIVEVEC_BUSY};
+    LEAVES(left, slot);
+    livevec_sample told = livevec_proved_series_get(slot, index, false);
+    return (livevec_series_element){.refusal = told.refusal, .first = told.first, .size = told.size, .value = told.value};
+}
 
 /* Of arrays a proved call is never given a null pointer: where there are no places, they begin anywhere. */
 livevec_series_pushed livevec_proved_series_push_all(livevec_series *slot, const int64_t *values, size_t length);

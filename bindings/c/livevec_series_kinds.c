@@ -10,19 +10,19 @@ static livevec_series_many judge_series_ranges(livevec_series *slot, uint32_t ki
 {
     if (kind > LIVEVEC_AUTOMATON)
         return (livevec_series_many){.refusal = LIVEVEC_BAD_KIND};
-    series_counts kept = livevec_proved_series_counts(slot);
-    if (kept.refusal)
-        return (livevec_series_many){.refusal = kept.refusal};
+    livevec_series_count first = livevec_proved_count(slot, A_SERIES, FIRST_KEPT), size = livevec_proved_count(slot, A_SERIES, BEHIND_LAST);
+    if (first.refusal)
+        return (livevec_series_many){.refusal = first.refusal};
     for (size_t i = 0; i < length; i++) {
         if (ranges[i].hi < ranges[i].lo)
             return (livevec_series_many){.refusal = LIVEVEC_BAD_RANGE, .place = i};
-        if (ranges[i].lo < kept.first || ranges[i].hi > kept.size)
-            return (livevec_series_many){.refusal = LIVEVEC_OUT_OF_RANGE, .first = kept.first, .size = kept.size, .place = i};
+        if (ranges[i].lo < first.value || ranges[i].hi > size.value)
+            return (livevec_series_many){.refusal = LIVEVEC_OUT_OF_RANGE, .first = first.value, .size = size.value, .place = i};
     }
     uint32_t refusal = livevec_proved_series_prepare(slot, kind);
     if (refusal)
         return (livevec_series_many){.refusal = refusal};
-    return (livevec_series_many){.edit = kept.edits, .done = length};
+    return (livevec_series_many){.edit = livevec_proved_count(slot, A_SERIES, SERIES_ACCEPTED).value, .done = length};
 }
 
 livevec_series_many livevec_series_value_many(livevec_series *slot, uint32_t kind, const livevec_series_range *ranges, livevec_values *answers,

@@ -275,17 +275,25 @@ enum { ALL_SIX = 6 };
     scanned(_automaton, LIVEVEC_AUTOMATON, states, livevec_states) \
     scanned(, ALL_SIX, values, livevec_values)
 
-/* What is counted of a vector, by the numbers of the proved export. */
+/* What is counted, by the numbers of the proved export: of a vector (and of a closed board its elements), and of a series or samples. */
 enum { ELEMENTS = 0, ROOM = 1, ACCEPTED = 2 };
-livevec_count livevec_proved_count(livevec_vector *slot, uint32_t what);
+enum { FIRST_KEPT = 0, BEHIND_LAST = 1, SERIES_ACCEPTED = 2, SAVED_BYTES = 3 };
+livevec_series_count livevec_proved_count(void *slot, uint32_t sort, uint32_t what);
 
-/* All counts of a series at once. */
-typedef struct series_counts {
-    uint32_t refusal;
-    uint64_t first;
-    uint64_t size;
-    uint64_t edits;
-} series_counts;
-series_counts livevec_proved_series_counts(livevec_series *slot);
+/* `livevec_NAME` tells one of them. */
+#define COUNTED(answer, name, type, sort, what)                             \
+    answer livevec_##name(type *slot)                                       \
+    {                                                                       \
+        if (!slot)                                                          \
+            return AS_STRUCT(answer, LIVEVEC_NULL);                         \
+        if (!enter_to_read(&slot->busy_))                                   \
+            return AS_STRUCT(answer, LIVEVEC_BUSY);                         \
+        LEAVES(left, slot);                                                 \
+        livevec_series_count told = livevec_proved_count(slot, sort, what); \
+        return (answer){.refusal = told.refusal, .value = told.value};      \
+    }
+
+/* An element of a vector, or of a closed board. */
+livevec_element livevec_proved_get(void *slot, uint32_t sort, uint32_t index);
 
 #endif

@@ -1,5 +1,5 @@
 -- What the calls do and answer, by what lies behind a slot.
-use Rattle.std.specs.Prelude.{◌≡◌, ℕ, Option, Some, None, Result, IfOk, IfErr, [], ◌∷◌, length, slice_get}
+use Rattle.std.specs.Prelude.{◌≡◌, ℕ, Option, Some, None, Result, IfOk, IfErr, if◌then◌else◌, ◌==◌}
 use Rattle.lv_geometry.specs.declared.refusals.Refusal.{Refusal}
 use Rattle.lv_bodies.specs.Automata.{table_of}
 use Rattle.lv_bodies.specs.Six.{SixSummary, six_operations_by}
@@ -7,8 +7,6 @@ use Rattle.lv_bodies.specs.declared.kinds.Kind.{Kind}
 use Rattle.lv_bodies.specs.declared.sixes.SixByTable.{SixByTable}
 use Rattle.lv_edits.specs.declared.edit.Edit.{Edit}
 use Rattle.lv_edits.specs.declared.receipt.Receipt.{Receipt}
-use Rattle.lv_edits.specs.Capacity.{capacity_after}
-use Rattle.lv_edits.specs.History.{list_of}
 use Rattle.lv_edits.specs.Verdict.{Answers, element_at, verdict_of}
 use Rattle.lv_edits.specs.Ranges.{range_refusal}
 use Rattle.lv_reduce.specs.declared.reductions.Answer.{Answer}
@@ -17,15 +15,13 @@ use Rattle.lv_live.specs.Step.{Reduces as ReducesAt}
 use Rattle.lv_edits.specs.Kept.{IsLegalInLimits}
 use Rattle.lv_live.specs.State.{LiveState, recorded, SameLive, SameRefresh}
 use Rattle.livevec_c.specs.declared.objects.Object.{Object}
-use Rattle.livevec_c.specs.declared.objects.Object.TheVariants.{Vector}
+use Rattle.livevec_c.specs.declared.objects.Object.TheVariants.{Closed, Vector}
 use Rattle.livevec_c.specs.declared.results.Edited.{Edited}
 use Rattle.livevec_c.specs.declared.results.Element.{Element}
 use Rattle.livevec_c.specs.declared.results.Verdict.{Verdict}
 use Rattle.livevec_c.specs.declared.results.Count.{Count}
 use Rattle.livevec_c.specs.declared.results.Reduced.{Reduced}
-use Rattle.livevec_c.specs.declared.results.Counted.{Counted}
-use Rattle.livevec_c.specs.declared.results.Counted.TheVariants as counts
-use Rattle.livevec_c.specs.Answers.{edited_by, element_by, judged_by, no_element, reduced_by, unedited, unjudged, unreduced}
+use Rattle.livevec_c.specs.Answers.{edited_by, element_by, element_in, judged_by, no_element, reduced_by, unedited, unjudged, unreduced}
 
 -- a vector for C: of the six bodies at once
 abbrev pub State : Type 0
@@ -66,41 +62,19 @@ abbrev pub JudgesBy : Option Edit → Verdict → Option Object → Type 0
 JudgesBy None answer held = answer ≡ unjudged
 JudgesBy (Some edit) answer held = Judges edit answer held
 
--- the element of an object at an index, as the library answers it
-abbrev pub GetsObject : ℕ → Element → Object → Type 0
-GetsObject index answer (Vector state only) = answer ≡ element_by (element_at state.history.journal index)
-GetsObject index answer other = answer ≡ no_element
+-- the element at an index of an object of a sort: of a vector (0), as the library answers it, or of a closed board (4)
+abbrev pub element_of : ℕ → ℕ → Object → Element
+element_of sort index (Vector state only) = if sort == 0 then element_by (element_at state.history.journal index) else no_element
+element_of sort index (Closed ended) = if sort == 4 then element_by (element_in ended.closed.elements index) else no_element
+element_of sort index other = no_element
 
-abbrev pub Gets : ℕ → Element → Option Object → Type 0
-Gets index answer None = answer ≡ no_element
-Gets index answer (Some object) = GetsObject index answer object
-
--- what is counted of a vector: its elements, those that fit into its memory, and its edits
-abbrev pub count : Counted → State → ℕ
-count counts.Size state = length (list_of state.history.journal)
-count counts.Capacity state = capacity_after state.history.journal
-count counts.Edits state = length state.history.journal
-
--- the same by a number
-abbrev pub counted_at : ℕ → Option Counted
-counted_at number = slice_get (counts.Size ∷ counts.Capacity ∷ counts.Edits ∷ []) number
+abbrev pub element_behind : ℕ → ℕ → Option Object → Element
+element_behind sort index None = no_element
+element_behind sort index (Some object) = element_of sort index object
 
 -- a count where there is no vector
 abbrev pub no_count : Count
 no_count = record { refusal = 101; value = 0 }
-
-abbrev pub CountsObject : Counted → Count → Object → Type 0
-CountsObject what answer (Vector state only) = answer ≡ record { refusal = 0; value = count what state }
-CountsObject what answer other = answer ≡ no_count
-
-abbrev pub Counts : Counted → Count → Option Object → Type 0
-Counts what answer None = answer ≡ no_count
-Counts what answer (Some object) = CountsObject what answer object
-
--- the same where it is known what is counted
-abbrev pub CountsBy : Option Counted → Count → Option Object → Type 0
-CountsBy None answer held = answer ≡ no_count
-CountsBy (Some what) answer held = Counts what answer held
 
 -- a reduction of a vector by all six kinds, as the library answers it; one that is of one kind refuses it
 abbrev pub ReducesBy : Option Kind → ℕ → ℕ → Reduced → State → Type 0

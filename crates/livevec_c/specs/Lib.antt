@@ -7,6 +7,7 @@ pub mod CellLaws
 pub mod Cells
 pub mod Claims
 pub mod Columns
+pub mod Counts
 pub mod FlatEdits
 pub mod Found
 pub mod Frees

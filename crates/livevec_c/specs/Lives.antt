@@ -1,5 +1,5 @@
 -- How vectors and boards behind slots begin, and how a board ends.
-use Rattle.std.specs.Prelude.{◌≡◌, ◌≢◌, ◌⊎◌, ◌<◌, ◌≤◌, ℕ, Option, Some, None, List, [], length, All, Any}
+use Rattle.std.specs.Prelude.{◌≡◌, ◌≢◌, ◌⊎◌, ◌<◌, ◌≤◌, ℕ, Option, Some, None, List, [], All, Any}
 use Rattle.lv_geometry.specs.Bounds.{AreAllowed, Bounds}
 use Rattle.lv_geometry.specs.declared.nodes.Node.{Node}
 use Rattle.lv_bodies.specs.declared.kinds.Kind.{Kind}
@@ -19,8 +19,6 @@ use Rattle.livevec_c.specs.declared.kind_seats.KindSeat.{KindSeat}
 use Rattle.livevec_c.specs.declared.objects.Object.{Object}
 use Rattle.livevec_c.specs.declared.objects.Object.TheVariants.{Board, Closed, Seat, Vector}
 use Rattle.livevec_c.specs.declared.results.Count.{Count}
-use Rattle.livevec_c.specs.declared.results.Element.{Element}
-use Rattle.livevec_c.specs.Answers.{element_by, element_in, no_element}
 use Rattle.livevec_c.specs.Behind.{no_count, State}
 use Rattle.livevec_c.specs.Kinds.{folding_of, HasOwnStamp, IsOutOf, kind_at, sat_at, shared_at}
 
@@ -173,20 +171,3 @@ ClosesObject answer other new = (answer ≡ no_count) × (new ≡ other)
 abbrev pub Closes : Count → Option Object → Option Object → Type 0
 Closes answer None new = (answer ≡ no_count) × (new ≡ None)
 Closes answer (Some old) new = (object : Object) × (new ≡ Some object) × ClosesObject answer old object
-
--- an element of a closed board, and how many there are
-abbrev pub GetsClosedObject : ℕ → Element → Object → Type 0
-GetsClosedObject index answer (Closed ended) = answer ≡ element_by (element_in ended.closed.elements index)
-GetsClosedObject index answer other = answer ≡ no_element
-
-abbrev pub GetsClosed : ℕ → Element → Option Object → Type 0
-GetsClosed index answer None = answer ≡ no_element
-GetsClosed index answer (Some object) = GetsClosedObject index answer object
-
-abbrev pub SizesClosedObject : Count → Object → Type 0
-SizesClosedObject answer (Closed ended) = answer ≡ record { refusal = 0; value = length ended.closed.elements }
-SizesClosedObject answer other = answer ≡ no_count
-
-abbrev pub SizesClosed : Count → Option Object → Type 0
-SizesClosed answer None = answer ≡ no_count
-SizesClosed answer (Some object) = SizesClosedObject answer object

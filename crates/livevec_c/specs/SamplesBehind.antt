@@ -1,5 +1,5 @@
 -- What the calls at samples do and answer, by what lies behind a slot.
-use Rattle.std.specs.Prelude.{◌≡◌, ℕ, ℤ, ◌+◌, ◌-◌, pos, Option, Some, None, Result, Ok, Err, List, [], length, min}
+use Rattle.std.specs.Prelude.{◌≡◌, ℕ, ℤ, ◌+◌, ◌-◌, Bool, true, false, Option, Some, None, Result, Ok, Err, List, [], length, min}
 use Rattle.lv_series.specs.Numbers.{number_of}
 use Rattle.lv_series.specs.Samples.{AnswersWindow, IsWindowOf, SamplesState, count_before, is_among_last, newest_of, plain_samples, sample_at, times_of}
 use Rattle.lv_series.specs.Series.{range_refused}
@@ -10,14 +10,13 @@ use Rattle.lv_series.specs.declared.sample_edits.SampleEdit.TheVariants as sampl
 use Rattle.lv_series.specs.declared.samples.Window.{Window}
 use Rattle.livevec_c.specs.declared.objects.Object.{Object}
 use Rattle.livevec_c.specs.declared.objects.Object.TheVariants.{Samples}
-use Rattle.livevec_c.specs.declared.samples.SampleElement.{SampleElement}
+use Rattle.livevec_c.specs.declared.series_results.SampleElement.{SampleElement}
 use Rattle.livevec_c.specs.declared.samples.SampleWindow.{SampleWindow}
-use Rattle.livevec_c.specs.declared.series_results.Refused.{Refused}
 use Rattle.livevec_c.specs.declared.series_results.SeriesEdited.{SeriesEdited}
 use Rattle.livevec_c.specs.declared.series_results.SeriesScanned.{SeriesScanned}
-use Rattle.livevec_c.specs.SeriesAnswers.{granted, long_scanned, refused_by, unedited_by, unheld, unscanned_by}
-use Rattle.livevec_c.specs.SeriesBehind.{EditsSamples}
-use Rattle.livevec_c.specs.SeriesHeld.{Opens}
+use Rattle.livevec_c.specs.SeriesAnswers.{granted, long_scanned, refused_by, unedited_by, unelement, unheld, unscanned_by}
+use Rattle.livevec_c.specs.SeriesBehind.{EditsSamples, element_in}
+use Rattle.livevec_c.specs.SeriesHeld.{Opens, series_in}
 use Rattle.livevec_c.specs.SeriesPieces.{put_there}
 
 -- no samples, by an automaton of this table
@@ -51,20 +50,22 @@ ExpiresBefore time answer None new = (answer ≡ unedited_by unheld) × (new ≡
 ExpiresBefore time answer (Some old) new = (object : Object) × (new ≡ Some object) × ExpiresObject time answer old object
 
 -- the sample under an index
-abbrev pub unsampled : Refused → SampleElement
-unsampled why = record { why = why; time = pos 0; value = pos 0 }
-
 abbrev pub sample_told : Result Sample LongRefusal → SampleElement
 sample_told (Ok s) = record { why = granted; time = s.time; value = s.value }
-sample_told (Err refusal) = unsampled (refused_by refusal)
+sample_told (Err refusal) = unelement (refused_by refusal)
 
 abbrev pub sample_in : ℕ → Object → SampleElement
 sample_in index (Samples s) = sample_told (sample_at s index)
-sample_in index other = unsampled unheld
+sample_in index other = unelement unheld
 
-abbrev pub sample_behind : ℕ → Option Object → SampleElement
-sample_behind index None = unsampled unheld
-sample_behind index (Some object) = sample_in index object
+-- with its time, of samples only; or without, of a series too
+abbrev pub element_told : Bool → ℕ → Object → SampleElement
+element_told true index object = sample_in index object
+element_told false index object = element_in index (series_in object)
+
+abbrev pub element_behind : Bool → ℕ → Option Object → SampleElement
+element_behind timed index None = unelement unheld
+element_behind timed index (Some object) = element_told timed index object
 
 -- the indices of a window, after the last edit
 abbrev pub unwindowed : ℕ → SampleWindow

@@ -1,5 +1,5 @@
 -- What saving a series, or samples, and loading them does and answers, by what lies behind a slot.
-use Rattle.std.specs.Prelude.{◌≡◌, ℕ, ◌%◌, ◌++◌, ◌⊎◌, Bool, true, false, Option, Some, None, Result, Ok, Err, List, [], length}
+use Rattle.std.specs.Prelude.{◌≡◌, ℕ, ◌%◌, ◌++◌, ◌⊎◌, Bool, true, false, Option, Some, None, Result, Ok, Err, List, []}
 use Rattle.lv_saved.specs.Numbers.{number_of}
 use Rattle.lv_saved.specs.Readings.{IsNoneSaved}
 use Rattle.lv_saved.specs.Saved.{IsPiece, bytes_of, saved_samples, saved_series}
@@ -10,7 +10,6 @@ use Rattle.lv_series.specs.Samples.{SamplesState}
 use Rattle.livevec_c.specs.declared.objects.Object.{Object}
 use Rattle.livevec_c.specs.declared.objects.Object.TheVariants.{Loader, Samples, Series}
 use Rattle.livevec_c.specs.declared.series_results.SeriesScanned.{SeriesScanned}
-use Rattle.livevec_c.specs.declared.series_saved.SavedLength.{SavedLength}
 use Rattle.livevec_c.specs.SeriesAnswers.{granted, unheld, unscanned_by}
 use Rattle.livevec_c.specs.SeriesHeld.{Opens}
 
@@ -27,11 +26,6 @@ saved_in other = None
 abbrev pub saved_behind : Option Object → Option Bytes
 saved_behind None = None
 saved_behind (Some object) = saved_in object
-
--- how many bytes these are
-abbrev pub saved_length : Option Bytes → SavedLength
-saved_length None = record { refusal = 101; length = 0 }
-saved_length (Some saved) = record { refusal = 0; length = length saved.bytes }
 
 -- a piece of them, from a place on that is a multiple of 8; a buffer is as it was where it is refused
 abbrev pub SavesFrom : Option Bytes → ℕ → SeriesScanned → List ℕ → List ℕ → Type 0

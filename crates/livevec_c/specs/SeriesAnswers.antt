@@ -10,7 +10,7 @@ use Rattle.lv_series.specs.declared.sample_edits.SampleRefusal.TheVariants.{Earl
 use Rattle.livevec_c.specs.declared.values.PlainValues.{PlainValues}
 use Rattle.livevec_c.specs.declared.series_results.Refused.{Refused as Why}
 use Rattle.livevec_c.specs.declared.series_results.SeriesEdited.{SeriesEdited}
-use Rattle.livevec_c.specs.declared.series_results.SeriesElement.{SeriesElement}
+use Rattle.livevec_c.specs.declared.series_results.SampleElement.{SampleElement}
 use Rattle.livevec_c.specs.declared.series_results.SeriesMany.{SeriesMany}
 use Rattle.livevec_c.specs.declared.series_results.SeriesReduced.{SeriesReduced}
 use Rattle.livevec_c.specs.declared.series_results.SeriesScanned.{SeriesScanned}
@@ -52,12 +52,12 @@ sample_edited (Ok receipt) = long_received receipt
 sample_edited (Err (Refused refusal)) = unedited_by (refused_by refusal)
 sample_edited (Err (Earlier newest)) = record { why = record { refusal = 21; first = 0; size = 0 }; edit = 0; place = 0; value = newest }
 
--- an element's answer
-abbrev pub unelement : Why → SeriesElement
-unelement why = record { why = why; value = pos 0 }
+-- an element's answer, without a time
+abbrev pub unelement : Why → SampleElement
+unelement why = record { why = why; time = pos 0; value = pos 0 }
 
-abbrev pub long_element : Result ℤ LongRefusal → SeriesElement
-long_element (Ok value) = record { why = granted; value = value }
+abbrev pub long_element : Result ℤ LongRefusal → SampleElement
+long_element (Ok value) = record { why = granted; time = pos 0; value = value }
 long_element (Err refusal) = unelement (refused_by refusal)
 
 -- a reduction's answer

@@ -1,6 +1,6 @@
 -- What the calls at a series do and answer, by what lies behind a slot.
 use Rattle.std.specs.Prelude.{◌≡◌, ℕ, ◌⊎◌, true, Option, Some, None, Result, List, []}
-use Rattle.lv_series.specs.Series.{Answers, element_at, range_refused, size_of, slice_of}
+use Rattle.lv_series.specs.Series.{Answers, element_at, range_refused, slice_of}
 use Rattle.lv_series.specs.Plain.{KeptKinds, plain_series}
 use Rattle.lv_series.specs.Samples.{AnswersSample, SamplesState}
 use Rattle.lv_series.specs.declared.edits.LongEdit.{LongEdit}
@@ -13,9 +13,8 @@ use Rattle.lv_series.specs.declared.sample_edits.SampleEdit.TheVariants as sampl
 use Rattle.lv_series.specs.declared.sample_edits.SampleRefusal.{SampleRefusal}
 use Rattle.livevec_c.specs.declared.objects.Object.{Object}
 use Rattle.livevec_c.specs.declared.objects.Object.TheVariants.{Series, Samples}
-use Rattle.livevec_c.specs.declared.series_results.SeriesCounts.{SeriesCounts}
 use Rattle.livevec_c.specs.declared.series_results.SeriesEdited.{SeriesEdited}
-use Rattle.livevec_c.specs.declared.series_results.SeriesElement.{SeriesElement}
+use Rattle.livevec_c.specs.declared.series_results.SampleElement.{SampleElement}
 use Rattle.livevec_c.specs.declared.series_results.SeriesReduced.{SeriesReduced}
 use Rattle.livevec_c.specs.Cells.{values_cell}
 use Rattle.livevec_c.specs.SeriesAnswers.{long_edited, long_element, long_valued, refused_by, sample_edited, unedited_by, unelement, unheld, unreduced_by}
@@ -67,14 +66,9 @@ EditsBehindBy None answer old new = (answer ≡ unedited_by unheld) × (new ≡ 
 EditsBehindBy (Some edit) answer old new = EditsBehind edit answer old new
 
 -- the element under an index of a series, where there is one
-abbrev pub element_in : ℕ → Option Long → SeriesElement
+abbrev pub element_in : ℕ → Option Long → SampleElement
 element_in index None = unelement unheld
 element_in index (Some s) = long_element (element_at s.held index)
-
--- the first index that is kept, the one behind the last, and how many edits were accepted
-abbrev pub counts_in : Option Long → SeriesCounts
-counts_in None = record { refusal = 101; first = 0; size = 0; edits = 0 }
-counts_in (Some s) = record { refusal = 0; first = s.held.first; size = size_of s.held; edits = s.edits }
 
 -- the plain values of the elements of a range after the last edit
 abbrev pub values_of : ℕ → ℕ → Long → SeriesReduced

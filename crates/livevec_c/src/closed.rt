@@ -4,13 +4,13 @@ ghost use Rattle.lv_board.specs.Sharing.{IsClosedShared, IsUnclosed};
 ghost use Rattle.livevec_c.specs.declared.objects.Object.TheVariants as behind;
 ghost use Rattle.livevec_c.specs.declared.ended.Ended.{Ended};
 ghost use Rattle.livevec_c.specs.Kinds.{shared_at};
-ghost use Rattle.livevec_c.specs.Lives.{Closes, ClosesBoard, ClosesObject, GetsClosed, GetsClosedObject, SizesClosed, SizesClosedObject, unclosed_for};
+ghost use Rattle.livevec_c.specs.Lives.{Closes, ClosesBoard, ClosesObject, unclosed_for};
 
 use crate::ended::Ended;
 use crate::kind_boards::KindBoard;
 use crate::objects::{Object, nothing, refill};
-use crate::reads::{count_answer, missing, uncounted};
-use crate::results::{Count, Element, NO_MEMORY, SEATS_OUT, element_answer};
+use crate::reads::{count_answer, uncounted};
+use crate::results::{Count, NO_MEMORY, SEATS_OUT};
 use crate::slots::{Slot, put, take};
 use lv_board::{Closed, Unclosed};
 use std::alloc::Global;
@@ -111,58 +111,6 @@ pub extern "C" fn livevec_proved_board_close(alloc: Global, slot: &mut Slot) -> 
         None => uncounted(),
         Some(mut held) => {
             let answer = close_of(alloc, &mut held);
-            put(slot, held);
-            answer
-        }
-    }
-}
-
-// An element of an object that is a closed board.
-fn closed_element(object: &Object, index: u32) -> Element
-    ensures { GetsClosedObject index result object.now }
-{
-    match object {
-        Object::Closed(ended) => element_answer(ended.get(index)),
-        _ => missing(),
-    }
-}
-
-/// The element of a closed board at an index.
-#[unsafe(no_mangle)]
-pub extern "C" fn livevec_proved_closed_get(alloc: Global, slot: &mut Slot, index: u32) -> Element
-    ensures answer { GetsClosed index result slot.old.raw.inner }
-    ensures same { slot.new.raw.inner ≡ slot.old.raw.inner }
-{
-    match take(alloc, slot) {
-        None => missing(),
-        Some(held) => {
-            let answer = closed_element(&held, index);
-            put(slot, held);
-            answer
-        }
-    }
-}
-
-// How many elements an object that is a closed board has.
-fn closed_count(object: &Object) -> Count
-    ensures { SizesClosedObject result object.now }
-{
-    match object {
-        Object::Closed(ended) => count_answer(ended.size),
-        _ => uncounted(),
-    }
-}
-
-/// How many elements a closed board has.
-#[unsafe(no_mangle)]
-pub extern "C" fn livevec_proved_closed_size(alloc: Global, slot: &mut Slot) -> Count
-    ensures answer { SizesClosed result slot.old.raw.inner }
-    ensures same { slot.new.raw.inner ≡ slot.old.raw.inner }
-{
-    match take(alloc, slot) {
-        None => uncounted(),
-        Some(held) => {
-            let answer = closed_count(&held);
             put(slot, held);
             answer
         }

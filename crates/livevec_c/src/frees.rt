@@ -7,8 +7,8 @@ use crate::results::NO_HANDLE;
 use crate::slots::{Slot, put, take};
 use std::alloc::Global;
 
-// The sort of an object, by the number that C has for it.
-fn sort_of(object: &Object) -> u32
+/// The sort of an object, by the number that C has for it.
+pub fn sort_of(object: &Object) -> u32
     ensures { result ≡ sort_of object.now }
 {
     match object {

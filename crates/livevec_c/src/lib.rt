@@ -12,6 +12,7 @@ mod claims;
 mod closed;
 mod column_exports;
 mod columns;
+mod counts;
 mod ended;
 mod flat_edits;
 mod frees;

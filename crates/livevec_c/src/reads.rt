@@ -1,4 +1,4 @@
-//! Reads of a vector: its elements, its counts and its reductions.
+//! Reads of a vector: its elements, also those of a closed board, and its reductions.
 ghost use Rattle.std.specs.Prelude.{◌≡◌, None};
 ghost use Rattle.lv_bodies.specs.Automata.{table_of};
 ghost use Rattle.lv_bodies.specs.Body.{fold_of};
@@ -7,13 +7,13 @@ ghost use Rattle.lv_bodies.specs.declared.kinds.Kind.TheVariants as kinds;
 ghost use Rattle.lv_edits.specs.Ranges.{range_refusal, slice_of};
 ghost use Rattle.lv_tree.specs.KindSummaries.{summary_by};
 ghost use Rattle.livevec_c.specs.Answers.{no_element, spread, unreduced, with_part};
-ghost use Rattle.livevec_c.specs.Behind.{Asks, AsksBy, AsksObject, AsksVector, Counts, CountsBy, CountsObject, Gets, GetsObject, Reduces, ReducesBy, ReducesObject, counted_at};
+ghost use Rattle.livevec_c.specs.Behind.{Asks, AsksBy, AsksObject, AsksVector, Reduces, ReducesBy, ReducesObject, element_behind, element_of};
 ghost use Rattle.livevec_c.specs.Plainly.{IsPlain};
 
 use crate::kind_vectors::KindVector;
 use crate::objects::Object;
 use crate::results::{
-    BAD_KIND, Count, Counted, Element, NO_HANDLE, Reduced, detail, element_answer, not_reduced,
+    BAD_KIND, Count, Element, NO_HANDLE, Reduced, detail, element_answer, not_reduced,
     reduction_answer,
 };
 use crate::slots::{Slot, put, take};
@@ -34,26 +34,44 @@ pub fn missing() -> Element
     }
 }
 
-// An element of an object.
-fn get_of(object: &Object, index: u32) -> Element
-    ensures { GetsObject index result object.now }
+// An element of an object of this sort: of a vector, or of a closed board.
+fn get_of(object: &Object, sort: u32, index: u32) -> Element
+    ensures { result ≡ element_of sort index object.now }
 {
     match object {
-        Object::Vector(vector, _) => element_answer(vector.live().get(index)),
+        Object::Vector(vector, _) => {
+            if sort == 0 {
+                element_answer(vector.live().get(index))
+            } else {
+                missing()
+            }
+        }
+        Object::Closed(ended) => {
+            if sort == 4 {
+                element_answer(ended.get(index))
+            } else {
+                missing()
+            }
+        }
         _ => missing(),
     }
 }
 
-/// The element at an index.
+/// The element at an index, of a vector or of a closed board, as the sort tells.
 #[unsafe(no_mangle)]
-pub extern "C" fn livevec_proved_get(alloc: Global, slot: &mut Slot, index: u32) -> Element
-    ensures answer { Gets index result slot.old.raw.inner }
+pub extern "C" fn livevec_proved_get(
+    alloc: Global,
+    slot: &mut Slot,
+    sort: u32,
+    index: u32,
+) -> Element
+    ensures answer { result ≡ element_behind sort index slot.old.raw.inner }
     ensures same { slot.new.raw.inner ≡ slot.old.raw.inner }
 {
     match take(alloc, slot) {
         None => missing(),
         Some(held) => {
-            let answer = get_of(&held, index);
+            let answer = get_of(&held, sort, index);
             put(slot, held);
             answer
         }
@@ -74,59 +92,6 @@ pub fn uncounted() -> Count
     Count {
         refusal: NO_HANDLE,
         value: 0,
-    }
-}
-
-// A count of an object.
-fn count_of(object: &Object, what: Counted) -> Count
-    ensures { CountsObject what result object.now }
-{
-    let Object::Vector(vector, _) = object else {
-        return uncounted();
-    };
-    match what {
-        Counted::Size => count_answer(vector.live().size()),
-        Counted::Capacity => count_answer(vector.live().capacity()),
-        Counted::Edits => count_answer(vector.live().edit()),
-    }
-}
-
-// A count of what lies behind a slot.
-fn count_held(alloc: Global, slot: &mut Slot, what: Counted) -> Count
-    ensures answer { Counts what result slot.old.raw.inner }
-    ensures same { slot.new.raw.inner ≡ slot.old.raw.inner }
-{
-    match take(alloc, slot) {
-        None => uncounted(),
-        Some(held) => {
-            let answer = count_of(&held, what);
-            put(slot, held);
-            answer
-        }
-    }
-}
-
-// What is counted, by its number; nothing where it is no number of these.
-fn counted_by(number: u32) -> Option<Counted>
-    ensures { result ≡ counted_at number }
-{
-    match number {
-        0 => Some(Counted::Size),
-        1 => Some(Counted::Capacity),
-        2 => Some(Counted::Edits),
-        _ => None,
-    }
-}
-
-/// How many there are of what a number names: elements, those that fit into the memory that is held, or edits that were accepted.
-#[unsafe(no_mangle)]
-pub extern "C" fn livevec_proved_count(alloc: Global, slot: &mut Slot, what: u32) -> Count
-    ensures answer { CountsBy (counted_at what) result slot.old.raw.inner }
-    ensures same { slot.new.raw.inner ≡ slot.old.raw.inner }
-{
-    match counted_by(what) {
-        None => uncounted(),
-        Some(what) => count_held(alloc, slot, what),
     }
 }
 

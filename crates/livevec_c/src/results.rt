@@ -60,14 +60,6 @@ pub struct Verdict {
     pub detail: u32,
 }
 
-/// What is counted of a vector.
-#[derive(Clone, Copy)]
-pub enum Counted {
-    Size,
-    Capacity,
-    Edits,
-}
-
 /// A count.
 #[repr(C)]
 #[derive(Clone, Copy)]

@@ -2,29 +2,20 @@
 ghost use Rattle.std.specs.Prelude.{◌≡◌, IfOk, length};
 ghost use Rattle.lv_bodies.specs.Plain.{program_table};
 ghost use Rattle.lv_series.specs.declared.sample_edits.SampleEdit.TheVariants as sampled;
-ghost use Rattle.livevec_c.specs.SamplesBehind.{ExpiresBefore, ExpiresObject, IsNewSamples, OpensSamples, SamplesEdited, SamplesObject, TellsWindow, WindowOfLast, WindowOfLastIn, WindowsBehind, WindowsIn, sample_behind, sample_in, times_behind, times_in, times_put_behind, times_put_in, unsampled, unwindowed};
+ghost use Rattle.livevec_c.specs.SamplesBehind.{ExpiresBefore, ExpiresObject, IsNewSamples, OpensSamples, SamplesEdited, SamplesObject, TellsWindow, WindowOfLast, WindowOfLastIn, WindowsBehind, WindowsIn, sample_in, times_behind, times_in, times_put_behind, times_put_in, unwindowed};
 ghost use Rattle.livevec_c.specs.declared.objects.Object.TheVariants as objects;
 
 use crate::objects::Object;
 use crate::results::{IN_USE, NO_HANDLE, NO_MEMORY};
 use crate::series_pieces::{lay_elements, piece_answer};
 use crate::series_results::{
-    Refused, SeriesEdited, SeriesScanned, not_edited, not_held, not_refused, not_scanned,
-    refusal_answer, sample_answer,
+    SampleElement, SeriesEdited, SeriesScanned, no_element, not_edited, not_held, not_refused,
+    not_scanned, refusal_answer, sample_answer,
 };
 use crate::slots::{Slot, is_full, put, take};
 use lv_bodies::Automaton;
 use lv_series::{LongRefusal, Sample, Samples, Window};
 use std::alloc::{AllocError, Global};
-
-/// A sample, 0 where it was refused.
-#[repr(C)]
-#[derive(Clone, Copy)]
-pub struct SampleElement {
-    pub why: Refused,
-    pub time: i64,
-    pub value: i64,
-}
 
 /// The indices of a window of time, from `lo` up to `hi`, and after which edit they are those.
 #[repr(C)]
@@ -120,51 +111,20 @@ pub extern "C" fn livevec_proved_samples_expire_before(
     }
 }
 
-// Where there is no sample.
-fn no_sample(why: Refused) -> SampleElement
-    ensures { result ≡ unsampled why }
-{
-    SampleElement {
-        why,
-        time: 0,
-        value: 0,
-    }
-}
-
-// A sample of an object.
-fn sample_of(object: &Object, index: u64) -> SampleElement
+/// A sample of an object.
+pub fn sample_of(object: &Object, index: u64) -> SampleElement
     ensures { result ≡ sample_in index object.now }
 {
     match object {
         Object::Samples(samples) => match samples.get(index) {
-            Err(refusal) => no_sample(refusal_answer(refusal)),
+            Err(refusal) => no_element(refusal_answer(refusal)),
             Ok(Sample { time, value }) => SampleElement {
                 why: not_refused(),
                 time,
                 value,
             },
         },
-        _ => no_sample(not_held()),
-    }
-}
-
-/// The sample under an index.
-#[unsafe(no_mangle)]
-pub extern "C" fn livevec_proved_samples_get(
-    alloc: Global,
-    slot: &mut Slot,
-    index: u64,
-) -> SampleElement
-    ensures answer { result ≡ sample_behind index slot.old.raw.inner }
-    ensures same { slot.new.raw.inner ≡ slot.old.raw.inner }
-{
-    match take(alloc, slot) {
-        None => no_sample(not_held()),
-        Some(held) => {
-            let answer = sample_of(&held, index);
-            put(slot, held);
-            answer
-        }
+        _ => no_element(not_held()),
     }
 }
 

@@ -1,16 +1,17 @@
-//! What is asked of a series, or of the values of samples: elements, counts and reductions.
-ghost use Rattle.std.specs.Prelude.{◌≡◌, None, true};
-ghost use Rattle.livevec_c.specs.SeriesBehind.{AsksBehind, AsksSeries, IsSameButKinds, all_kinds, counts_in, element_in, values_in, values_of};
+//! What is asked of a series, or of samples: elements and reductions.
+ghost use Rattle.std.specs.Prelude.{◌≡◌, true};
+ghost use Rattle.livevec_c.specs.SamplesBehind.{element_behind, element_told};
+ghost use Rattle.livevec_c.specs.SeriesBehind.{AsksBehind, AsksSeries, IsSameButKinds, all_kinds, element_in, values_in, values_of};
 ghost use Rattle.livevec_c.specs.SeriesAnswers.{unheld, unreduced_by};
 ghost use Rattle.livevec_c.specs.SeriesHeld.{AtObject, Long, series_behind, series_in};
 
 use crate::beginnings::cell_of;
 use crate::objects::Object;
-use crate::results::NO_HANDLE;
+use crate::samples::sample_of;
 use crate::series_held::{HasSeries, series_of};
 use crate::series_results::{
-    SeriesCounts, SeriesElement, SeriesReduced, element_answer, no_element, not_held, not_reduced,
-    not_refused, refusal_answer,
+    SampleElement, SeriesReduced, element_answer, no_element, not_held, not_reduced, not_refused,
+    refusal_answer,
 };
 use crate::slots::{Slot, put, take};
 use lv_bodies::{Kind, SixPairs};
@@ -18,7 +19,7 @@ use lv_series::{LongRefusal, Series};
 use std::alloc::Global;
 
 // An element of an object.
-fn get_of(object: &Object, index: u64) -> SeriesElement
+fn value_of(object: &Object, index: u64) -> SampleElement
     ensures { result ≡ element_in index (series_in object.now) }
 {
     match series_of(object) {
@@ -27,63 +28,32 @@ fn get_of(object: &Object, index: u64) -> SeriesElement
     }
 }
 
-/// The element under an index.
+// The same, or with its time, of samples.
+fn get_of(object: &Object, index: u64, timed: bool) -> SampleElement
+    ensures { result ≡ element_told timed index object.now }
+{
+    if timed {
+        sample_of(object, index)
+    } else {
+        value_of(object, index)
+    }
+}
+
+/// The element under an index, or the sample.
 #[unsafe(no_mangle)]
 pub extern "C" fn livevec_proved_series_get(
     alloc: Global,
     slot: &mut Slot,
     index: u64,
-) -> SeriesElement
-    ensures answer { result ≡ element_in index (series_behind slot.old.raw.inner) }
+    timed: bool,
+) -> SampleElement
+    ensures answer { result ≡ element_behind timed index slot.old.raw.inner }
     ensures same { slot.new.raw.inner ≡ slot.old.raw.inner }
 {
     match take(alloc, slot) {
         None => no_element(not_held()),
         Some(held) => {
-            let answer = get_of(&held, index);
-            put(slot, held);
-            answer
-        }
-    }
-}
-
-// The counts where there is no series.
-fn uncounted() -> SeriesCounts
-    ensures { result ≡ counts_in None }
-{
-    SeriesCounts {
-        refusal: NO_HANDLE,
-        first: 0,
-        size: 0,
-        edits: 0,
-    }
-}
-
-// The counts of an object.
-fn counts_of(object: &Object) -> SeriesCounts
-    ensures { result ≡ counts_in (series_in object.now) }
-{
-    match series_of(object) {
-        None => uncounted(),
-        Some(series) => SeriesCounts {
-            refusal: 0,
-            first: series.first(),
-            size: series.size(),
-            edits: series.edits(),
-        },
-    }
-}
-
-/// The first index that is kept, the one behind the last, and how many edits were accepted.
-#[unsafe(no_mangle)]
-pub extern "C" fn livevec_proved_series_counts(alloc: Global, slot: &mut Slot) -> SeriesCounts
-    ensures answer { result ≡ counts_in (series_behind slot.old.raw.inner) }
-    ensures same { slot.new.raw.inner ≡ slot.old.raw.inner }
-{
-    match take(alloc, slot) {
-        None => uncounted(),
-        Some(held) => {
-            let answer = counts_of(&held);
+            let answer = get_of(&held, index, timed);
             put(slot, held);
             answer
         }

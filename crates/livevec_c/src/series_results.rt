@@ -25,22 +25,13 @@ pub struct SeriesEdited {
     pub value: i64,
 }
 
-/// An element of a series.
+/// An element of a series, or of samples with its time; 0 both where it was refused.
 #[repr(C)]
 #[derive(Clone, Copy)]
-pub struct SeriesElement {
+pub struct SampleElement {
     pub why: Refused,
+    pub time: i64,
     pub value: i64,
-}
-
-/// What is counted of a series.
-#[repr(C)]
-#[derive(Clone, Copy)]
-pub struct SeriesCounts {
-    pub refusal: u32,
-    pub first: u64,
-    pub size: u64,
-    pub edits: u64,
 }
 
 /// What a reduction of a series answers.
@@ -175,19 +166,24 @@ pub fn sample_answer(answer: Result<LongReceipt, SampleRefusal>) -> SeriesEdited
 }
 
 /// What a question for an element answers that was refused.
-pub fn no_element(why: Refused) -> SeriesElement
+pub fn no_element(why: Refused) -> SampleElement
     ensures { result ≡ unelement why }
 {
-    SeriesElement { why, value: 0 }
+    SampleElement {
+        why,
+        time: 0,
+        value: 0,
+    }
 }
 
 /// The element under an index, for C.
-pub fn element_answer(answer: Result<i64, LongRefusal>) -> SeriesElement
+pub fn element_answer(answer: Result<i64, LongRefusal>) -> SampleElement
     ensures { result ≡ long_element answer }
 {
     match answer {
-        Ok(value) => SeriesElement {
+        Ok(value) => SampleElement {
             why: not_refused(),
+            time: 0,
             value,
         },
         Err(refusal) => no_element(refusal_answer(refusal)),

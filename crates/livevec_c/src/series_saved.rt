@@ -1,6 +1,6 @@
 //! A series as bytes, or samples, and back.
 ghost use Rattle.std.specs.Prelude.{◌≡◌, ◌%◌, IfOk, None};
-ghost use Rattle.livevec_c.specs.SavedBehind.{EndsLoad, EndsLoadIn, EndsLoadOf, GivesBytes, GivesObject, IsNewLoader, LoadsOf, OpensLoader, SavesFrom, SavesIn, saved_behind, saved_in, saved_length};
+ghost use Rattle.livevec_c.specs.SavedBehind.{EndsLoad, EndsLoadIn, EndsLoadOf, GivesBytes, GivesObject, IsNewLoader, LoadsOf, OpensLoader, SavesFrom, SavesIn, saved_behind, saved_in};
 
 use crate::jobs::refilled;
 use crate::objects::{Object, nothing};
@@ -9,54 +9,10 @@ use crate::series_results::{
     Refused, SeriesScanned, not_held, not_refused, not_scanned, refusal_answer,
 };
 use crate::slots::{Slot, is_full, put, take};
-use lv_saved::{LoadRefusal, Loader, save, save_samples, saved_bytes, saved_samples_bytes};
+use lv_saved::{LoadRefusal, Loader, save, save_samples};
 use lv_series::LongRefusal;
 use std::alloc::{AllocError, Global};
 use std::mem;
-
-/// How many bytes are saved of a series, or of samples.
-#[repr(C)]
-#[derive(Clone, Copy)]
-pub struct SavedLength {
-    pub refusal: u32,
-    pub length: u64,
-}
-
-// How many bytes an object is saved as.
-fn length_of(object: &Object) -> SavedLength
-    ensures { result ≡ saved_length (saved_in object.now) }
-{
-    let length = match object {
-        Object::Series(series) => saved_bytes(series),
-        Object::Samples(samples) => saved_samples_bytes(samples),
-        _ => {
-            return SavedLength {
-                refusal: NO_HANDLE,
-                length: 0,
-            };
-        }
-    };
-    SavedLength { refusal: 0, length }
-}
-
-/// How many bytes a series is saved as, or samples.
-#[unsafe(no_mangle)]
-pub extern "C" fn livevec_proved_series_saved_length(alloc: Global, slot: &mut Slot) -> SavedLength
-    ensures answer { result ≡ saved_length (saved_behind slot.old.raw.inner) }
-    ensures same { slot.new.raw.inner ≡ slot.old.raw.inner }
-{
-    match take(alloc, slot) {
-        None => SavedLength {
-            refusal: NO_HANDLE,
-            length: 0,
-        },
-        Some(held) => {
-            let answer = length_of(&held);
-            put(slot, held);
-            answer
-        }
-    }
-}
 
 // A piece of the bytes of an object, from a place on that is a multiple of 8.
 fn save_of(object: &Object, from: u64, buffer: &mut [u8]) -> SeriesScanned
