@@ -51,10 +51,14 @@ const char *livevec_refusal_text(uint32_t refusal)
     }
 }
 
-TOLD(new, (livevec_vector *slot, uint32_t buckets, uint32_t edits), slot, (slot, buckets, edits))
-TOLD(new_of, (livevec_vector *slot, uint32_t kind, uint32_t buckets, uint32_t edits), slot, (slot, kind, buckets, edits))
-AT_ONE(uint32_t, AS_NUMBER, new_with_table, (livevec_vector *slot, uint32_t buckets, uint32_t edits, const livevec_table *table), THERE(slot && table),
-       slot, enter, (slot, buckets, edits, table))
+/* A vector is of all six kinds, or of one, and its automaton is the program's, or has a table. */
+uint32_t livevec_proved_new(livevec_vector *slot, bool six, uint32_t kind, uint32_t buckets, uint32_t edits, bool by_table, const livevec_table *table);
+ENTERED(uint32_t, AS_NUMBER, new, (livevec_vector *slot, uint32_t buckets, uint32_t edits), THERE(slot), slot, enter,
+        new(slot, true, 0, buckets, edits, false, &(livevec_table){{{0}}}))
+ENTERED(uint32_t, AS_NUMBER, new_of, (livevec_vector *slot, uint32_t kind, uint32_t buckets, uint32_t edits), THERE(slot), slot, enter,
+        new(slot, false, kind, buckets, edits, false, &(livevec_table){{{0}}}))
+ENTERED(uint32_t, AS_NUMBER, new_with_table, (livevec_vector *slot, uint32_t buckets, uint32_t edits, const livevec_table *table),
+        THERE(slot && table), slot, enter, new(slot, true, 0, buckets, edits, true, table))
 ANSWERED(livevec_edited, push, (livevec_vector *slot, int64_t value), slot, (slot, value))
 ANSWERED(livevec_edited, write, (livevec_vector *slot, uint32_t index, int64_t value), slot, (slot, index, value))
 livevec_edited livevec_proved_edit(livevec_vector *slot, uint32_t what, uint32_t index, uint32_t second, int64_t value);

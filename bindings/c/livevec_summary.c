@@ -3,8 +3,12 @@
 
 #include <string.h>
 
-OF_BYTES(livevec_summarised, summary_empty, (void), LIVEVEC_OK, ())
-OF_BYTES(livevec_summarised, summary_empty_with_table, (const livevec_table *table), THERE(table), (table))
+livevec_summarised livevec_proved_summary_empty(bool by_table, const livevec_table *table);
+livevec_summarised livevec_summary_empty(void)
+{
+    return livevec_proved_summary_empty(false, &(livevec_table){{{0}}});
+}
+BY_PROVED(livevec_summarised, AS_STRUCT, summary_empty_with_table, (const livevec_table *table), THERE(table), true, (void)0, summary_empty(true, table))
 OF_BYTES(livevec_summarised, summary_join, (const livevec_summary *left, const livevec_summary *right), THERE(left && right), (left, right))
 OF_BYTES(livevec_opened, summary_values, (const livevec_summary *summary), THERE(summary), (summary))
 
@@ -36,6 +40,6 @@ livevec_summarised livevec_summary_extend(const livevec_summary *summary, const 
 
 livevec_summarised livevec_summary_of_elements(const int64_t *values, size_t length)
 {
-    livevec_summarised empty = livevec_proved_summary_empty();
+    livevec_summarised empty = livevec_summary_empty();
     return livevec_summary_extend(&empty.summary, values, length);
 }

@@ -12,10 +12,13 @@ OVER_PROVED(livevec_text_put, AS_STRUCT, transcript,
 /* Bytes, or those of nothing. */
 #define BYTES(text) ((text) ? (text) : "")
 
-OF_BYTES(livevec_audited, audit, (const char *text, size_t length), ARRAY(text, length), (BYTES(text), length))
-OF_BYTES(livevec_audited, audit_front, (const char *text, size_t length), ARRAY(text, length), (BYTES(text), length))
-OVER_PROVED(livevec_audited, AS_STRUCT, restore, (livevec_vector *slot, uint32_t buckets, uint32_t edits, const char *text, size_t length),
-            first_of(THERE(slot), ARRAY(text, length)), enter(&slot->busy_), LEAVES(left, slot), (slot, buckets, edits, BYTES(text), length))
-OVER_PROVED(livevec_audited, AS_STRUCT, restore_of,
-            (livevec_vector *slot, uint32_t kind, uint32_t buckets, uint32_t edits, const char *text, size_t length),
-            first_of(THERE(slot), ARRAY(text, length)), enter(&slot->busy_), LEAVES(left, slot), (slot, kind, buckets, edits, BYTES(text), length))
+livevec_audited livevec_proved_audit(const char *text, size_t length, bool front);
+BY_PROVED(livevec_audited, AS_STRUCT, audit, (const char *text, size_t length), ARRAY(text, length), true, (void)0, audit(BYTES(text), length, false))
+BY_PROVED(livevec_audited, AS_STRUCT, audit_front, (const char *text, size_t length), ARRAY(text, length), true, (void)0, audit(BYTES(text), length, true))
+
+livevec_audited livevec_proved_restore(livevec_vector *slot, bool six, uint32_t kind, uint32_t buckets, uint32_t edits, const char *text, size_t length);
+ENTERED(livevec_audited, AS_STRUCT, restore, (livevec_vector *slot, uint32_t buckets, uint32_t edits, const char *text, size_t length),
+        first_of(THERE(slot), ARRAY(text, length)), slot, enter, restore(slot, true, 0, buckets, edits, BYTES(text), length))
+ENTERED(livevec_audited, AS_STRUCT, restore_of,
+        (livevec_vector *slot, uint32_t kind, uint32_t buckets, uint32_t edits, const char *text, size_t length),
+        first_of(THERE(slot), ARRAY(text, length)), slot, enter, restore(slot, false, kind, buckets, edits, BYTES(text), length))

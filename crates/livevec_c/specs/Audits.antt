@@ -1,5 +1,5 @@
 -- What audits of a text that lies in the caller's memory answer.
-use Rattle.std.specs.Prelude.{◌≡◌, ℕ, Result, Ok, Err, List}
+use Rattle.std.specs.Prelude.{◌≡◌, ℕ, Bool, true, false, Result, Ok, Err, List}
 use Rattle.lv_transcript.specs.ReadTexts.{AuditsFront, AuditsText}
 use Rattle.lv_transcript.specs.declared.text_audits.Unread.{Unread}
 use Rattle.lv_transcript.specs.declared.text_audits.Unread.TheVariants.{NoMemory, TooLong}
@@ -53,3 +53,8 @@ AuditsFor text answer = (r : Result Verdict Unread) × AuditsText text r × (ans
 
 abbrev pub AuditsFrontFor : List ℕ → Audited → Type 0
 AuditsFrontFor text answer = (r : Result FrontVerdict Unread) × AuditsFront text r × (answer ≡ front_by r)
+
+-- as a front, or as a whole transcript
+abbrev pub Audits : Bool → List ℕ → Audited → Type 0
+Audits true text answer = AuditsFrontFor text answer
+Audits false text answer = AuditsFor text answer

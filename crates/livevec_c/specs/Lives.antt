@@ -1,10 +1,10 @@
 -- How vectors and boards behind slots begin, and how a board ends.
-use Rattle.std.specs.Prelude.{◌≡◌, ◌≢◌, ◌⊎◌, ◌<◌, ◌≤◌, ℕ, Option, Some, None, List, [], All, Any}
+use Rattle.std.specs.Prelude.{◌≡◌, ◌≢◌, ◌⊎◌, ◌<◌, ◌≤◌, ℕ, Bool, true, false, Option, Some, None, List, [], All, Any}
 use Rattle.lv_geometry.specs.Bounds.{AreAllowed, Bounds}
 use Rattle.lv_geometry.specs.declared.nodes.Node.{Node}
 use Rattle.lv_bodies.specs.declared.kinds.Kind.{Kind}
 use Rattle.lv_bodies.specs.Automata.{table_of}
-use Rattle.lv_bodies.specs.Plain.{plain_value}
+use Rattle.lv_bodies.specs.Plain.{plain_value, program_table}
 use Rattle.lv_edits.specs.Kept.{IsLegalInLimits}
 use Rattle.lv_live.specs.State.{recorded}
 use Rattle.lv_board.specs.Opening.{MayOpen}
@@ -39,31 +39,28 @@ abbrev pub OpensAt : Option Kind → Bounds → List (List ℕ) → ℕ → Opti
 OpensAt only limits table number new =
     ((number ≡ 6) × (new ≡ None)) ⊎ ((number ≡ 0) × ((object : Object) × (new ≡ Some object) × IsNewObject only limits table object))
 
--- a new vector for a slot, with an automaton that is known to be one
-abbrev pub Opens : List (List ℕ) → ℕ → ℕ → ℕ → Option Object → Option Object → Type 0
-Opens table buckets edits number (Some object) new = (number ≡ 104) × (new ≡ Some object)
-Opens table buckets edits number None new =
-    ((number ≡ 8) × (¬ AreAllowed buckets edits) × (new ≡ None))
-    ⊎ (AreAllowed buckets edits × OpensAt None (record { buckets = buckets; edits = edits }) table number new)
+-- the same by the program's automaton, or by one of a table that may have a wrong entry
+abbrev pub OpensBy : Option Kind → Option (List (List ℕ)) → Bounds → ℕ → Option Object → Type 0
+OpensBy only None limits number new = OpensAt only limits program_table number new
+OpensBy only (Some table) limits number new =
+    ((number ≡ 9) × Any (Any (λ q. 7 < q)) table × (new ≡ None)) ⊎ (All (All (λ q. q ≤ 7)) table × OpensAt only limits table number new)
 
--- the same of one kind, where what is asked for it may be none
-abbrev pub OpensOfKind : Option Kind → List (List ℕ) → ℕ → ℕ → ℕ → Option Object → Type 0
-OpensOfKind None table buckets edits number new = (number ≡ 113) × (new ≡ None)
-OpensOfKind (Some kind) table buckets edits number new =
-    ((number ≡ 8) × (¬ AreAllowed buckets edits) × (new ≡ None))
-    ⊎ (AreAllowed buckets edits × OpensAt (Some kind) (record { buckets = buckets; edits = edits }) table number new)
+-- which table is asked for
+abbrev pub table_asked : Bool → List (List ℕ) → Option (List (List ℕ))
+table_asked true table = Some table
+table_asked false table = None
 
-abbrev pub OpensOf : Option Kind → List (List ℕ) → ℕ → ℕ → ℕ → Option Object → Option Object → Type 0
-OpensOf kind table buckets edits number (Some object) new = (number ≡ 104) × (new ≡ Some object)
-OpensOf kind table buckets edits number None new = OpensOfKind kind table buckets edits number new
-
--- a new vector for a slot, with an automaton of a table that may have a wrong entry
-abbrev pub OpensWith : List (List ℕ) → ℕ → ℕ → ℕ → Option Object → Option Object → Type 0
-OpensWith table buckets edits number (Some object) new = (number ≡ 104) × (new ≡ Some object)
-OpensWith table buckets edits number None new =
+-- the same, where it may be of no kind, and have no limits
+abbrev pub OpensOf : Option (Option Kind) → Option (List (List ℕ)) → ℕ → ℕ → ℕ → Option Object → Type 0
+OpensOf None table buckets edits number new = (number ≡ 113) × (new ≡ None)
+OpensOf (Some only) table buckets edits number new =
     ((number ≡ 8) × (¬ AreAllowed buckets edits) × (new ≡ None))
-    ⊎ ((number ≡ 9) × AreAllowed buckets edits × Any (Any (λ q. 7 < q)) table × (new ≡ None))
-    ⊎ (AreAllowed buckets edits × All (All (λ q. q ≤ 7)) table × OpensAt None (record { buckets = buckets; edits = edits }) table number new)
+    ⊎ (AreAllowed buckets edits × OpensBy only table (record { buckets = buckets; edits = edits }) number new)
+
+-- a new vector for a slot
+abbrev pub Opens : Option (Option Kind) → Option (List (List ℕ)) → ℕ → ℕ → ℕ → Option Object → Option Object → Type 0
+Opens only table buckets edits number (Some object) new = (number ≡ 104) × (new ≡ Some object)
+Opens only table buckets edits number None new = OpensOf only table buckets edits number new
 
 -- ---- boards
 

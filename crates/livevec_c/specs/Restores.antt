@@ -109,16 +109,12 @@ RestoresIn only buckets edits text answer slot =
     ((answer ≡ unaudited 8) × (¬ AreAllowed buckets edits) × (slot ≡ None))
     ⊎ (AreAllowed buckets edits × RestoresAt only (record { buckets = buckets; edits = edits }) text answer slot)
 
--- a vector for a slot: of all six kinds
-abbrev pub Restores : ℕ → ℕ → List ℕ → Audited → Option Object → Option Object → Type 0
-Restores buckets edits text answer (Some object) new = (answer ≡ unaudited 104) × (new ≡ Some object)
-Restores buckets edits text answer None new = RestoresIn None buckets edits text answer new
+-- of one kind or of all six, where what is asked for may be neither
+abbrev pub RestoresOf : Option (Option Kind) → ℕ → ℕ → List ℕ → Audited → Option Object → Type 0
+RestoresOf None buckets edits text answer new = (answer ≡ unaudited 113) × (new ≡ None)
+RestoresOf (Some only) buckets edits text answer new = RestoresIn only buckets edits text answer new
 
--- of one kind, where what is asked for it may be none
-abbrev pub RestoresOfKind : Option Kind → ℕ → ℕ → List ℕ → Audited → Option Object → Type 0
-RestoresOfKind None buckets edits text answer new = (answer ≡ unaudited 113) × (new ≡ None)
-RestoresOfKind (Some kind) buckets edits text answer new = RestoresIn (Some kind) buckets edits text answer new
-
-abbrev pub RestoresOf : Option Kind → ℕ → ℕ → List ℕ → Audited → Option Object → Option Object → Type 0
-RestoresOf kind buckets edits text answer (Some object) new = (answer ≡ unaudited 104) × (new ≡ Some object)
-RestoresOf kind buckets edits text answer None new = RestoresOfKind kind buckets edits text answer new
+-- a vector for a slot
+abbrev pub Restores : Option (Option Kind) → ℕ → ℕ → List ℕ → Audited → Option Object → Option Object → Type 0
+Restores only buckets edits text answer (Some object) new = (answer ≡ unaudited 104) × (new ≡ Some object)
+Restores only buckets edits text answer None new = RestoresOf only buckets edits text answer new

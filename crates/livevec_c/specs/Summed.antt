@@ -3,6 +3,7 @@ use Rattle.std.specs.Prelude.{◌≡◌, ◌≤◌, ℕ, ℤ, false, Option, Som
 use Rattle.lv_geometry.specs.Numbers.{number_of}
 use Rattle.lv_geometry.specs.declared.refusals.Refusal.{Refusal}
 use Rattle.lv_bodies.specs.Automata.{table_of}
+use Rattle.lv_bodies.specs.Plain.{program_table}
 use Rattle.lv_bodies.specs.declared.kinds.Kind.{Kind}
 use Rattle.lv_edits.specs.Ranges.{range_refusal, slice_of}
 use Rattle.lv_shards.specs.Bytes.{bytes_of, version_of}
@@ -40,6 +41,11 @@ Reads bytes (Err Damaged) = (version_of bytes ≡ 1) × ((s : Summary) → IsPos
 pub record IsEmptyBy (table : List (List ℕ)) (answer : Summarised) : Type 0 where
   pub taken : All (All (λ q. q ≤ 7)) table → answer ≡ summarised (empty_of (leads_of table))
   pub refused : ¬ (All (All (λ q. q ≤ 7)) table) → answer ≡ unsummarised 9 0
+
+-- the same by a table that is asked for, or by the program's
+abbrev pub IsEmpty : Option (List (List ℕ)) → Summarised → Type 0
+IsEmpty None answer = answer ≡ summarised (empty_of (leads_of program_table))
+IsEmpty (Some table) answer = IsEmptyBy table answer
 
 -- the summary of a range of a vector after its last edit, or why the range is refused
 abbrev pub SumsRange : Option Refusal → ℕ → ℕ → Summarised → State → Type 0

@@ -1,13 +1,12 @@
 //! How a vector begins.
-ghost use Rattle.std.specs.Prelude.{◌≡◌, None, IfOk};
+ghost use Rattle.std.specs.Prelude.{◌≡◌, Some, None, IfOk};
 ghost use Rattle.lv_bodies.specs.Automata.{table_of};
-ghost use Rattle.lv_bodies.specs.Plain.{program_table};
-ghost use Rattle.livevec_c.specs.Kinds.{kind_at};
-ghost use Rattle.livevec_c.specs.Lives.{IsNewObject, Opens, OpensAt, OpensOf, OpensWith};
+ghost use Rattle.livevec_c.specs.Lives.{IsNewObject, Opens, OpensAt, OpensBy, table_asked};
+ghost use Rattle.livevec_c.specs.Only.{only_asked};
 
-use crate::boards::kind_of;
 use crate::kind_vectors::KindVector;
 use crate::objects::Object;
+use crate::only::only_of;
 use crate::results::{BAD_KIND, IN_USE, NO_MEMORY};
 use crate::slots::{Slot, is_full, put};
 use lv_bodies::{Automaton, Kind};
@@ -56,68 +55,64 @@ fn open(
     }
 }
 
-/// Puts a new vector with the program's automaton into an empty slot.
+// The same with an automaton of a table that may have a wrong entry.
+fn open_with(
+    alloc: Global,
+    slot: &mut Slot,
+    only: Option<Kind>,
+    limits: Limits,
+    table: &Table,
+) -> u32
+    requires { slot.old.raw.inner ≡ None }
+    ensures { OpensBy only (Some table.now.next) limits result slot.new.raw.inner }
+{
+    match Automaton::new(table.next) {
+        Err(refusal) => refusal.number(),
+        Ok(automaton) => open(alloc, slot, only, limits, automaton),
+    }
+}
+
+// The same, or with the program's.
+fn open_by(
+    alloc: Global,
+    slot: &mut Slot,
+    only: Option<Kind>,
+    limits: Limits,
+    by_table: bool,
+    table: &Table,
+) -> u32
+    requires { slot.old.raw.inner ≡ None }
+    ensures { OpensBy only (table_asked by_table table.now.next) limits result slot.new.raw.inner }
+{
+    if by_table {
+        open_with(alloc, slot, only, limits, table)
+    } else {
+        open(alloc, slot, only, limits, Automaton::program())
+    }
+}
+
+/// Puts a new vector into an empty slot, of all six kinds or of the one of a number. Its automaton is the program's, or has this table.
 #[unsafe(no_mangle)]
 pub extern "C" fn livevec_proved_new(
     alloc: Global,
     slot: &mut Slot,
-    buckets: u32,
-    edits: u32,
-) -> u32
-    ensures { Opens program_table buckets edits result slot.old.raw.inner slot.new.raw.inner }
-{
-    if is_full(slot) {
-        return IN_USE;
-    }
-    match Limits::new(buckets, edits) {
-        Err(refusal) => refusal.number(),
-        Ok(limits) => open(alloc, slot, None, limits, Automaton::program()),
-    }
-}
-
-/// Puts a new vector that is of one kind into an empty slot.
-#[unsafe(no_mangle)]
-pub extern "C" fn livevec_proved_new_of(
-    alloc: Global,
-    slot: &mut Slot,
+    six: bool,
     kind: u32,
     buckets: u32,
     edits: u32,
+    by_table: bool,
+    table: &Table,
 ) -> u32
-    ensures { OpensOf (kind_at kind) program_table buckets edits result slot.old.raw.inner slot.new.raw.inner }
+    ensures { Opens (only_asked six kind) (table_asked by_table table.now.next) buckets edits result slot.old.raw.inner slot.new.raw.inner }
 {
     if is_full(slot) {
         return IN_USE;
     }
-    let Some(kind) = kind_of(kind) else {
+    let Some(only) = only_of(six, kind) else {
         return BAD_KIND;
     };
     match Limits::new(buckets, edits) {
         Err(refusal) => refusal.number(),
-        Ok(limits) => open(alloc, slot, Some(kind), limits, Automaton::program()),
-    }
-}
-
-/// Puts a new vector with an automaton of this table into an empty slot.
-#[unsafe(no_mangle)]
-pub extern "C" fn livevec_proved_new_with_table(
-    alloc: Global,
-    slot: &mut Slot,
-    buckets: u32,
-    edits: u32,
-    table: &Table,
-) -> u32
-    ensures { OpensWith table.now.next buckets edits result slot.old.raw.inner slot.new.raw.inner }
-{
-    if is_full(slot) {
-        return IN_USE;
-    }
-    let limits = match Limits::new(buckets, edits) {
-        Err(refusal) => return refusal.number(),
-        Ok(limits) => limits,
-    };
-    match Automaton::new(table.next) {
-        Err(refusal) => refusal.number(),
-        Ok(automaton) => open(alloc, slot, None, limits, automaton),
+        Ok(limits) => open_by(alloc, slot, only, limits, by_table, table),
     }
 }

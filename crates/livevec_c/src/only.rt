@@ -1,8 +1,9 @@
-//! A vector of one kind: by which kinds it may be asked.
+//! A vector of one kind, or of all six: by which kinds it may be asked.
 ghost use Rattle.std.specs.Prelude.{◌≡◌, nat_eq};
 ghost use Rattle.livevec_c.specs.Kinds.{number_of_kind};
-ghost use Rattle.livevec_c.specs.Only.{is_asked_by};
+ghost use Rattle.livevec_c.specs.Only.{is_asked_by, only_asked};
 
+use crate::boards::kind_of;
 use lv_bodies::Kind;
 
 /// The number of a kind.
@@ -34,5 +35,18 @@ pub fn may_ask(only: Option<Kind>, asked: Option<Kind>) -> bool
         (None, _) => true,
         (Some(_), None) => false,
         (Some(only), Some(kind)) => is_same(only, kind),
+    }
+}
+
+/// What a vector is to be of: all six kinds, or the one of a number; nothing where it is no number of these.
+pub fn only_of(six: bool, kind: u32) -> Option<Option<Kind>>
+    ensures { result ≡ only_asked six kind }
+{
+    if six {
+        return Some(None);
+    }
+    match kind_of(kind) {
+        None => None,
+        Some(kind) => Some(Some(kind)),
     }
 }

@@ -3,13 +3,13 @@ ghost use Rattle.std.specs.Prelude.{◌≡◌, None};
 ghost use Rattle.lv_edits.specs.Kept.{IsLegalInLimits};
 ghost use Rattle.lv_live.specs.State.{SameRefresh};
 ghost use Rattle.lv_transcript.specs.ReadTexts.{FindsFront};
-ghost use Rattle.livevec_c.specs.Kinds.{kind_at};
-ghost use Rattle.livevec_c.specs.Restores.{PlacesRemade, Remakes, RemakesObject, RemakesState, Restores, RestoresAt, RestoresEdits, RestoresFront, RestoresIn, RestoresOf, restored_by};
+ghost use Rattle.livevec_c.specs.Only.{only_asked};
+ghost use Rattle.livevec_c.specs.Restores.{PlacesRemade, Remakes, RemakesObject, RemakesState, Restores, RestoresAt, RestoresEdits, RestoresFront, RestoresIn, restored_by};
 
-use crate::boards::kind_of;
 use crate::kind_vectors::KindVector;
 use crate::lifetimes::new_vector;
 use crate::objects::Object;
+use crate::only::only_of;
 use crate::results::{BAD_KIND, IN_USE, detail};
 use crate::slots::{Slot, is_full, put};
 use crate::transcript_audits::{Audited, front_answer, front_refused, not_audited, unread_number};
@@ -179,40 +179,24 @@ fn restore_within(
     }
 }
 
-/// Puts a vector with the edits of a front into an empty slot.
+/// Puts a vector with the edits of a front into an empty slot, of all six kinds or of the one of a number.
 #[unsafe(no_mangle)]
 pub extern "C" fn livevec_proved_restore(
     alloc: Global,
     slot: &mut Slot,
-    buckets: u32,
-    edits: u32,
-    text: &[u8],
-) -> Audited
-    ensures { Restores buckets edits text.now result slot.old.raw.inner slot.new.raw.inner }
-{
-    if is_full(slot) {
-        return not_audited(IN_USE);
-    }
-    restore_within(alloc, slot, None, buckets, edits, text)
-}
-
-/// The same of one kind.
-#[unsafe(no_mangle)]
-pub extern "C" fn livevec_proved_restore_of(
-    alloc: Global,
-    slot: &mut Slot,
+    six: bool,
     kind: u32,
     buckets: u32,
     edits: u32,
     text: &[u8],
 ) -> Audited
-    ensures { RestoresOf (kind_at kind) buckets edits text.now result slot.old.raw.inner slot.new.raw.inner }
+    ensures { Restores (only_asked six kind) buckets edits text.now result slot.old.raw.inner slot.new.raw.inner }
 {
     if is_full(slot) {
         return not_audited(IN_USE);
     }
-    let Some(kind) = kind_of(kind) else {
+    let Some(only) = only_of(six, kind) else {
         return not_audited(BAD_KIND);
     };
-    restore_within(alloc, slot, Some(kind), buckets, edits, text)
+    restore_within(alloc, slot, only, buckets, edits, text)
 }

@@ -3,7 +3,8 @@ ghost use Rattle.std.specs.Prelude.{◌≡◌, Ok, take, min};
 ghost use Rattle.lv_bodies.specs.Plain.{program_table};
 ghost use Rattle.lv_edits.specs.Ranges.{range_refusal};
 ghost use Rattle.lv_shards.specs.Summaries.{empty_of, leads_of};
-ghost use Rattle.livevec_c.specs.Summed.{Extends, ExtendsRead, IsEmptyBy, Joins, JoinsWith, OpensBytes, Reads, Sums, SumsBy, SumsObject, SumsRange, joined_answer, opened_by, summarised, unread, unsummarised};
+ghost use Rattle.livevec_c.specs.Lives.{table_asked};
+ghost use Rattle.livevec_c.specs.Summed.{Extends, ExtendsRead, IsEmpty, IsEmptyBy, Joins, JoinsWith, OpensBytes, Reads, Sums, SumsBy, SumsObject, SumsRange, joined_answer, opened_by, summarised, unread, unsummarised};
 
 use crate::lifetimes::Table;
 use crate::objects::Object;
@@ -120,22 +121,32 @@ fn read(bytes: &SummaryBytes) -> Result<ShardSummary, ReadRefusal>
     ShardSummary::from_bytes(&bytes.bytes)
 }
 
-/// The summary of no elements, by the program's automaton.
-#[unsafe(no_mangle)]
-pub extern "C" fn livevec_proved_summary_empty() -> Summarised
+// The summary of no elements, by the program's automaton.
+fn empty_by_program() -> Summarised
     ensures { result ≡ summarised (empty_of (leads_of program_table)) }
 {
     summary_answer(&ShardSummary::empty(Automaton::program()))
 }
 
-/// The same, by an automaton of this table.
-#[unsafe(no_mangle)]
-pub extern "C" fn livevec_proved_summary_empty_with_table(table: &Table) -> Summarised
+// The same, by an automaton of this table.
+fn empty_by_table(table: &Table) -> Summarised
     ensures { IsEmptyBy table.now.next result }
 {
     match Automaton::new(table.next) {
         Err(_) => not_summarised(BAD_TABLE, 0),
         Ok(automaton) => summary_answer(&ShardSummary::empty(automaton)),
+    }
+}
+
+/// The summary of no elements, by the program's automaton, or by one of this table.
+#[unsafe(no_mangle)]
+pub extern "C" fn livevec_proved_summary_empty(by_table: bool, table: &Table) -> Summarised
+    ensures { IsEmpty (table_asked by_table table.now.next) result }
+{
+    if by_table {
+        empty_by_table(table)
+    } else {
+        empty_by_program()
     }
 }
 

@@ -1,6 +1,6 @@
 //! Audits of a transcript's text, or of a front's, that lies in memory of the caller's.
 ghost use Rattle.std.specs.Prelude.{◌≡◌};
-ghost use Rattle.livevec_c.specs.Audits.{AuditsFrontFor, AuditsFor, fronted_by, no_front, unaudited, unread_number, verdict_for};
+ghost use Rattle.livevec_c.specs.Audits.{Audits, AuditsFrontFor, AuditsFor, fronted_by, no_front, unaudited, unread_number, verdict_for};
 
 use crate::results::NO_MEMORY;
 use lv_transcript::{FrontVerdict, Unread, Verdict, audit_front_text, audit_text};
@@ -94,9 +94,8 @@ pub fn unread_number(why: Unread) -> u32
     }
 }
 
-/// Audits bytes as a transcript.
-#[unsafe(no_mangle)]
-pub extern "C" fn livevec_proved_audit(alloc: Global, text: &[u8]) -> Audited
+// Audits bytes as a transcript.
+fn audit_whole(alloc: Global, text: &[u8]) -> Audited
     ensures { AuditsFor text.now result }
 {
     match audit_text(alloc, text) {
@@ -105,13 +104,24 @@ pub extern "C" fn livevec_proved_audit(alloc: Global, text: &[u8]) -> Audited
     }
 }
 
-/// Audits bytes as a front of a transcript.
-#[unsafe(no_mangle)]
-pub extern "C" fn livevec_proved_audit_front(alloc: Global, text: &[u8]) -> Audited
+// Audits bytes as a front of a transcript.
+fn audit_front(alloc: Global, text: &[u8]) -> Audited
     ensures { AuditsFrontFor text.now result }
 {
     match audit_front_text(alloc, text) {
         Ok(verdict) => front_answer(verdict),
         Err(why) => not_audited(unread_number(why)),
+    }
+}
+
+/// Audits bytes as a transcript, or as a front of one.
+#[unsafe(no_mangle)]
+pub extern "C" fn livevec_proved_audit(alloc: Global, text: &[u8], front: bool) -> Audited
+    ensures { Audits front text.now result }
+{
+    if front {
+        audit_front(alloc, text)
+    } else {
+        audit_whole(alloc, text)
     }
 }

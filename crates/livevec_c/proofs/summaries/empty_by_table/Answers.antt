@@ -1,8 +1,8 @@
--- Proof of `livevec_proved_summary_empty_with_table`.
+-- Proof of `empty_by_table`.
 use Rattle.std.proofs.Common.{◌≡◌, true, false, refl, ap, ◌∙◌}
 use Rattle.lv_shards.specs.Summaries.{empty_of, leads_of}
 use Rattle.livevec_c.specs.Summed.{summarised}
-use Rattle.livevec_c.proofs.summaries.livevec_proved_summary_empty_with_table.Goals as goal
+use Rattle.livevec_c.proofs.summaries.empty_by_table.Goals as goal
 
 pub returns-in-Err : goal.returns-in-Err
 returns-in-Err c = record {
