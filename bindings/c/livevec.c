@@ -59,9 +59,9 @@ ENTERED(uint32_t, AS_NUMBER, new_of, (livevec_vector *slot, uint32_t kind, uint3
         new(slot, false, kind, buckets, edits, false, &(livevec_table){{{0}}}))
 ENTERED(uint32_t, AS_NUMBER, new_with_table, (livevec_vector *slot, uint32_t buckets, uint32_t edits, const livevec_table *table),
         THERE(slot && table), slot, enter, new(slot, true, 0, buckets, edits, true, table))
-ANSWERED(livevec_edited, push, (livevec_vector *slot, int64_t value), slot, (slot, value))
-ANSWERED(livevec_edited, write, (livevec_vector *slot, uint32_t index, int64_t value), slot, (slot, index, value))
 livevec_edited livevec_proved_edit(livevec_vector *slot, uint32_t what, uint32_t index, uint32_t second, int64_t value);
+EDITED(livevec_edited, push, (livevec_vector *slot, int64_t value), edit(slot, LIVEVEC_PUSH, 0, 0, value))
+EDITED(livevec_edited, write, (livevec_vector *slot, uint32_t index, int64_t value), edit(slot, LIVEVEC_WRITE, index, 0, value))
 EDITED(livevec_edited, pop, (livevec_vector *slot), edit(slot, LIVEVEC_POP, 0, 0, 0))
 EDITED(livevec_edited, reserve, (livevec_vector *slot, uint32_t elements), edit(slot, LIVEVEC_RESERVE, elements, 0, 0))
 EDITED(livevec_edited, swap, (livevec_vector *slot, uint32_t first, uint32_t second), edit(slot, LIVEVEC_SWAP, first, second, 0))

@@ -3,12 +3,10 @@
 
 /* What samples and a series have in common is done at `values`. The proved exports know one type of slot. */
 uint32_t livevec_proved_samples_new(livevec_series *slot);
-livevec_series_edited livevec_proved_samples_push(livevec_series *slot, int64_t time, int64_t value);
-livevec_series_edited livevec_proved_samples_expire_before(livevec_series *slot, int64_t time);
+livevec_series_edited livevec_proved_samples_edit(livevec_series *slot, bool expires, int64_t time, int64_t value);
 livevec_sample livevec_proved_series_get(livevec_series *slot, uint64_t index, bool timed);
-livevec_series_scanned livevec_proved_samples_times(livevec_series *slot, uint64_t lo, uint64_t hi, int64_t *buffer, size_t length);
-livevec_window livevec_proved_samples_between(livevec_series *slot, int64_t since, int64_t until);
-livevec_window livevec_proved_samples_last(livevec_series *slot, uint64_t span);
+livevec_series_scanned livevec_proved_series_read(livevec_series *slot, bool times, uint64_t lo, uint64_t hi, int64_t *buffer, size_t length);
+livevec_window livevec_proved_samples_window(livevec_series *slot, bool last, int64_t since, int64_t until, uint64_t span);
 livevec_series_reduced livevec_proved_series_value(livevec_series *slot, uint32_t kind, uint64_t lo, uint64_t hi);
 livevec_series_scanned livevec_proved_series_save(livevec_series *slot, uint64_t from, uint8_t *buffer, size_t length);
 uint32_t livevec_proved_series_begin_load(livevec_series *slot);
@@ -21,15 +19,15 @@ uint32_t livevec_proved_series_end_load(livevec_series *slot, bool timed);
 AT_VALUES(uint32_t, AS_NUMBER, samples_new, (livevec_samples *slot), enter, samples_new(&slot->values))
 AT_VALUES(uint32_t, AS_NUMBER, free_samples, (livevec_samples *slot), enter, free(&slot->values, A_SERIES))
 AT_VALUES(livevec_series_edited, AS_STRUCT, samples_push, (livevec_samples *slot, int64_t time, int64_t value),
-          enter, samples_push(&slot->values, time, value))
+          enter, samples_edit(&slot->values, false, time, value))
 AT_VALUES(livevec_series_edited, AS_STRUCT, samples_expire_before, (livevec_samples *slot, int64_t time),
-          enter, samples_expire_before(&slot->values, time))
+          enter, samples_edit(&slot->values, true, time, 0))
 AT_VALUES(livevec_sample, AS_STRUCT, samples_get, (livevec_samples *slot, uint64_t index), enter_to_read, series_get(&slot->values, index, true))
 AT_VALUES(livevec_window, AS_STRUCT, samples_between, (livevec_samples *slot, int64_t since, int64_t until),
-          enter_to_read, samples_between(&slot->values, since, until))
-AT_VALUES(livevec_window, AS_STRUCT, samples_last, (livevec_samples *slot, uint64_t span), enter_to_read, samples_last(&slot->values, span))
+          enter_to_read, samples_window(&slot->values, false, since, until, 0))
+AT_VALUES(livevec_window, AS_STRUCT, samples_last, (livevec_samples *slot, uint64_t span), enter_to_read, samples_window(&slot->values, true, 0, 0, span))
 ENTERED(livevec_series_scanned, AS_STRUCT, samples_times, (livevec_samples *slot, uint64_t lo, uint64_t hi, int64_t *buffer, size_t length),
-        first_of(THERE(slot), ARRAY(buffer, length)), &slot->values, enter_to_read, samples_times(&slot->values, lo, hi, buffer ? buffer : &(int64_t){0}, length))
+        first_of(THERE(slot), ARRAY(buffer, length)), &slot->values, enter_to_read, series_read(&slot->values, true, lo, hi, buffer ? buffer : &(int64_t){0}, length))
 
 livevec_series_many livevec_samples_push_many(livevec_samples *slot, const int64_t *times, const int64_t *values, size_t length)
 {
@@ -39,10 +37,10 @@ livevec_series_many livevec_samples_push_many(livevec_samples *slot, const int64
     if (!enter(&slot->values.busy_))
         return (livevec_series_many){.refusal = LIVEVEC_BUSY};
     LEAVES(left, (&slot->values));
-    livevec_window none = livevec_proved_samples_last(&slot->values, 0);
+    livevec_window none = livevec_proved_samples_window(&slot->values, true, 0, 0, 0);
     livevec_series_many answer = {.refusal = none.refusal, .edit = none.edit};
     for (; !answer.refusal && answer.done < length; answer.done++) {
-        livevec_series_edited pushed = livevec_proved_samples_push(&slot->values, times[answer.done], values[answer.done]);
+        livevec_series_edited pushed = livevec_proved_samples_edit(&slot->values, false, times[answer.done], values[answer.done]);
         if (pushed.refusal) {
             answer.refusal = pushed.refusal;
             answer.place = answer.done;
@@ -68,7 +66,7 @@ livevec_series_reduced livevec_samples_value(livevec_samples *slot, uint32_t kin
     if (!enter_to_read(&slot->values.busy_))
         return (livevec_series_reduced){.refusal = LIVEVEC_BUSY};
     LEAVES(left, (&slot->values));
-    return value_in(&slot->values, kind, livevec_proved_samples_between(&slot->values, since, until));
+    return value_in(&slot->values, kind, livevec_proved_samples_window(&slot->values, false, since, until, 0));
 }
 
 livevec_series_reduced livevec_samples_value_of_last(livevec_samples *slot, uint32_t kind, uint64_t span)
@@ -78,7 +76,7 @@ livevec_series_reduced livevec_samples_value_of_last(livevec_samples *slot, uint
     if (!enter_to_read(&slot->values.busy_))
         return (livevec_series_reduced){.refusal = LIVEVEC_BUSY};
     LEAVES(left, (&slot->values));
-    return value_in(&slot->values, kind, livevec_proved_samples_last(&slot->values, span));
+    return value_in(&slot->values, kind, livevec_proved_samples_window(&slot->values, true, 0, 0, span));
 }
 
 /* As bytes. */

@@ -3,11 +3,11 @@
 
 TOLD(series_new, (livevec_series *slot), slot, (slot))
 FREED(free_series, livevec_series, A_SERIES)
-ANSWERED(livevec_series_edited, series_push, (livevec_series *slot, int64_t value), slot, (slot, value))
-ANSWERED(livevec_series_edited, series_write, (livevec_series *slot, uint64_t index, int64_t value), slot, (slot, index, value))
 /* An expiry is no livevec_edit_kind. */
 enum { EXPIRE = 7 };
 livevec_series_edited livevec_proved_series_edit(livevec_series *slot, uint32_t what, uint64_t index, uint64_t second, int64_t value);
+EDITED(livevec_series_edited, series_push, (livevec_series *slot, int64_t value), series_edit(slot, LIVEVEC_PUSH, 0, 0, value))
+EDITED(livevec_series_edited, series_write, (livevec_series *slot, uint64_t index, int64_t value), series_edit(slot, LIVEVEC_WRITE, index, 0, value))
 EDITED(livevec_series_edited, series_pop, (livevec_series *slot), series_edit(slot, LIVEVEC_POP, 0, 0, 0))
 EDITED(livevec_series_edited, series_swap, (livevec_series *slot, uint64_t first, uint64_t second), series_edit(slot, LIVEVEC_SWAP, first, second, 0))
 EDITED(livevec_series_edited, series_truncate, (livevec_series *slot, uint64_t size), series_edit(slot, LIVEVEC_TRUNCATE, size, 0, 0))
@@ -36,7 +36,7 @@ livevec_series_element livevec_series_get(livevec_series *slot, uint64_t index)
 
 /* Of arrays a proved call is never given a null pointer: where there are no places, they begin anywhere. */
 livevec_series_pushed livevec_proved_series_push_all(livevec_series *slot, const int64_t *values, size_t length);
-livevec_series_scanned livevec_proved_series_read(livevec_series *slot, uint64_t lo, uint64_t hi, int64_t *buffer, size_t length);
+livevec_series_scanned livevec_proved_series_read(livevec_series *slot, bool times, uint64_t lo, uint64_t hi, int64_t *buffer, size_t length);
 
 livevec_series_pushed livevec_series_push_many(livevec_series *slot, const int64_t *values, size_t length)
 {
@@ -75,7 +75,7 @@ livevec_series_scanned livevec_series_read(livevec_series *slot, uint64_t lo, ui
     if (!enter_to_read(&slot->busy_))
         return (livevec_series_scanned){.refusal = LIVEVEC_BUSY};
     LEAVES(left, slot);
-    return livevec_proved_series_read(slot, lo, hi, buffer ? buffer : &nowhere, length);
+    return livevec_proved_series_read(slot, false, lo, hi, buffer ? buffer : &nowhere, length);
 }
 
 /* The elements that a proved call lends. It is given some to begin with, of which there are none. */

@@ -17,7 +17,7 @@ use Rattle.livevec_c.specs.declared.series_results.SeriesScanned.{SeriesScanned}
 use Rattle.livevec_c.specs.SeriesAnswers.{granted, long_scanned, refused_by, unedited_by, unelement, unheld, unscanned_by}
 use Rattle.livevec_c.specs.SeriesBehind.{EditsSamples, element_in}
 use Rattle.livevec_c.specs.SeriesHeld.{Opens, series_in}
-use Rattle.livevec_c.specs.SeriesPieces.{put_there}
+use Rattle.livevec_c.specs.SeriesPieces.{put_in, put_there, read_in}
 
 -- no samples, by an automaton of this table
 abbrev pub IsNewSamples : List (List ℕ) → Object → Type 0
@@ -27,27 +27,20 @@ IsNewSamples table object = object ≡ Samples (plain_samples table [])
 abbrev pub OpensSamples : List (List ℕ) → ℕ → Option Object → Option Object → Type 0
 OpensSamples table number old new = Opens (IsNewSamples table) number old new
 
--- an edit of an object: of samples only
-abbrev pub SamplesObject : SampleEdit → SeriesEdited → Object → Object → Type 0
-SamplesObject edit answer (Samples old) new = (state : SamplesState) × (new ≡ Samples state) × EditsSamples edit answer old state
-SamplesObject edit answer other new = (answer ≡ unedited_by unheld) × (new ≡ other)
+-- an edit of samples: a push, or an expiry of those that were taken before a time
+abbrev pub sample_edit : Bool → ℤ → ℤ → SamplesState → SampleEdit
+sample_edit true time x s = sampled.Expire (s.series.held.first + count_before time s.times)
+sample_edit false time x s = sampled.Push time x
+
+-- of an object: of samples only
+abbrev pub SamplesObject : Bool → ℤ → ℤ → SeriesEdited → Object → Object → Type 0
+SamplesObject expires time x answer (Samples old) new = (state : SamplesState) × (new ≡ Samples state) × EditsSamples (sample_edit expires time x old) answer old state
+SamplesObject expires time x answer other new = (answer ≡ unedited_by unheld) × (new ≡ other)
 
 -- of what lies behind a slot
-abbrev pub SamplesEdited : SampleEdit → SeriesEdited → Option Object → Option Object → Type 0
-SamplesEdited edit answer None new = (answer ≡ unedited_by unheld) × (new ≡ None)
-SamplesEdited edit answer (Some old) new = (object : Object) × (new ≡ Some object) × SamplesObject edit answer old object
-
--- those that were taken before a time expire
-abbrev pub expiry_before : ℤ → SamplesState → SampleEdit
-expiry_before time s = sampled.Expire (s.series.held.first + count_before time s.times)
-
-abbrev pub ExpiresObject : ℤ → SeriesEdited → Object → Object → Type 0
-ExpiresObject time answer (Samples old) new = (state : SamplesState) × (new ≡ Samples state) × EditsSamples (expiry_before time old) answer old state
-ExpiresObject time answer other new = (answer ≡ unedited_by unheld) × (new ≡ other)
-
-abbrev pub ExpiresBefore : ℤ → SeriesEdited → Option Object → Option Object → Type 0
-ExpiresBefore time answer None new = (answer ≡ unedited_by unheld) × (new ≡ None)
-ExpiresBefore time answer (Some old) new = (object : Object) × (new ≡ Some object) × ExpiresObject time answer old object
+abbrev pub SamplesEdited : Bool → ℤ → ℤ → SeriesEdited → Option Object → Option Object → Type 0
+SamplesEdited expires time x answer None new = (answer ≡ unedited_by unheld) × (new ≡ None)
+SamplesEdited expires time x answer (Some old) new = (object : Object) × (new ≡ Some object) × SamplesObject expires time x answer old object
 
 -- the sample under an index
 abbrev pub sample_told : Result Sample LongRefusal → SampleElement
@@ -75,37 +68,42 @@ abbrev pub TellsWindow : ℕ → Result Window LongRefusal → SampleWindow → 
 TellsWindow edit (Ok w) answer = answer ≡ record { refusal = 0; edit = edit; lo = w.lo; hi = w.hi }
 TellsWindow edit (Err refusal) answer = answer ≡ unwindowed (number_of refusal)
 
--- of those between two times
-abbrev pub WindowsIn : ℤ → ℤ → SampleWindow → Object → Type 0
-WindowsIn since until answer (Samples s) = (r : Result Window LongRefusal) × TellsWindow s.series.edits r answer × AnswersWindow s since until r
-WindowsIn since until answer other = answer ≡ unwindowed 101
+-- of those between two times, or of the last so much time
+abbrev pub WindowOf : Bool → ℤ → ℤ → ℕ → SampleWindow → SamplesState → Type 0
+WindowOf true since until span answer s = (w : Window) × TellsWindow s.series.edits (Ok w) answer × IsWindowOf s (is_among_last (newest_of s.times) span) w.lo w.hi
+WindowOf false since until span answer s = (r : Result Window LongRefusal) × TellsWindow s.series.edits r answer × AnswersWindow s since until r
 
-abbrev pub WindowsBehind : ℤ → ℤ → SampleWindow → Option Object → Type 0
-WindowsBehind since until answer None = answer ≡ unwindowed 101
-WindowsBehind since until answer (Some object) = WindowsIn since until answer object
+abbrev pub WindowsIn : Bool → ℤ → ℤ → ℕ → SampleWindow → Object → Type 0
+WindowsIn last since until span answer (Samples s) = WindowOf last since until span answer s
+WindowsIn last since until span answer other = answer ≡ unwindowed 101
 
--- of those of the last so much time
-abbrev pub WindowOfLastIn : ℕ → SampleWindow → Object → Type 0
-WindowOfLastIn span answer (Samples s) = (w : Window) × TellsWindow s.series.edits (Ok w) answer × IsWindowOf s (is_among_last (newest_of s.times) span) w.lo w.hi
-WindowOfLastIn span answer other = answer ≡ unwindowed 101
-
-abbrev pub WindowOfLast : ℕ → SampleWindow → Option Object → Type 0
-WindowOfLast span answer None = answer ≡ unwindowed 101
-WindowOfLast span answer (Some object) = WindowOfLastIn span answer object
+abbrev pub WindowsBehind : Bool → ℤ → ℤ → ℕ → SampleWindow → Option Object → Type 0
+WindowsBehind last since until span answer None = answer ≡ unwindowed 101
+WindowsBehind last since until span answer (Some object) = WindowsIn last since until span answer object
 
 -- the times of a range of indices from its start on, as many as a buffer takes
 abbrev pub times_in : ℕ → ℕ → ℕ → Object → SeriesScanned
 times_in lo hi places (Samples s) = long_scanned (range_refused s.series.held lo hi) s.series.edits (min places (hi - lo))
 times_in lo hi places other = unscanned_by unheld
 
-abbrev pub times_behind : ℕ → ℕ → ℕ → Option Object → SeriesScanned
-times_behind lo hi places None = unscanned_by unheld
-times_behind lo hi places (Some object) = times_in lo hi places object
-
 abbrev pub times_put_in : ℕ → ℕ → List ℤ → Object → List ℤ
 times_put_in lo hi old (Samples s) = put_there (range_refused s.series.held lo hi) (min (length old) (hi - lo)) (times_of s lo (lo + min (length old) (hi - lo))) old
 times_put_in lo hi old other = old
 
-abbrev pub times_put_behind : ℕ → ℕ → List ℤ → Option Object → List ℤ
-times_put_behind lo hi old None = old
-times_put_behind lo hi old (Some object) = times_put_in lo hi old object
+-- these, or the elements
+abbrev pub told_in : Bool → ℕ → ℕ → ℕ → Object → SeriesScanned
+told_in true lo hi places object = times_in lo hi places object
+told_in false lo hi places object = read_in lo hi places (series_in object)
+
+abbrev pub told_put_in : Bool → ℕ → ℕ → List ℤ → Object → List ℤ
+told_put_in true lo hi old object = times_put_in lo hi old object
+told_put_in false lo hi old object = put_in lo hi old (series_in object)
+
+-- of what lies behind a slot
+abbrev pub told_behind : Bool → ℕ → ℕ → ℕ → Option Object → SeriesScanned
+told_behind times lo hi places None = unscanned_by unheld
+told_behind times lo hi places (Some object) = told_in times lo hi places object
+
+abbrev pub told_put_behind : Bool → ℕ → ℕ → List ℤ → Option Object → List ℤ
+told_put_behind times lo hi old None = old
+told_put_behind times lo hi old (Some object) = told_put_in times lo hi old object

@@ -1,8 +1,8 @@
 //! Samples: values with times that do not fall. Their values are a series, and answer as one.
 ghost use Rattle.std.specs.Prelude.{◌≡◌, IfOk, length};
 ghost use Rattle.lv_bodies.specs.Plain.{program_table};
-ghost use Rattle.lv_series.specs.declared.sample_edits.SampleEdit.TheVariants as sampled;
-ghost use Rattle.livevec_c.specs.SamplesBehind.{ExpiresBefore, ExpiresObject, IsNewSamples, OpensSamples, SamplesEdited, SamplesObject, TellsWindow, WindowOfLast, WindowOfLastIn, WindowsBehind, WindowsIn, sample_in, times_behind, times_in, times_put_behind, times_put_in, unwindowed};
+ghost use Rattle.livevec_c.specs.SamplesBehind.{IsNewSamples, OpensSamples, SamplesEdited, SamplesObject, TellsWindow, WindowOf, WindowsBehind, WindowsIn, sample_edit, sample_in, times_in, times_put_in, unwindowed};
+ghost use Rattle.livevec_c.specs.SeriesBehind.{EditsSamples};
 ghost use Rattle.livevec_c.specs.declared.objects.Object.TheVariants as objects;
 
 use crate::objects::Object;
@@ -52,59 +52,42 @@ pub extern "C" fn livevec_proved_samples_new(alloc: Global, slot: &mut Slot) -> 
     }
 }
 
-// A push at an object.
-fn push_object(object: &mut Object, time: i64, value: i64) -> SeriesEdited
-    ensures { SamplesObject (sampled.Push time value) result object.old object.new }
+// An edit of samples: a push, or an expiry of those that were taken before a time.
+fn edit_samples(samples: &mut Samples, expires: bool, time: i64, value: i64) -> SeriesEdited
+    ensures { EditsSamples (sample_edit expires time value samples.old) result samples.old samples.new }
+{
+    if expires {
+        sample_answer(samples.expire_before(time))
+    } else {
+        sample_answer(samples.push(time, value))
+    }
+}
+
+// The same of an object.
+fn edit_object(object: &mut Object, expires: bool, time: i64, value: i64) -> SeriesEdited
+    ensures { SamplesObject expires time value result object.old object.new }
 {
     match object {
-        Object::Samples(samples) => sample_answer(samples.push(time, value)),
+        Object::Samples(samples) => edit_samples(samples, expires, time, value),
         _ => not_edited(not_held()),
     }
 }
 
-/// Puts a sample at the end.
+/// Puts a sample at the end, or drops those that were taken before a time.
 #[unsafe(no_mangle)]
-pub extern "C" fn livevec_proved_samples_push(
+pub extern "C" fn livevec_proved_samples_edit(
     alloc: Global,
     slot: &mut Slot,
+    expires: bool,
     time: i64,
     value: i64,
 ) -> SeriesEdited
-    ensures { SamplesEdited (sampled.Push time value) result slot.old.raw.inner slot.new.raw.inner }
+    ensures { SamplesEdited expires time value result slot.old.raw.inner slot.new.raw.inner }
 {
     match take(alloc, slot) {
         None => not_edited(not_held()),
         Some(mut held) => {
-            let answer = push_object(&mut held, time, value);
-            put(slot, held);
-            answer
-        }
-    }
-}
-
-// An expiry at an object.
-fn expire_object(object: &mut Object, time: i64) -> SeriesEdited
-    ensures { ExpiresObject time result object.old object.new }
-{
-    match object {
-        Object::Samples(samples) => sample_answer(samples.expire_before(time)),
-        _ => not_edited(not_held()),
-    }
-}
-
-/// Drops the samples that were taken before a time.
-#[unsafe(no_mangle)]
-pub extern "C" fn livevec_proved_samples_expire_before(
-    alloc: Global,
-    slot: &mut Slot,
-    time: i64,
-) -> SeriesEdited
-    ensures { ExpiresBefore time result slot.old.raw.inner slot.new.raw.inner }
-{
-    match take(alloc, slot) {
-        None => not_edited(not_held()),
-        Some(mut held) => {
-            let answer = expire_object(&mut held, time);
+            let answer = edit_object(&mut held, expires, time, value);
             put(slot, held);
             answer
         }
@@ -155,61 +138,45 @@ fn window_answer(samples: &Samples, answer: Result<Window, LongRefusal>) -> Samp
     }
 }
 
-// The samples of an object between two times.
-fn between_of(object: &Object, since: i64, until: i64) -> SampleWindow
-    ensures { WindowsIn since until result object.now }
+// The samples from a time up to another, or of the last so much time.
+fn window_in(samples: &Samples, last: bool, since: i64, until: i64, span: u64) -> SampleWindow
+    ensures { WindowOf last since until span result samples.now }
+{
+    if last {
+        window_answer(samples, Ok(samples.last(span)))
+    } else {
+        window_answer(samples, samples.between(since, until))
+    }
+}
+
+// The same of an object.
+fn window_of(object: &Object, last: bool, since: i64, until: i64, span: u64) -> SampleWindow
+    ensures { WindowsIn last since until span result object.now }
 {
     match object {
-        Object::Samples(samples) => window_answer(samples, samples.between(since, until)),
+        Object::Samples(samples) => window_in(samples, last, since, until, span),
         _ => no_window(NO_HANDLE),
     }
 }
 
-/// The samples from a time up to another: one at `since` is among them, one at `until` isn't.
+/// The samples from a time up to another, one at `since` among them and none at `until`; or those of the last so much time, whose times are above
+/// that of the last sample less `span`.
 #[unsafe(no_mangle)]
-pub extern "C" fn livevec_proved_samples_between(
+pub extern "C" fn livevec_proved_samples_window(
     alloc: Global,
     slot: &mut Slot,
+    last: bool,
     since: i64,
     until: i64,
-) -> SampleWindow
-    ensures answer { WindowsBehind since until result slot.old.raw.inner }
-    ensures same { slot.new.raw.inner ≡ slot.old.raw.inner }
-{
-    match take(alloc, slot) {
-        None => no_window(NO_HANDLE),
-        Some(held) => {
-            let answer = between_of(&held, since, until);
-            put(slot, held);
-            answer
-        }
-    }
-}
-
-// The samples of an object of the last so much time.
-fn last_of(object: &Object, span: u64) -> SampleWindow
-    ensures { WindowOfLastIn span result object.now }
-{
-    match object {
-        Object::Samples(samples) => window_answer(samples, Ok(samples.last(span))),
-        _ => no_window(NO_HANDLE),
-    }
-}
-
-/// The samples of the last so much time: those whose times are above that of the last sample less `span`.
-#[unsafe(no_mangle)]
-pub extern "C" fn livevec_proved_samples_last(
-    alloc: Global,
-    slot: &mut Slot,
     span: u64,
 ) -> SampleWindow
-    ensures answer { WindowOfLast span result slot.old.raw.inner }
+    ensures answer { WindowsBehind last since until span result slot.old.raw.inner }
     ensures same { slot.new.raw.inner ≡ slot.old.raw.inner }
 {
     match take(alloc, slot) {
         None => no_window(NO_HANDLE),
         Some(held) => {
-            let answer = last_of(&held, span);
+            let answer = window_of(&held, last, since, until, span);
             put(slot, held);
             answer
         }
@@ -233,36 +200,13 @@ fn read_times(samples: &Samples, lo: u64, hi: u64, buffer: &mut [i64]) -> Series
     }
 }
 
-// The same of an object.
-fn times_of(object: &Object, lo: u64, hi: u64, buffer: &mut [i64]) -> SeriesScanned
+/// The same of an object.
+pub fn times_of(object: &Object, lo: u64, hi: u64, buffer: &mut [i64]) -> SeriesScanned
     ensures answer { result ≡ times_in lo hi (length buffer.old) object.now }
     ensures buffer { buffer.new ≡ times_put_in lo hi buffer.old object.now }
 {
     match object {
         Object::Samples(samples) => read_times(samples, lo, hi, buffer),
         _ => not_scanned(not_held()),
-    }
-}
-
-/// Puts the times of a range of indices into a buffer, from its start on, as many as it takes.
-#[unsafe(no_mangle)]
-pub extern "C" fn livevec_proved_samples_times(
-    alloc: Global,
-    slot: &mut Slot,
-    lo: u64,
-    hi: u64,
-    buffer: &mut [i64],
-) -> SeriesScanned
-    ensures answer { result ≡ times_behind lo hi (length buffer.old) slot.old.raw.inner }
-    ensures buffer { buffer.new ≡ times_put_behind lo hi buffer.old slot.old.raw.inner }
-    ensures same { slot.new.raw.inner ≡ slot.old.raw.inner }
-{
-    match take(alloc, slot) {
-        None => not_scanned(not_held()),
-        Some(held) => {
-            let answer = times_of(&held, lo, hi, buffer);
-            put(slot, held);
-            answer
-        }
     }
 }

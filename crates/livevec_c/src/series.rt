@@ -101,13 +101,9 @@ fn edit_held(alloc: Global, slot: &mut Slot, edit: LongEdit) -> SeriesEdited
     answer
 }
 
-/// Puts an element at the end.
-#[unsafe(no_mangle)]
-pub extern "C" fn livevec_proved_series_push(
-    alloc: Global,
-    slot: &mut Slot,
-    value: i64,
-) -> SeriesEdited
+// A push at what lies behind a slot, and a write.
+#[inline(always)]
+fn push_held(alloc: Global, slot: &mut Slot, value: i64) -> SeriesEdited
     ensures { EditsBehind (asked.Push value) result slot.old.raw.inner slot.new.raw.inner }
 {
     if !is_full(slot) {
@@ -119,14 +115,8 @@ pub extern "C" fn livevec_proved_series_push(
     answer
 }
 
-/// Overwrites the element under an index.
-#[unsafe(no_mangle)]
-pub extern "C" fn livevec_proved_series_write(
-    alloc: Global,
-    slot: &mut Slot,
-    index: u64,
-    value: i64,
-) -> SeriesEdited
+#[inline(always)]
+fn write_held(alloc: Global, slot: &mut Slot, index: u64, value: i64) -> SeriesEdited
     ensures { EditsBehind (asked.Write index value) result slot.old.raw.inner slot.new.raw.inner }
 {
     if !is_full(slot) {
@@ -138,7 +128,7 @@ pub extern "C" fn livevec_proved_series_write(
     answer
 }
 
-/// Makes an edit by its number.
+/// Makes an edit by its number. Pushes and writes come most, and less is told apart for them.
 #[unsafe(no_mangle)]
 pub extern "C" fn livevec_proved_series_edit(
     alloc: Global,
@@ -150,6 +140,12 @@ pub extern "C" fn livevec_proved_series_edit(
 ) -> SeriesEdited
     ensures { EditsBehindBy (long_edit_at what index second value) result slot.old.raw.inner slot.new.raw.inner }
 {
+    if what == 1 {
+        return push_held(alloc, slot, value);
+    }
+    if what == 3 {
+        return write_held(alloc, slot, index, value);
+    }
     match long_edit_of(what, index, second, value) {
         None => not_edited(not_held()),
         Some(edit) => edit_held(alloc, slot, edit),

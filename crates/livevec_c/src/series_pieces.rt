@@ -1,10 +1,12 @@
-//! Elements of a series, put into a buffer of the caller's, as many as it takes.
+//! Elements of a series, or times of samples, put into a buffer of the caller's, as many as it takes.
 ghost use Rattle.std.specs.Prelude.{◌≡◌, ◌++◌, ◌≤◌, drop, length};
 ghost use Rattle.livevec_c.specs.SeriesAnswers.{granted};
-ghost use Rattle.livevec_c.specs.SeriesHeld.{series_behind, series_in};
+ghost use Rattle.livevec_c.specs.SamplesBehind.{told_behind, told_in, told_put_behind, told_put_in};
+ghost use Rattle.livevec_c.specs.SeriesHeld.{series_in};
 ghost use Rattle.livevec_c.specs.SeriesPieces.{elements_put, elements_read, put_in, read_in};
 
 use crate::objects::Object;
+use crate::samples::times_of;
 use crate::series_held::series_of;
 use crate::series_results::{SeriesScanned, not_held, not_refused, not_scanned, refusal_answer};
 use crate::slots::{Slot, put, take};
@@ -56,23 +58,36 @@ fn read_of(object: &Object, lo: u64, hi: u64, buffer: &mut [i64]) -> SeriesScann
     }
 }
 
-/// Puts the elements of a range into a buffer, from its start on, as many as it takes.
+// The same, or the times of samples.
+fn told_of(object: &Object, times: bool, lo: u64, hi: u64, buffer: &mut [i64]) -> SeriesScanned
+    ensures answer { result ≡ told_in times lo hi (length buffer.old) object.now }
+    ensures buffer { buffer.new ≡ told_put_in times lo hi buffer.old object.now }
+{
+    if times {
+        times_of(object, lo, hi, buffer)
+    } else {
+        read_of(object, lo, hi, buffer)
+    }
+}
+
+/// Puts the elements of a range into a buffer, from its start on, as many as it takes, or the times of samples.
 #[unsafe(no_mangle)]
 pub extern "C" fn livevec_proved_series_read(
     alloc: Global,
     slot: &mut Slot,
+    times: bool,
     lo: u64,
     hi: u64,
     buffer: &mut [i64],
 ) -> SeriesScanned
-    ensures answer { result ≡ read_in lo hi (length buffer.old) (series_behind slot.old.raw.inner) }
-    ensures buffer { buffer.new ≡ put_in lo hi buffer.old (series_behind slot.old.raw.inner) }
+    ensures answer { result ≡ told_behind times lo hi (length buffer.old) slot.old.raw.inner }
+    ensures buffer { buffer.new ≡ told_put_behind times lo hi buffer.old slot.old.raw.inner }
     ensures same { slot.new.raw.inner ≡ slot.old.raw.inner }
 {
     match take(alloc, slot) {
         None => not_scanned(not_held()),
         Some(held) => {
-            let answer = read_of(&held, lo, hi, buffer);
+            let answer = told_of(&held, times, lo, hi, buffer);
             put(slot, held);
             answer
         }

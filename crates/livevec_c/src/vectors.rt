@@ -61,22 +61,9 @@ fn edit_held(alloc: Global, slot: &mut Slot, edit: Edit) -> Edited
     answer
 }
 
-/// Puts an element at the end.
-#[unsafe(no_mangle)]
-pub extern "C" fn livevec_proved_push(alloc: Global, slot: &mut Slot, value: i64) -> Edited
-    ensures { Edits (asked.Push value) result slot.old.raw.inner slot.new.raw.inner }
-{
-    edit_held(alloc, slot, Edit::Push(value))
-}
-
-/// Overwrites the element at an index.
-#[unsafe(no_mangle)]
-pub extern "C" fn livevec_proved_write(
-    alloc: Global,
-    slot: &mut Slot,
-    index: u32,
-    value: i64,
-) -> Edited
+// A write at what lies behind a slot.
+#[inline(always)]
+fn write_held(alloc: Global, slot: &mut Slot, index: u32, value: i64) -> Edited
     ensures { Edits (asked.Write index value) result slot.old.raw.inner slot.new.raw.inner }
 {
     if !is_full(slot) {
@@ -88,7 +75,7 @@ pub extern "C" fn livevec_proved_write(
     answer
 }
 
-/// Makes an edit by its number.
+/// Makes an edit by its number. Writes come most, and less is told apart for them.
 #[unsafe(no_mangle)]
 pub extern "C" fn livevec_proved_edit(
     alloc: Global,
@@ -100,6 +87,9 @@ pub extern "C" fn livevec_proved_edit(
 ) -> Edited
     ensures { EditsBy (edit_at what index second value) result slot.old.raw.inner slot.new.raw.inner }
 {
+    if what == 3 {
+        return write_held(alloc, slot, index, value);
+    }
     match edit_of(what, index, second, value) {
         None => not_held(),
         Some(edit) => edit_held(alloc, slot, edit),
