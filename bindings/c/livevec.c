@@ -70,9 +70,9 @@ ENTERED(livevec_element, AS_STRUCT, get, (livevec_vector *slot, uint32_t index),
 COUNTED(livevec_count, size, livevec_vector, A_VECTOR, ELEMENTS)
 COUNTED(livevec_count, capacity, livevec_vector, A_VECTOR, ROOM)
 COUNTED(livevec_count, edits, livevec_vector, A_VECTOR, ACCEPTED)
-READS(livevec_reduced, reduce, (livevec_vector *slot, uint32_t lo, uint32_t hi), slot, (slot, lo, hi))
-READS(livevec_reduced, ask, (livevec_vector *slot, uint32_t lo, uint32_t hi), slot, (slot, lo, hi))
-READS(livevec_reduced, value, (livevec_vector *slot, uint32_t kind, uint32_t lo, uint32_t hi), slot, (slot, kind, lo, hi))
+VALUED(livevec_reduced, reduce, (livevec_vector *slot, uint32_t lo, uint32_t hi), value(slot, AS_KEPT, 0, lo, hi))
+VALUED(livevec_reduced, ask, (livevec_vector *slot, uint32_t lo, uint32_t hi), value(slot, BY_TREES, 0, lo, hi))
+VALUED(livevec_reduced, value, (livevec_vector *slot, uint32_t kind, uint32_t lo, uint32_t hi), value(slot, BY_KIND, kind, lo, hi))
 
 /* `livevec_where_NAME` by the number under which the proved export knows what is looked for. */
 #define FOUND_BY(name, wanted) FOUND_IN(livevec_found, livevec_where_##name, livevec_proved_find, livevec_vector, uint32_t, wanted)

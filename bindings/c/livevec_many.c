@@ -1,9 +1,6 @@
 /* Many pushes, writes and questions of a vector by one call. */
 #include "livevec_slots.h"
 
-/* A proved export over which livevec.c stands too. */
-livevec_reduced livevec_proved_value(livevec_vector *slot, uint32_t kind, uint32_t lo, uint32_t hi);
-
 /* All pushes at once, or none. */
 livevec_pushed livevec_proved_push_all(livevec_vector *slot, const int64_t *values, size_t length);
 
@@ -40,7 +37,7 @@ livevec_many livevec_write_many(livevec_vector *slot, const uint32_t *indices, c
  * its slot alone. */
 static livevec_many judge_ranges(livevec_vector *slot, uint32_t kind, const livevec_range *ranges, size_t length)
 {
-    livevec_reduced none = livevec_proved_value(slot, kind, 0, 0);
+    livevec_reduced none = livevec_proved_value(slot, BY_KIND, kind, 0, 0);
     livevec_many answer = {.refusal = none.refusal, .edit = none.edit};
     if (answer.refusal)
         return answer;
@@ -66,6 +63,6 @@ livevec_many livevec_value_many(livevec_vector *slot, uint32_t kind, const livev
     LEAVES(left, slot);
     answer = judge_ranges(slot, kind, ranges, length);
     for (size_t i = 0; i < answer.done; i++)
-        answers[i] = livevec_proved_value(slot, kind, ranges[i].lo, ranges[i].hi).values;
+        answers[i] = livevec_proved_value(slot, BY_KIND, kind, ranges[i].lo, ranges[i].hi).values;
     return answer;
 }

@@ -7,7 +7,6 @@ livevec_series_edited livevec_proved_samples_edit(livevec_series *slot, bool exp
 livevec_sample livevec_proved_series_get(livevec_series *slot, uint64_t index, bool timed);
 livevec_series_scanned livevec_proved_series_read(livevec_series *slot, bool times, uint64_t lo, uint64_t hi, int64_t *buffer, size_t length);
 livevec_window livevec_proved_samples_window(livevec_series *slot, bool last, int64_t since, int64_t until, uint64_t span);
-livevec_series_reduced livevec_proved_series_value(livevec_series *slot, uint32_t kind, uint64_t lo, uint64_t hi);
 livevec_series_scanned livevec_proved_series_save(livevec_series *slot, uint64_t from, uint8_t *buffer, size_t length);
 uint32_t livevec_proved_series_begin_load(livevec_series *slot);
 uint32_t livevec_proved_series_load(livevec_series *slot, const uint8_t *bytes, size_t length);
@@ -56,7 +55,7 @@ static livevec_series_reduced value_in(livevec_series *values, uint32_t kind, li
 {
     if (window.refusal)
         return (livevec_series_reduced){.refusal = window.refusal};
-    return livevec_proved_series_value(values, kind, window.lo, window.hi);
+    return livevec_proved_series_value(values, BY_KIND, kind, window.lo, window.hi);
 }
 
 livevec_series_reduced livevec_samples_value(livevec_samples *slot, uint32_t kind, int64_t since, int64_t until)

@@ -12,8 +12,8 @@ EDITED(livevec_series_edited, series_pop, (livevec_series *slot), series_edit(sl
 EDITED(livevec_series_edited, series_swap, (livevec_series *slot, uint64_t first, uint64_t second), series_edit(slot, LIVEVEC_SWAP, first, second, 0))
 EDITED(livevec_series_edited, series_truncate, (livevec_series *slot, uint64_t size), series_edit(slot, LIVEVEC_TRUNCATE, size, 0, 0))
 EDITED(livevec_series_edited, series_expire, (livevec_series *slot, uint64_t index), series_edit(slot, EXPIRE, index, 0, 0))
-READS(livevec_series_reduced, series_reduce, (livevec_series *slot, uint64_t lo, uint64_t hi), slot, (slot, lo, hi))
-READS(livevec_series_reduced, series_ask, (livevec_series *slot, uint64_t lo, uint64_t hi), slot, (slot, lo, hi))
+VALUED(livevec_series_reduced, series_reduce, (livevec_series *slot, uint64_t lo, uint64_t hi), series_value(slot, AS_KEPT, 0, lo, hi))
+VALUED(livevec_series_reduced, series_ask, (livevec_series *slot, uint64_t lo, uint64_t hi), series_value(slot, BY_TREES, 0, lo, hi))
 
 COUNTED(livevec_series_count, series_first, livevec_series, A_SERIES, FIRST_KEPT)
 COUNTED(livevec_series_count, series_size, livevec_series, A_SERIES, BEHIND_LAST)

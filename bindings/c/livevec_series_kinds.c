@@ -2,7 +2,7 @@
 #include "livevec_slots.h"
 
 AT_ONE(uint32_t, AS_NUMBER, series_prepare, (livevec_series *slot, uint32_t kind), THERE(slot), slot, enter_to_read, (slot, kind))
-READS(livevec_series_reduced, series_value, (livevec_series *slot, uint32_t kind, uint64_t lo, uint64_t hi), slot, (slot, kind, lo, hi))
+VALUED(livevec_series_reduced, series_value, (livevec_series *slot, uint32_t kind, uint64_t lo, uint64_t hi), series_value(slot, BY_KIND, kind, lo, hi))
 
 /* What many questions at a series whose slot is entered are refused with: all of them, or the first range that is. The kind's tree is made
  * where none is, so that no question is refused then. */
@@ -37,7 +37,7 @@ livevec_series_many livevec_series_value_many(livevec_series *slot, uint32_t kin
     LEAVES(left, slot);
     answer = judge_series_ranges(slot, kind, ranges, length);
     for (size_t i = 0; i < answer.done; i++)
-        answers[i] = livevec_proved_series_value(slot, kind, ranges[i].lo, ranges[i].hi).values;
+        answers[i] = livevec_proved_series_value(slot, BY_KIND, kind, ranges[i].lo, ranges[i].hi).values;
     return answer;
 }
 

@@ -293,6 +293,14 @@ livevec_series_count livevec_proved_count(void *slot, uint32_t sort, uint32_t wh
         return (answer){.refusal = told.refusal, .value = told.value};      \
     }
 
+/* The plain values of a range: by one kind; by all six, each by its tree; or by all six, as they are kept. */
+#define BY_KIND false, false
+#define BY_TREES true, true
+#define AS_KEPT true, false
+livevec_reduced livevec_proved_value(livevec_vector *slot, bool six, bool trees, uint32_t kind, uint32_t lo, uint32_t hi);
+livevec_series_reduced livevec_proved_series_value(livevec_series *slot, bool six, bool trees, uint32_t kind, uint64_t lo, uint64_t hi);
+#define VALUED(answer, name, parameters, call) ENTERED(answer, AS_STRUCT, name, parameters, THERE(slot), slot, enter_to_read, call)
+
 /* An element of a vector, or of a closed board. */
 livevec_element livevec_proved_get(void *slot, uint32_t sort, uint32_t index);
 

@@ -1,5 +1,5 @@
 -- What a vector answers by all six kinds, each asked by its own tree.
-use Rattle.std.proofs.Common.{◌≡◌, ℕ, Ok, Err, Some, refl, sym, ap, subst, ◌∙◌}
+use Rattle.std.proofs.Common.{◌≡◌, ℕ, Ok, Err, Some, refl, ap, ◌∙◌}
 use Rattle.lv_geometry.specs.Numbers.{number_of}
 use Rattle.lv_geometry.specs.declared.refusals.Refusal.{Refusal}
 use Rattle.lv_bodies.specs.Automata.{table_of}
@@ -9,7 +9,6 @@ use Rattle.lv_bodies.specs.declared.kinds.Kind.{Kind}
 use Rattle.lv_bodies.specs.declared.kinds.Kind.TheVariants.{Sum, Least, Greatest, Best, Affine, Automaton}
 use Rattle.lv_edits.specs.Kept.{IsLegalInLimits}
 use Rattle.lv_edits.specs.Ranges.{range_refusal, slice_of}
-use Rattle.lv_live.specs.State.{SameLive}
 use Rattle.lv_tree.specs.Asked.{IsKindAnswer}
 use Rattle.lv_tree.specs.KindSummaries.{summary_by}
 use Rattle.lv_tree.specs.declared.kind_summaries.KindSummary.{KindSummary}
@@ -38,27 +37,18 @@ six_put lo hi s s1 s2 s3 s4 p v v1 v2 v3 v4 v5 v6 sum one two three four put put
     put6 ∙ ap (λ t. with_part (part_at Automaton lo hi t) v5) (four ∙ third) ∙ ap (at Automaton) up_to_affine
 
 -- so a vector is asked by all six
-pub asks_six : (lo hi : ℕ) (old new : State) (answer : KindAnswer) (values : PlainValues) (told : Reduced) → IsKindAnswer (table_of old.body.automaton) old.history.journal Sum lo hi answer → IsLegalInLimits old.history → new ≡ old
-    → values ≡ spread (fold_of (six_operations_by (table_of old.body.automaton)) (slice_of old.history.journal lo hi)) → told ≡ record { refusal = 0; detail = 0; edit = answer.edit; cells = 0; summaries = 0; values = values } → AsksVector lo hi told old new
-asks_six lo hi old new answer values told is legal same plain tells =
-    let six = fold_of (six_operations_by (table_of old.body.automaton)) (slice_of old.history.journal lo hi) in
+pub asks_six : (lo hi : ℕ) (s : State) (answer : KindAnswer) (values : PlainValues) (told : Reduced) → IsKindAnswer (table_of s.body.automaton) s.history.journal Sum lo hi answer → IsLegalInLimits s.history
+    → values ≡ spread (fold_of (six_operations_by (table_of s.body.automaton)) (slice_of s.history.journal lo hi)) → told ≡ record { refusal = 0; detail = 0; edit = answer.edit; cells = 0; summaries = 0; values = values } → AsksVector lo hi told s
+asks_six lo hi s answer values told is legal plain tells =
+    let six = fold_of (six_operations_by (table_of s.body.automaton)) (slice_of s.history.journal lo hi) in
     record {
       r = Ok (record { edit = answer.edit; value = six; cells_read = 0; summaries_read = 0 });
       answer_is = tells ∙ ap (λ v. record { refusal = 0; detail = 0; edit = answer.edit; cells = 0; summaries = 0; values = v }) plain;
       ok = record { granted = is.granted; edit = is.edit; value = refl };
       err = tt;
       within = legal;
-      same = subst (SameLive old) (sym same) (record { body = refl; history = refl; claimed = λ n. refl; kept = λ n. refl });
     }
 
 -- and so a range is refused
-pub refuses_six : (lo hi : ℕ) (old new : State) (refusal : Refusal) (told : Reduced) → range_refusal old.history.journal lo hi ≡ Some refusal → IsLegalInLimits old.history → new ≡ old → told ≡ unreduced (number_of refusal) (detail_of refusal) → AsksVector lo hi told old new
-refuses_six lo hi old new refusal told why legal same tells =
-    record {
-      r = Err refusal;
-      answer_is = tells;
-      ok = tt;
-      err = why;
-      within = legal;
-      same = subst (SameLive old) (sym same) (record { body = refl; history = refl; claimed = λ n. refl; kept = λ n. refl });
-    }
+pub refuses_six : (lo hi : ℕ) (s : State) (refusal : Refusal) (told : Reduced) → range_refusal s.history.journal lo hi ≡ Some refusal → IsLegalInLimits s.history → told ≡ unreduced (number_of refusal) (detail_of refusal) → AsksVector lo hi told s
+refuses_six lo hi s refusal told why legal tells = record { r = Err refusal; answer_is = tells; ok = tt; err = why; within = legal }

@@ -1,11 +1,12 @@
 -- What is answered of a range are its plain values.
 use Rattle.std.proofs.Common.{◌≡◌, ℕ, ◌≤◌, lit≤, sym, ap, ◌∙◌, subst, arith}
-use Rattle.std.specs.Prelude.{Some, None, Result, Ok, Err, IfOk}
+use Rattle.std.specs.Prelude.{Bool, true, false, Option, Some, None, Result, Ok, Err, IfOk}
 use Rattle.lv_geometry.specs.Numbers.{number_of}
 use Rattle.lv_geometry.specs.declared.refusals.Refusal.{Refusal}
 use Rattle.lv_geometry.specs.declared.refusals.Refusal.TheVariants.{Worn, Empty, OutOfRange, TooLarge, Full, NoMemory, BadRange, BadLimits, BadTable, NameTaken, NoSuchName, TooMany, ReadFault, WriteFault, Stranger, TooWide, Contended, Overtaken, NoJob, NotNow}
 use Rattle.lv_bodies.specs.Automata.{table_of}
 use Rattle.lv_bodies.specs.Six.{SixSummary, six_operations_by}
+use Rattle.lv_bodies.specs.declared.kinds.Kind.{Kind}
 use Rattle.lv_edits.specs.Ranges.{slice_of}
 use Rattle.lv_reduce.specs.declared.reductions.Answer.{Answer}
 use Rattle.lv_reduce.specs.Answer.{IsAnswer}
@@ -13,7 +14,7 @@ use Rattle.livevec_c.specs.declared.objects.Object.{Object}
 use Rattle.livevec_c.specs.declared.objects.Object.TheVariants.{Vector, Job, Outcome, Batch, BatchOutcome, Subtree, SubtreeOutcome, Board, Seat, Closed, Series, Samples, Loader, Queries}
 use Rattle.livevec_c.specs.declared.results.Reduced.{Reduced}
 use Rattle.livevec_c.specs.Answers.{reduced_by, spread, unreduced}
-use Rattle.livevec_c.specs.Behind.{AsksObject, ReducesObject, State}
+use Rattle.livevec_c.specs.Behind.{SixIn, SixOf, State}
 use Rattle.livevec_c.specs.Plainly.{AreValues, IsPlainObject, IsPlainOf}
 use Rattle.livevec_c.specs.SpreadLaws.{spread-plain}
 
@@ -57,37 +58,25 @@ refused_kind state lo hi answer is zero = elim (apart answer.refusal (ap (λ q. 
   apart : (n : ℕ) → n ≡ 113 → n ≡ 0 → ⊥
   apart n is zero = omega (arith, is, zero)
 
-pub reduces_plain : (lo hi : ℕ) (answer : Reduced) (object : Object) → ReducesObject lo hi answer object → IsPlainObject lo hi answer object
-reduces_plain lo hi answer (Vector state None) (Ok a, is, within, fine) = plain_ok state lo hi (Ok a) answer is fine.0
-reduces_plain lo hi answer (Vector state None) (Err refusal, is, within, why) = plain_ok state lo hi (Err refusal) answer is tt
-reduces_plain lo hi answer (Vector state (Some only)) is = refused_kind state lo hi answer is
-reduces_plain lo hi answer (Job other) reduces = tt
-reduces_plain lo hi answer (Outcome other) reduces = tt
-reduces_plain lo hi answer (Batch jobs) reduces = tt
-reduces_plain lo hi answer (BatchOutcome jobs) reduces = tt
-reduces_plain lo hi answer (Subtree job) reduces = tt
-reduces_plain lo hi answer (SubtreeOutcome outcome) reduces = tt
-reduces_plain lo hi answer (Board other) reduces = tt
-reduces_plain lo hi answer (Seat other) reduces = tt
-reduces_plain lo hi answer (Closed other) reduces = tt
-reduces_plain lo hi answer (Series other) reduces = tt
-reduces_plain lo hi answer (Samples samples) reduces = tt
-reduces_plain lo hi answer (Loader bytes) reduces = tt
-reduces_plain lo hi answer (Queries set) reduces = tt
+-- of a vector, by its trees or by its summaries
+six_of_plain : (only : Option Kind) (trees : Bool) (lo hi : ℕ) (answer : Reduced) (state : State) → SixOf only trees lo hi answer state → IsPlainOf lo hi answer state
+six_of_plain (Some only) trees lo hi answer state is = refused_kind state lo hi answer is
+six_of_plain None true lo hi answer state asks = plain_ok state lo hi asks.r answer asks.answer_is asks.ok
+six_of_plain None false lo hi answer state (Ok a, is, within, fine) = plain_ok state lo hi (Ok a) answer is fine.0
+six_of_plain None false lo hi answer state (Err refusal, is, within, why) = plain_ok state lo hi (Err refusal) answer is tt
 
-pub asks_plain : (lo hi : ℕ) (answer : Reduced) (old new : Object) → AsksObject lo hi answer old new → IsPlainObject lo hi answer old
-asks_plain lo hi answer (Vector state None) new (after, same, asks) = plain_ok state lo hi asks.r answer asks.answer_is asks.ok
-asks_plain lo hi answer (Vector state (Some only)) new (after, same, asks) = refused_kind state lo hi answer asks.0
-asks_plain lo hi answer (Job other) new asks = tt
-asks_plain lo hi answer (Outcome other) new asks = tt
-asks_plain lo hi answer (Batch jobs) new asks = tt
-asks_plain lo hi answer (BatchOutcome jobs) new asks = tt
-asks_plain lo hi answer (Subtree job) new asks = tt
-asks_plain lo hi answer (SubtreeOutcome outcome) new asks = tt
-asks_plain lo hi answer (Board other) new asks = tt
-asks_plain lo hi answer (Seat other) new asks = tt
-asks_plain lo hi answer (Closed other) new asks = tt
-asks_plain lo hi answer (Series other) new asks = tt
-asks_plain lo hi answer (Samples samples) new asks = tt
-asks_plain lo hi answer (Loader bytes) new asks = tt
-asks_plain lo hi answer (Queries set) new asks = tt
+pub six_plain : (trees : Bool) (lo hi : ℕ) (answer : Reduced) (object : Object) → SixIn trees lo hi answer object → IsPlainObject lo hi answer object
+six_plain trees lo hi answer (Vector state only) is = six_of_plain only trees lo hi answer state is
+six_plain trees lo hi answer (Job other) is = tt
+six_plain trees lo hi answer (Outcome other) is = tt
+six_plain trees lo hi answer (Batch jobs) is = tt
+six_plain trees lo hi answer (BatchOutcome jobs) is = tt
+six_plain trees lo hi answer (Subtree job) is = tt
+six_plain trees lo hi answer (SubtreeOutcome outcome) is = tt
+six_plain trees lo hi answer (Board other) is = tt
+six_plain trees lo hi answer (Seat other) is = tt
+six_plain trees lo hi answer (Closed other) is = tt
+six_plain trees lo hi answer (Series other) is = tt
+six_plain trees lo hi answer (Samples samples) is = tt
+six_plain trees lo hi answer (Loader bytes) is = tt
+six_plain trees lo hi answer (Queries set) is = tt

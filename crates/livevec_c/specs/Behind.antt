@@ -1,5 +1,5 @@
 -- What the calls do and answer, by what lies behind a slot.
-use Rattle.std.specs.Prelude.{◌≡◌, ℕ, Option, Some, None, Result, IfOk, IfErr, if◌then◌else◌, ◌==◌}
+use Rattle.std.specs.Prelude.{◌≡◌, ℕ, Bool, true, false, Option, Some, None, Result, IfOk, IfErr, if◌then◌else◌, ◌==◌}
 use Rattle.lv_geometry.specs.declared.refusals.Refusal.{Refusal}
 use Rattle.lv_bodies.specs.Automata.{table_of}
 use Rattle.lv_bodies.specs.Six.{SixSummary, six_operations_by}
@@ -13,7 +13,7 @@ use Rattle.lv_reduce.specs.declared.reductions.Answer.{Answer}
 use Rattle.lv_reduce.specs.Answer.{IsAnswer}
 use Rattle.lv_live.specs.Step.{Reduces as ReducesAt}
 use Rattle.lv_edits.specs.Kept.{IsLegalInLimits}
-use Rattle.lv_live.specs.State.{LiveState, recorded, SameLive, SameRefresh}
+use Rattle.lv_live.specs.State.{LiveState, recorded, SameRefresh}
 use Rattle.livevec_c.specs.declared.objects.Object.{Object}
 use Rattle.livevec_c.specs.declared.objects.Object.TheVariants.{Closed, Vector}
 use Rattle.livevec_c.specs.declared.results.Edited.{Edited}
@@ -76,39 +76,31 @@ element_behind sort index (Some object) = element_of sort index object
 abbrev pub no_count : Count
 no_count = record { refusal = 101; value = 0 }
 
--- a reduction of a vector by all six kinds, as the library answers it; one that is of one kind refuses it
-abbrev pub ReducesBy : Option Kind → ℕ → ℕ → Reduced → State → Type 0
-ReducesBy (Some only) lo hi answer state = answer ≡ unreduced 113 0
-ReducesBy None lo hi answer state =
+-- a reduction of a vector by all six kinds, each by its own tree: counts of reads apart, it is answered as the library answers it
+pub record AsksVector (lo hi : ℕ) (answer : Reduced) (state : State) : Type 0 where
+  pub r : Result (Answer SixSummary) Refusal
+  pub answer_is : answer ≡ reduced_by r
+  pub ok : IfOk r (λ a. IsAnswer (six_operations_by (table_of state.body.automaton)) state.history.journal lo hi a)
+  pub err : IfErr r (λ refusal. range_refusal state.history.journal lo hi ≡ Some refusal)
+  pub within : IsLegalInLimits state.history
+
+-- the same, or as the library answers it; a vector that is of one kind refuses both
+abbrev pub SixOf : Option Kind → Bool → ℕ → ℕ → Reduced → State → Type 0
+SixOf (Some only) trees lo hi answer state = answer ≡ unreduced 113 0
+SixOf None true lo hi answer state = AsksVector lo hi answer state
+SixOf None false lo hi answer state =
     (r : Result (Answer SixSummary) Refusal) × (answer ≡ reduced_by r) × IsLegalInLimits state.history × ReducesAt (six_operations_by (table_of state.body.automaton)) (recorded state) lo hi r
 
 -- of an object: of a vector only
-abbrev pub ReducesObject : ℕ → ℕ → Reduced → Object → Type 0
-ReducesObject lo hi answer (Vector state only) = ReducesBy only lo hi answer state
-ReducesObject lo hi answer other = answer ≡ unreduced 101 0
+abbrev pub SixIn : Bool → ℕ → ℕ → Reduced → Object → Type 0
+SixIn trees lo hi answer (Vector state only) = SixOf only trees lo hi answer state
+SixIn trees lo hi answer other = answer ≡ unreduced 101 0
 
-abbrev pub Reduces : ℕ → ℕ → Reduced → Option Object → Type 0
-Reduces lo hi answer None = answer ≡ unreduced 101 0
-Reduces lo hi answer (Some object) = ReducesObject lo hi answer object
+abbrev pub Six : Bool → ℕ → ℕ → Reduced → Option Object → Type 0
+Six trees lo hi answer None = answer ≡ unreduced 101 0
+Six trees lo hi answer (Some object) = SixIn trees lo hi answer object
 
--- a reduction that keeps what it computes: the same answer, counts of reads apart; body, edits, claims and kept versions stay
-pub record AsksVector (lo hi : ℕ) (answer : Reduced) (old new : State) : Type 0 where
-  pub r : Result (Answer SixSummary) Refusal
-  pub answer_is : answer ≡ reduced_by r
-  pub ok : IfOk r (λ a. IsAnswer (six_operations_by (table_of old.body.automaton)) old.history.journal lo hi a)
-  pub err : IfErr r (λ refusal. range_refusal old.history.journal lo hi ≡ Some refusal)
-  pub within : IsLegalInLimits old.history
-  pub same : SameLive old new
-
--- one that is of one kind refuses it
-abbrev pub AsksBy : Option Kind → ℕ → ℕ → Reduced → State → State → Type 0
-AsksBy (Some only) lo hi answer old new = (answer ≡ unreduced 113 0) × (new ≡ old)
-AsksBy None lo hi answer old new = AsksVector lo hi answer old new
-
-abbrev pub AsksObject : ℕ → ℕ → Reduced → Object → Object → Type 0
-AsksObject lo hi answer (Vector old only) new = (state : State) × (new ≡ Vector state only) × AsksBy only lo hi answer old state
-AsksObject lo hi answer other new = (answer ≡ unreduced 101 0) × (new ≡ other)
-
-abbrev pub Asks : ℕ → ℕ → Reduced → Option Object → Option Object → Type 0
-Asks lo hi answer None new = (answer ≡ unreduced 101 0) × (new ≡ None)
-Asks lo hi answer (Some old) new = (object : Object) × (new ≡ Some object) × AsksObject lo hi answer old object
+-- one of two things that a call may do
+abbrev pub OneOf : Bool → Type 0 → Type 0 → Type 0
+OneOf true first second = first
+OneOf false first second = second

@@ -1,5 +1,5 @@
 -- The values that C sees, without any summary.
-use Rattle.std.specs.Prelude.{◌≡◌, ℕ, ℤ, pos, Option, Some, None, List, is_some, unwrap_or}
+use Rattle.std.specs.Prelude.{◌≡◌, ℕ, ℤ, pos, Bool, true, false, Option, Some, None, List, is_some, unwrap_or}
 use Rattle.lv_bodies.specs.Plain.{plain_affine, plain_automaton, plain_best, plain_greatest, plain_least, plain_sum}
 use Rattle.lv_bodies.specs.Automata.{table_of}
 use Rattle.lv_edits.specs.Ranges.{slice_of}
@@ -34,3 +34,8 @@ IsPlainObject lo hi answer other = Unit {0}
 abbrev pub IsPlain : ℕ → ℕ → Reduced → Option Object → Type 0
 IsPlain lo hi answer None = Unit {0}
 IsPlain lo hi answer (Some object) = IsPlainObject lo hi answer object
+
+-- where it is asked by all six
+abbrev pub IsPlainBy : Bool → ℕ → ℕ → Reduced → Option Object → Type 0
+IsPlainBy true lo hi answer slot = IsPlain lo hi answer slot
+IsPlainBy false lo hi answer slot = Unit {0}

@@ -1,5 +1,5 @@
 -- What the calls at a series do and answer, by what lies behind a slot.
-use Rattle.std.specs.Prelude.{◌≡◌, ℕ, ◌⊎◌, true, Option, Some, None, Result, List, []}
+use Rattle.std.specs.Prelude.{◌≡◌, ℕ, ◌⊎◌, Bool, true, false, Option, Some, None, Result, List, []}
 use Rattle.lv_series.specs.Series.{Answers, element_at, range_refused, slice_of}
 use Rattle.lv_series.specs.Plain.{KeptKinds, plain_series}
 use Rattle.lv_series.specs.Samples.{AnswersSample, SamplesState}
@@ -18,7 +18,7 @@ use Rattle.livevec_c.specs.declared.series_results.SampleElement.{SampleElement}
 use Rattle.livevec_c.specs.declared.series_results.SeriesReduced.{SeriesReduced}
 use Rattle.livevec_c.specs.Cells.{values_cell}
 use Rattle.livevec_c.specs.SeriesAnswers.{long_edited, long_element, long_valued, refused_by, sample_edited, unedited_by, unelement, unheld, unreduced_by}
-use Rattle.livevec_c.specs.SeriesHeld.{AtSeries, Long, Opens}
+use Rattle.livevec_c.specs.SeriesHeld.{AtObject, Long, Opens, series_in}
 
 -- a series without elements, by an automaton of this table
 abbrev pub IsNewSeries : List (List ℕ) → Object → Type 0
@@ -96,6 +96,12 @@ AsksSeries lo hi answer old new =
     ((answer ≡ values_of lo hi old) × (new ≡ with_all (range_refused old.held lo hi) old))
     ⊎ ((answer ≡ unreduced_by (refused_by NoMemory)) × (range_refused old.held lo hi ≡ None) × IsSameButKinds old new)
 
+-- of an object, by all six kinds: each kind's tree is made first, or what lies there stays as it is
+abbrev pub SixLong : Bool → ℕ → ℕ → SeriesReduced → Object → Object → Type 0
+SixLong true lo hi answer old new = AtObject (AsksSeries lo hi answer) (answer ≡ unreduced_by unheld) old new
+SixLong false lo hi answer old new = (answer ≡ values_in lo hi (series_in old)) × (new ≡ old)
+
 -- of what lies behind a slot
-abbrev pub AsksBehind : ℕ → ℕ → SeriesReduced → Option Object → Option Object → Type 0
-AsksBehind lo hi answer old new = AtSeries (AsksSeries lo hi answer) (answer ≡ unreduced_by unheld) old new
+abbrev pub SixBehind : Bool → ℕ → ℕ → SeriesReduced → Option Object → Option Object → Type 0
+SixBehind trees lo hi answer None new = (answer ≡ unreduced_by unheld) × (new ≡ None)
+SixBehind trees lo hi answer (Some old) new = (object : Object) × (new ≡ Some object) × SixLong trees lo hi answer old object

@@ -1,5 +1,5 @@
 -- What a question at a series by one kind answers, and what making a kind's tree does, by what lies behind a slot.
-use Rattle.std.specs.Prelude.{◌≡◌, ℕ, ◌⊎◌, false, Option, Some, None, nat_lt}
+use Rattle.std.specs.Prelude.{◌≡◌, ℕ, ◌⊎◌, Bool, true, false, Option, Some, None, nat_lt}
 use Rattle.lv_bodies.specs.Plain.{plain_value_with}
 use Rattle.lv_bodies.specs.declared.kinds.Kind.{Kind}
 use Rattle.lv_series.specs.Series.{keeps_kind, range_refused, slice_of, with_kind}
@@ -10,6 +10,7 @@ use Rattle.livevec_c.specs.declared.series_results.Refused.{Refused}
 use Rattle.livevec_c.specs.declared.series_results.SeriesReduced.{SeriesReduced}
 use Rattle.livevec_c.specs.Seats.{values_for}
 use Rattle.livevec_c.specs.SeriesAnswers.{long_valued, refused_by, unheld, unreduced_by}
+use Rattle.livevec_c.specs.SeriesBehind.{SixBehind}
 use Rattle.livevec_c.specs.SeriesHeld.{AtSeries, Long}
 
 -- that a number is of no kind
@@ -36,6 +37,11 @@ ValuesSeries kind lo hi answer old new =
 abbrev pub ValuesBehind : Option Kind → ℕ → ℕ → SeriesReduced → Option Object → Option Object → Type 0
 ValuesBehind None lo hi answer old new = (answer ≡ unreduced_by unkind) × (new ≡ old)
 ValuesBehind (Some kind) lo hi answer old new = AtSeries (ValuesSeries kind lo hi answer) (answer ≡ unreduced_by unheld) old new
+
+-- by all six, each by its tree, which is made first if that is asked, or by one kind
+abbrev pub ValuesBy : Bool → Bool → Option Kind → ℕ → ℕ → SeriesReduced → Option Object → Option Object → Type 0
+ValuesBy true trees kind lo hi answer old new = SixBehind trees lo hi answer old new
+ValuesBy false trees kind lo hi answer old new = ValuesBehind kind lo hi answer old new
 
 -- a kind's tree is made, or there is no memory for it, and nothing has changed
 abbrev pub PreparesSeries : Kind → ℕ → Long → Long → Type 0

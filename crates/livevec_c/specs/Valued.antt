@@ -1,5 +1,5 @@
 -- What a question by one kind answers, by what lies behind a slot.
-use Rattle.std.specs.Prelude.{ℕ, Bool, true, false, Option, Some, None, length, nat_lt}
+use Rattle.std.specs.Prelude.{◌≡◌, ℕ, Bool, true, false, Option, Some, None, length, nat_lt}
 use Rattle.lv_geometry.specs.Numbers.{number_of}
 use Rattle.lv_geometry.specs.declared.refusals.Refusal.{Refusal}
 use Rattle.lv_bodies.specs.Automata.{table_of}
@@ -11,7 +11,7 @@ use Rattle.livevec_c.specs.declared.objects.Object.{Object}
 use Rattle.livevec_c.specs.declared.objects.Object.TheVariants.{Vector}
 use Rattle.livevec_c.specs.declared.results.Reduced.{Reduced}
 use Rattle.livevec_c.specs.Answers.{detail_of, unreduced}
-use Rattle.livevec_c.specs.Behind.{State}
+use Rattle.livevec_c.specs.Behind.{Six, State}
 use Rattle.livevec_c.specs.Only.{is_asked_by}
 use Rattle.livevec_c.specs.Seats.{values_for}
 
@@ -40,3 +40,8 @@ abbrev pub value_behind : Option Kind → ℕ → ℕ → Option Object → Redu
 value_behind None lo hi slot = unreduced 113 0
 value_behind (Some kind) lo hi None = unreduced 101 0
 value_behind (Some kind) lo hi (Some object) = object_value kind lo hi object
+
+-- by all six, each by its own tree or as the library reduces, or by one kind
+abbrev pub ValuesBy : Bool → Bool → Option Kind → ℕ → ℕ → Reduced → Option Object → Type 0
+ValuesBy true trees kind lo hi answer slot = Six trees lo hi answer slot
+ValuesBy false trees kind lo hi answer slot = answer ≡ value_behind kind lo hi slot

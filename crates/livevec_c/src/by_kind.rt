@@ -1,13 +1,15 @@
-//! Questions by one kind, which cost that kind alone.
+//! Questions by one kind, which cost that kind alone, or by all six.
 ghost use Rattle.std.specs.Prelude.{◌≡◌, nat_lt, IfOk, IfErr, Some};
 ghost use Rattle.livevec_c.specs.Kinds.{kind_at};
 ghost use Rattle.livevec_c.specs.Only.{is_asked_by};
-ghost use Rattle.livevec_c.specs.Valued.{object_value, value_asked, value_behind, value_of};
+ghost use Rattle.livevec_c.specs.Plainly.{IsPlainBy};
+ghost use Rattle.livevec_c.specs.Valued.{ValuesBy, object_value, value_asked, value_behind, value_of};
 
 use crate::boards::kind_of;
 use crate::kind_vectors::KindVector;
 use crate::objects::Object;
 use crate::only::may_ask;
+use crate::reads::six_held;
 use crate::results::{BAD_KIND, NO_HANDLE, Reduced, detail, not_reduced};
 use crate::said::shown_values;
 use crate::slots::{Slot, is_full, put, take_full};
@@ -66,15 +68,9 @@ fn value_of_object(object: &mut Object, kind: Kind, lo: u32, hi: u32) -> Reduced
     }
 }
 
-/// The plain value of the elements of a range by one kind. What is computed for it is kept by that kind alone.
-#[unsafe(no_mangle)]
-pub extern "C" fn livevec_proved_value(
-    alloc: Global,
-    slot: &mut Slot,
-    kind: u32,
-    lo: u32,
-    hi: u32,
-) -> Reduced
+// The same of what lies behind a slot, by the kind of a number.
+#[inline(always)]
+fn value_held(alloc: Global, slot: &mut Slot, kind: u32, lo: u32, hi: u32) -> Reduced
     ensures answer { result ≡ value_behind (kind_at kind) lo hi slot.old.raw.inner }
     ensures same { slot.new.raw.inner ≡ slot.old.raw.inner }
 {
@@ -88,4 +84,27 @@ pub extern "C" fn livevec_proved_value(
     let answer = value_of_object(&mut held, kind, lo, hi);
     put(slot, held);
     answer
+}
+
+/// The plain values of the elements of a range by all six kinds, each by its own tree or by the summaries that are kept; or the value by one
+/// kind, for which what is computed is kept by that kind alone.
+#[unsafe(no_mangle)]
+pub extern "C" fn livevec_proved_value(
+    alloc: Global,
+    slot: &mut Slot,
+    six: bool,
+    trees: bool,
+    kind: u32,
+    lo: u32,
+    hi: u32,
+) -> Reduced
+    ensures answer { ValuesBy six trees (kind_at kind) lo hi result slot.old.raw.inner }
+    ensures plain { IsPlainBy six lo hi result slot.old.raw.inner }
+    ensures same { slot.new.raw.inner ≡ slot.old.raw.inner }
+{
+    if six {
+        six_held(alloc, slot, trees, lo, hi)
+    } else {
+        value_held(alloc, slot, kind, lo, hi)
+    }
 }

@@ -1,5 +1,5 @@
 //! Reads of a vector: its elements, also those of a closed board, and its reductions.
-ghost use Rattle.std.specs.Prelude.{◌≡◌, None};
+ghost use Rattle.std.specs.Prelude.{◌≡◌, None, false};
 ghost use Rattle.lv_bodies.specs.Automata.{table_of};
 ghost use Rattle.lv_bodies.specs.Body.{fold_of};
 ghost use Rattle.lv_bodies.specs.Six.{six_operations_by};
@@ -7,7 +7,7 @@ ghost use Rattle.lv_bodies.specs.declared.kinds.Kind.TheVariants as kinds;
 ghost use Rattle.lv_edits.specs.Ranges.{range_refusal, slice_of};
 ghost use Rattle.lv_tree.specs.KindSummaries.{summary_by};
 ghost use Rattle.livevec_c.specs.Answers.{no_element, spread, unreduced, with_part};
-ghost use Rattle.livevec_c.specs.Behind.{Asks, AsksBy, AsksObject, AsksVector, Reduces, ReducesBy, ReducesObject, element_behind, element_of};
+ghost use Rattle.livevec_c.specs.Behind.{AsksVector, Six, SixIn, SixOf, element_behind, element_of};
 ghost use Rattle.livevec_c.specs.Plainly.{IsPlain};
 
 use crate::kind_vectors::KindVector;
@@ -95,44 +95,12 @@ pub fn uncounted() -> Count
     }
 }
 
-// A reduction of a vector, which is of all six kinds.
-fn reduce_live(live: &Live<SixByTable>, only: Option<Kind>, lo: u32, hi: u32) -> Reduced
-    ensures { ReducesBy only lo hi result live.now }
+// A reduction of a vector by all six kinds, which reads the summaries that are kept.
+fn reduce_six(live: &Live<SixByTable>, lo: u32, hi: u32) -> Reduced
+    ensures { SixOf None false lo hi result live.now }
 {
-    match only {
-        Some(_) => not_reduced(BAD_KIND, 0),
-        None => {
-            live.keeps();
-            reduction_answer(live.reduce(lo, hi))
-        }
-    }
-}
-
-// A reduction of an object.
-fn reduce_of(object: &Object, lo: u32, hi: u32) -> Reduced
-    ensures { ReducesObject lo hi result object.now }
-{
-    match object {
-        Object::Vector(vector, only) => reduce_live(vector.live(), *only, lo, hi),
-        _ => not_reduced(NO_HANDLE, 0),
-    }
-}
-
-/// The plain values of the elements of a range.
-#[unsafe(no_mangle)]
-pub extern "C" fn livevec_proved_reduce(alloc: Global, slot: &mut Slot, lo: u32, hi: u32) -> Reduced
-    ensures answer { Reduces lo hi result slot.old.raw.inner }
-    ensures plain { IsPlain lo hi result slot.old.raw.inner }
-    ensures same { slot.new.raw.inner ≡ slot.old.raw.inner }
-{
-    match take(alloc, slot) {
-        None => not_reduced(NO_HANDLE, 0),
-        Some(held) => {
-            let answer = reduce_of(&held, lo, hi);
-            put(slot, held);
-            answer
-        }
-    }
+    live.keeps();
+    reduction_answer(live.reduce(lo, hi))
 }
 
 // Puts the value of a range by a kind among the plain values.
@@ -164,9 +132,10 @@ fn six_values(vector: &mut KindVector, lo: u32, hi: u32, sum: KindSummary) -> Pl
     values
 }
 
-// A reduction of a vector by all six kinds, each by its own tree.
+// The same, each kind by its own tree.
 fn ask_six(vector: &mut KindVector, lo: u32, hi: u32) -> Reduced
-    ensures { AsksVector lo hi result vector.old vector.new }
+    ensures answer { AsksVector lo hi result vector.old }
+    ensures same { vector.new ≡ vector.old }
 {
     match vector.value(Kind::Sum, lo, hi) {
         Err(refusal) => not_reduced(refusal.number(), detail(refusal)),
@@ -181,36 +150,42 @@ fn ask_six(vector: &mut KindVector, lo: u32, hi: u32) -> Reduced
     }
 }
 
-// The same of one that is of all six, or of one kind.
-fn ask_vector(vector: &mut KindVector, only: Option<Kind>, lo: u32, hi: u32) -> Reduced
-    ensures { AsksBy only lo hi result vector.old vector.new }
+// One of the two, at a vector that is of all six, or of one kind.
+fn six_of(vector: &mut KindVector, only: Option<Kind>, trees: bool, lo: u32, hi: u32) -> Reduced
+    ensures answer { SixOf only trees lo hi result vector.old }
+    ensures same { vector.new ≡ vector.old }
 {
-    match only {
-        Some(_) => not_reduced(BAD_KIND, 0),
-        None => ask_six(vector, lo, hi),
+    if only.is_some() {
+        return not_reduced(BAD_KIND, 0);
+    }
+    if trees {
+        ask_six(vector, lo, hi)
+    } else {
+        reduce_six(vector.live(), lo, hi)
     }
 }
 
 // The same of an object.
-fn ask_of(object: &mut Object, lo: u32, hi: u32) -> Reduced
-    ensures { AsksObject lo hi result object.old object.new }
+fn six_in(object: &mut Object, trees: bool, lo: u32, hi: u32) -> Reduced
+    ensures answer { SixIn trees lo hi result object.old }
+    ensures same { object.new ≡ object.old }
 {
     match object {
-        Object::Vector(vector, only) => ask_vector(vector, *only, lo, hi),
+        Object::Vector(vector, only) => six_of(vector, *only, trees, lo, hi),
         _ => not_reduced(NO_HANDLE, 0),
     }
 }
 
-/// The same, each kind by its own tree.
-#[unsafe(no_mangle)]
-pub extern "C" fn livevec_proved_ask(alloc: Global, slot: &mut Slot, lo: u32, hi: u32) -> Reduced
-    ensures answer { Asks lo hi result slot.old.raw.inner slot.new.raw.inner }
+/// The plain values of the elements of a range by all six kinds, each by its own tree or by the summaries that are kept.
+pub fn six_held(alloc: Global, slot: &mut Slot, trees: bool, lo: u32, hi: u32) -> Reduced
+    ensures answer { Six trees lo hi result slot.old.raw.inner }
     ensures plain { IsPlain lo hi result slot.old.raw.inner }
+    ensures same { slot.new.raw.inner ≡ slot.old.raw.inner }
 {
     match take(alloc, slot) {
         None => not_reduced(NO_HANDLE, 0),
         Some(mut held) => {
-            let answer = ask_of(&mut held, lo, hi);
+            let answer = six_in(&mut held, trees, lo, hi);
             put(slot, held);
             answer
         }

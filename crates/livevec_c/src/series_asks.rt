@@ -1,9 +1,9 @@
 //! What is asked of a series, or of samples: elements and reductions.
 ghost use Rattle.std.specs.Prelude.{◌≡◌, true};
 ghost use Rattle.livevec_c.specs.SamplesBehind.{element_behind, element_told};
-ghost use Rattle.livevec_c.specs.SeriesBehind.{AsksBehind, AsksSeries, IsSameButKinds, all_kinds, element_in, values_in, values_of};
+ghost use Rattle.livevec_c.specs.SeriesBehind.{AsksSeries, IsSameButKinds, SixBehind, SixLong, all_kinds, element_in, values_in, values_of};
 ghost use Rattle.livevec_c.specs.SeriesAnswers.{unheld, unreduced_by};
-ghost use Rattle.livevec_c.specs.SeriesHeld.{AtObject, Long, series_behind, series_in};
+ghost use Rattle.livevec_c.specs.SeriesHeld.{AtObject, Long, series_in};
 
 use crate::beginnings::cell_of;
 use crate::objects::Object;
@@ -84,27 +84,6 @@ fn reduce_of(object: &Object, lo: u64, hi: u64) -> SeriesReduced
     }
 }
 
-/// The plain values of the elements of a range.
-#[unsafe(no_mangle)]
-pub extern "C" fn livevec_proved_series_reduce(
-    alloc: Global,
-    slot: &mut Slot,
-    lo: u64,
-    hi: u64,
-) -> SeriesReduced
-    ensures answer { result ≡ values_in lo hi (series_behind slot.old.raw.inner) }
-    ensures same { slot.new.raw.inner ≡ slot.old.raw.inner }
-{
-    match take(alloc, slot) {
-        None => not_reduced(not_held()),
-        Some(held) => {
-            let answer = reduce_of(&held, lo, hi);
-            put(slot, held);
-            answer
-        }
-    }
-}
-
 // Makes the tree of each kind, where there is none, and says whether there was memory for it.
 fn prepare_each<H: HasSeries>(held: &mut H) -> bool
     ensures kinds { (state : Long) × (held.new ≡ H.with_series state held.old) × IsSameButKinds (H.series_of held.old) state }
@@ -149,20 +128,25 @@ fn ask_of(object: &mut Object, lo: u64, hi: u64) -> SeriesReduced
     }
 }
 
-/// The same, and makes the tree of each kind first, where there is none.
-#[unsafe(no_mangle)]
-pub extern "C" fn livevec_proved_series_ask(
-    alloc: Global,
-    slot: &mut Slot,
-    lo: u64,
-    hi: u64,
-) -> SeriesReduced
-    ensures { AsksBehind lo hi result slot.old.raw.inner slot.new.raw.inner }
+// The same, or without a tree that isn't there.
+fn six_of(object: &mut Object, trees: bool, lo: u64, hi: u64) -> SeriesReduced
+    ensures { SixLong trees lo hi result object.old object.new }
+{
+    if trees {
+        ask_of(object, lo, hi)
+    } else {
+        reduce_of(object, lo, hi)
+    }
+}
+
+/// The plain values of the elements of a range by all six kinds. The tree of each is made first, where that is asked and there is none.
+pub fn six_held(alloc: Global, slot: &mut Slot, trees: bool, lo: u64, hi: u64) -> SeriesReduced
+    ensures { SixBehind trees lo hi result slot.old.raw.inner slot.new.raw.inner }
 {
     match take(alloc, slot) {
         None => not_reduced(not_held()),
         Some(mut held) => {
-            let answer = ask_of(&mut held, lo, hi);
+            let answer = six_of(&mut held, trees, lo, hi);
             put(slot, held);
             answer
         }

@@ -1,14 +1,15 @@
-//! Questions at a series by one kind, which go by that kind's tree, and the tree itself.
+//! Questions at a series by one kind, or by all six, which go by that kind's tree, and the tree itself.
 ghost use Rattle.std.specs.Prelude.{◌≡◌};
 ghost use Rattle.livevec_c.specs.Kinds.{kind_at};
 ghost use Rattle.livevec_c.specs.SeriesAnswers.{unheld, unreduced_by};
 ghost use Rattle.livevec_c.specs.SeriesHeld.{AtObject, Long};
-ghost use Rattle.livevec_c.specs.SeriesValued.{PreparesBehind, PreparesSeries, ValuesBehind, ValuesSeries, unkind};
+ghost use Rattle.livevec_c.specs.SeriesValued.{PreparesBehind, PreparesSeries, ValuesBehind, ValuesBy, ValuesSeries, unkind};
 
 use crate::boards::kind_of;
 use crate::objects::Object;
 use crate::results::{BAD_KIND, NO_HANDLE};
 use crate::said::shown_values;
+use crate::series_asks::six_held;
 use crate::series_held::HasSeries;
 use crate::series_results::{
     Refused, SeriesReduced, not_held, not_reduced, not_refused, refusal_answer,
@@ -65,15 +66,9 @@ fn value_of_object(object: &mut Object, kind: Kind, lo: u64, hi: u64) -> SeriesR
     }
 }
 
-/// The plain value of the elements of a range by one kind, whose tree is made first, where there is none.
-#[unsafe(no_mangle)]
-pub extern "C" fn livevec_proved_series_value(
-    alloc: Global,
-    slot: &mut Slot,
-    kind: u32,
-    lo: u64,
-    hi: u64,
-) -> SeriesReduced
+// The same of what lies behind a slot, by the kind of a number.
+#[inline(always)]
+fn value_held(alloc: Global, slot: &mut Slot, kind: u32, lo: u64, hi: u64) -> SeriesReduced
     ensures { ValuesBehind (kind_at kind) lo hi result slot.old.raw.inner slot.new.raw.inner }
 {
     let Some(kind) = kind_of(kind) else {
@@ -86,6 +81,27 @@ pub extern "C" fn livevec_proved_series_value(
     let answer = value_of_object(&mut held, kind, lo, hi);
     put(slot, held);
     answer
+}
+
+/// The plain values of the elements of a range by all six kinds, each by its tree, which is made first where that is asked; or the value by one
+/// kind, whose tree is made first, where there is none.
+#[unsafe(no_mangle)]
+pub extern "C" fn livevec_proved_series_value(
+    alloc: Global,
+    slot: &mut Slot,
+    six: bool,
+    trees: bool,
+    kind: u32,
+    lo: u64,
+    hi: u64,
+) -> SeriesReduced
+    ensures { ValuesBy six trees (kind_at kind) lo hi result slot.old.raw.inner slot.new.raw.inner }
+{
+    if six {
+        six_held(alloc, slot, trees, lo, hi)
+    } else {
+        value_held(alloc, slot, kind, lo, hi)
+    }
 }
 
 // Makes the tree of a kind of what has a series.

@@ -9,11 +9,11 @@ use Rattle.livevec_c.specs.Behind.{State}
 use Rattle.livevec_c.proofs.AskedLaws.{asks_six, refuses_six}
 use Rattle.livevec_c.proofs.reads.ask_six.Goals as goal
 
-pub returns-in-Ok : goal.returns-in-Ok
-returns-in-Ok c =
+pub returns-in-Ok-clause-answer : goal.returns-in-Ok-clause-answer
+returns-in-Ok-clause-answer c =
     let values = c.six_values.ensures.values ∙ ap (λ (s : State). spread (fold_of (six_operations_by (table_of s.body.automaton)) (slice_of s.history.journal c.args.lo c.args.hi))) c.in-Ok.ensures.same in
-    asks_six c.args.lo c.args.hi c.args.vector.now c.six_values.new.vector c.in-Ok.answer c.six_values.result _ c.in-Ok.ensures.ok c.in-Ok.ensures.limits (c.six_values.ensures.same ∙ c.in-Ok.ensures.same) values refl
+    asks_six c.args.lo c.args.hi c.args.vector.now c.in-Ok.answer c.six_values.result _ c.in-Ok.ensures.ok c.in-Ok.ensures.limits values refl
 
-pub returns-in-Err : goal.returns-in-Err
-returns-in-Err c =
-    refuses_six c.args.lo c.args.hi c.args.vector.now _ c.in-Err.refusal _ c.in-Err.ensures.err c.in-Err.ensures.limits c.in-Err.ensures.same (rw (← c.number.ensures) (rw (← c.detail.ensures) c.not_reduced.ensures))
+pub returns-in-Err-clause-answer : goal.returns-in-Err-clause-answer
+returns-in-Err-clause-answer c =
+    refuses_six c.args.lo c.args.hi c.args.vector.now c.in-Err.refusal _ c.in-Err.ensures.err c.in-Err.ensures.limits (rw (← c.number.ensures) (rw (← c.detail.ensures) c.not_reduced.ensures))
