@@ -99,9 +99,13 @@ TOLD_AT_TWO(run, (livevec_job *job, livevec_outcome *outcome), job, outcome, (jo
 ANSWERED_AT_TWO(livevec_vetted, vet, (livevec_vector *slot, livevec_outcome *outcome), slot, enter_to_read, outcome, enter_to_read, (slot, outcome))
 ANSWERED_AT_TWO(livevec_accepted, accept, (livevec_vector *slot, livevec_outcome *outcome), slot, enter, outcome, enter_to_read, (slot, outcome))
 TOLD(forget, (livevec_vector *slot), slot, (slot))
-ANSWERED_AT_TWO(livevec_count, blocks, (livevec_vector *slot, livevec_batch *batch, uint32_t first, uint32_t limit), slot, enter_to_read, batch, enter,
-                (slot, batch, first, limit))
-ANSWERED_AT_TWO(livevec_count, subtree, (livevec_vector *slot, livevec_batch *batch, uint32_t number), slot, enter_to_read, batch, enter, (slot, batch, number))
+/* Jobs that are copied: of blocks, or of a subtree. */
+livevec_count livevec_proved_copy(livevec_vector *slot, livevec_batch *batch, bool subtree, uint32_t first, uint32_t limit);
+#define COPIED(name, parameters, call)                                                                                          \
+    BY_PROVED(livevec_count, AS_STRUCT, name, parameters, THERE(slot && batch), enter_both(&slot->busy_, enter_to_read, &batch->busy_, enter), \
+              LEAVES_BOTH(slot, batch), call)
+COPIED(blocks, (livevec_vector *slot, livevec_batch *batch, uint32_t first, uint32_t limit), copy(slot, batch, false, first, limit))
+COPIED(subtree, (livevec_vector *slot, livevec_batch *batch, uint32_t number), copy(slot, batch, true, number, 0))
 ANSWERED_AT_TWO(livevec_count, accept_subtree, (livevec_vector *slot, livevec_batch *batch), slot, enter, batch, enter, (slot, batch))
 TOLD(run_blocks, (livevec_batch *batch), batch, (batch))
 ANSWERED_AT_TWO(livevec_taken, accept_blocks, (livevec_vector *slot, livevec_batch *batch), slot, enter, batch, enter, (slot, batch))

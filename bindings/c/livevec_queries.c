@@ -4,7 +4,7 @@
 /* No name is as long as this, and so much of one that is longer is enough to refuse it. */
 #define OF_NAME(length) ((length) > LIVEVEC_NAME_BYTES ? LIVEVEC_NAME_BYTES + 1 : (length))
 
-TOLD(queries_new, (livevec_queries *slot), slot, (slot))
+BEGUN(queries_new, livevec_queries, NEW_QUERIES)
 AT_ONE(uint32_t, AS_NUMBER, watch, (livevec_queries *slot, const char *name, size_t name_length, uint32_t kind, uint32_t lo, uint32_t hi), THERE(slot && name),
        slot, enter, (slot, name, OF_NAME(name_length), kind, lo, hi))
 AT_ONE(uint32_t, AS_NUMBER, unwatch, (livevec_queries *slot, const char *name, size_t name_length), THERE(slot && name), slot, enter, (slot, name, OF_NAME(name_length)))

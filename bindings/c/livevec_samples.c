@@ -2,20 +2,18 @@
 #include "livevec_slots.h"
 
 /* What samples and a series have in common is done at `values`. The proved exports know one type of slot. */
-uint32_t livevec_proved_samples_new(livevec_series *slot);
 livevec_series_edited livevec_proved_samples_edit(livevec_series *slot, bool expires, int64_t time, int64_t value);
 livevec_sample livevec_proved_series_get(livevec_series *slot, uint64_t index, bool timed);
 livevec_series_scanned livevec_proved_series_read(livevec_series *slot, bool times, uint64_t lo, uint64_t hi, int64_t *buffer, size_t length);
 livevec_window livevec_proved_samples_window(livevec_series *slot, bool last, int64_t since, int64_t until, uint64_t span);
 livevec_series_scanned livevec_proved_series_save(livevec_series *slot, uint64_t from, uint8_t *buffer, size_t length);
-uint32_t livevec_proved_series_begin_load(livevec_series *slot);
 uint32_t livevec_proved_series_load(livevec_series *slot, const uint8_t *bytes, size_t length);
 uint32_t livevec_proved_series_end_load(livevec_series *slot, bool timed);
 
 /* `livevec_NAME` at the values of samples. */
 #define AT_VALUES(answer, as, name, parameters, as_slot, call) ENTERED(answer, as, name, parameters, THERE(slot), &slot->values, as_slot, call)
 
-AT_VALUES(uint32_t, AS_NUMBER, samples_new, (livevec_samples *slot), enter, samples_new(&slot->values))
+AT_VALUES(uint32_t, AS_NUMBER, samples_new, (livevec_samples *slot), enter, begin(&slot->values, NEW_SAMPLES))
 AT_VALUES(uint32_t, AS_NUMBER, free_samples, (livevec_samples *slot), enter, free(&slot->values, A_SERIES))
 AT_VALUES(livevec_series_edited, AS_STRUCT, samples_push, (livevec_samples *slot, int64_t time, int64_t value),
           enter, samples_edit(&slot->values, false, time, value))
@@ -81,9 +79,9 @@ livevec_series_reduced livevec_samples_value_of_last(livevec_samples *slot, uint
 /* As bytes. */
 ENTERED(livevec_series_scanned, AS_STRUCT, series_save, (livevec_series *slot, uint64_t from, uint8_t *buffer, size_t length),
         first_of(THERE(slot), ARRAY(buffer, length)), slot, enter_to_read, series_save(slot, from, buffer ? buffer : &(uint8_t){0}, length))
-ENTERED(uint32_t, AS_NUMBER, series_begin_load, (livevec_series *slot), THERE(slot), slot, enter, series_begin_load(slot))
+BEGUN(series_begin_load, livevec_series, NEW_LOADER)
 ENTERED(uint32_t, AS_NUMBER, series_load, (livevec_series *slot, const uint8_t *bytes, size_t length), first_of(THERE(slot), ARRAY(bytes, length)), slot,
         enter, series_load(slot, bytes ? bytes : &(uint8_t){0}, length))
 ENTERED(uint32_t, AS_NUMBER, series_end_load, (livevec_series *slot), THERE(slot), slot, enter, series_end_load(slot, false))
-AT_VALUES(uint32_t, AS_NUMBER, samples_begin_load, (livevec_samples *slot), enter, series_begin_load(&slot->values))
+AT_VALUES(uint32_t, AS_NUMBER, samples_begin_load, (livevec_samples *slot), enter, begin(&slot->values, NEW_LOADER))
 AT_VALUES(uint32_t, AS_NUMBER, samples_end_load, (livevec_samples *slot), enter, series_end_load(&slot->values, true))

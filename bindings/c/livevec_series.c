@@ -1,7 +1,7 @@
 /* Series. */
 #include "livevec_slots.h"
 
-TOLD(series_new, (livevec_series *slot), slot, (slot))
+BEGUN(series_new, livevec_series, NEW_SERIES)
 FREED(free_series, livevec_series, A_SERIES)
 /* An expiry is no livevec_edit_kind. */
 enum { EXPIRE = 7 };

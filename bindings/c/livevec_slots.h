@@ -184,6 +184,11 @@ enum {
 };
 uint32_t livevec_proved_free(void *slot, uint32_t sort);
 
+/* What has no parameter begins by its number. */
+enum { NEW_SERIES = 0, NEW_SAMPLES = 1, NEW_LOADER = 2, NEW_QUERIES = 3 };
+uint32_t livevec_proved_begin(void *slot, uint32_t what);
+#define BEGUN(name, type, what) ENTERED(uint32_t, AS_NUMBER, name, (type *slot), THERE(slot), slot, enter, begin(slot, what))
+
 /* `livevec_NAME` frees what a slot of its type holds, and nothing else. */
 #define FREED(name, type, sort) ENTERED(uint32_t, AS_NUMBER, name, (type *slot), THERE(slot), slot, enter, free(slot, sort))
 

@@ -41,15 +41,6 @@ abbrev pub CopiesObject : ℕ → ℕ → Count → Object → Option Object →
 CopiesObject first limit answer (Vector state only) slot = CopiesVector first limit answer state slot
 CopiesObject first limit answer other slot = (answer ≡ uncopied 101) × (slot ≡ None)
 
--- the same for an empty slot of the batch
-abbrev pub CopiesInto : ℕ → ℕ → Count → Option Object → Option Object → Type 0
-CopiesInto first limit answer None slot = (answer ≡ uncopied 101) × (slot ≡ None)
-CopiesInto first limit answer (Some object) slot = CopiesObject first limit answer object slot
-
-abbrev pub Copies : ℕ → ℕ → Count → Option Object → Option Object → Option Object → Type 0
-Copies first limit answer object (Some batch) slot = (answer ≡ uncopied 104) × (slot ≡ Some batch)
-Copies first limit answer object None slot = CopiesInto first limit answer object slot
-
 -- jobs became their outcomes, of the same blocks, versions and elements, in order; or there was no memory, and they stay
 abbrev pub RunsBatch : ℕ → List (BlockJob SixByTable) → Object → Type 0
 RunsBatch number jobs new = ((number ≡ 6) × (new ≡ Batch jobs)) ⊎ ((number ≡ 0) × (new ≡ BatchOutcome jobs))

@@ -1,6 +1,7 @@
 -- Names the files of definitions of `livevec_c`.
 pub mod Answers
 pub mod Audits
+pub mod Begun
 pub mod Behind
 pub mod Blocks
 pub mod CellLaws

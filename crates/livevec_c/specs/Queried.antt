@@ -25,13 +25,6 @@ use Rattle.livevec_c.specs.Queries.{QueriesState, place_of, question_refusal, wi
 use Rattle.livevec_c.specs.Seats.{values_for}
 use Rattle.livevec_c.specs.Valued.{valued}
 
--- ---- a set begins
-
--- a slot that was empty holds a set without questions, or there was no memory, and it is empty; a full slot stays
-abbrev pub OpensQueries : ℕ → Option Object → Option Object → Type 0
-OpensQueries number (Some object) new = (number ≡ 104) × (new ≡ Some object)
-OpensQueries number None new = ((number ≡ 6) × (new ≡ None)) ⊎ ((number ≡ 0) × (new ≡ Some (Queries (record { questions = []; told = [] }))))
-
 -- ---- questions come and go
 
 -- the question that a caller asks for, or the number for why there is none: no name, then no kind

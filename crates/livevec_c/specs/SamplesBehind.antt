@@ -16,16 +16,12 @@ use Rattle.livevec_c.specs.declared.series_results.SeriesEdited.{SeriesEdited}
 use Rattle.livevec_c.specs.declared.series_results.SeriesScanned.{SeriesScanned}
 use Rattle.livevec_c.specs.SeriesAnswers.{granted, long_scanned, refused_by, unedited_by, unelement, unheld, unscanned_by}
 use Rattle.livevec_c.specs.SeriesBehind.{EditsSamples, element_in}
-use Rattle.livevec_c.specs.SeriesHeld.{Opens, series_in}
+use Rattle.livevec_c.specs.SeriesHeld.{series_in}
 use Rattle.livevec_c.specs.SeriesPieces.{put_in, put_there, read_in}
 
 -- no samples, by an automaton of this table
 abbrev pub IsNewSamples : List (List ℕ) → Object → Type 0
 IsNewSamples table object = object ≡ Samples (plain_samples table [])
-
--- some for a slot
-abbrev pub OpensSamples : List (List ℕ) → ℕ → Option Object → Option Object → Type 0
-OpensSamples table number old new = Opens (IsNewSamples table) number old new
 
 -- an edit of samples: a push, or an expiry of those that were taken before a time
 abbrev pub sample_edit : Bool → ℤ → ℤ → SamplesState → SampleEdit

@@ -11,7 +11,6 @@ use Rattle.livevec_c.specs.declared.objects.Object.{Object}
 use Rattle.livevec_c.specs.declared.objects.Object.TheVariants.{Loader, Samples, Series}
 use Rattle.livevec_c.specs.declared.series_results.SeriesScanned.{SeriesScanned}
 use Rattle.livevec_c.specs.SeriesAnswers.{granted, unheld, unscanned_by}
-use Rattle.livevec_c.specs.SeriesHeld.{Opens}
 
 -- what is saved of an object: its bytes, and after which edit they are those
 pub record Bytes : Type 0 where
@@ -39,9 +38,6 @@ pub record SavesIn (saved : Option Bytes) (from : ℕ) (answer : SeriesScanned) 
 -- what is loaded was given nothing yet
 abbrev pub IsNewLoader : Object → Type 0
 IsNewLoader object = object ≡ Loader []
-
-abbrev pub OpensLoader : ℕ → Option Object → Option Object → Type 0
-OpensLoader number old new = Opens IsNewLoader number old new
 
 -- bytes are taken in behind the others, or there is no memory for them, and nothing has changed
 abbrev pub GivesObject : List ℕ → ℕ → Object → Object → Type 0

@@ -18,15 +18,11 @@ use Rattle.livevec_c.specs.declared.series_results.SampleElement.{SampleElement}
 use Rattle.livevec_c.specs.declared.series_results.SeriesReduced.{SeriesReduced}
 use Rattle.livevec_c.specs.Cells.{values_cell}
 use Rattle.livevec_c.specs.SeriesAnswers.{long_edited, long_element, long_valued, refused_by, sample_edited, unedited_by, unelement, unheld, unreduced_by}
-use Rattle.livevec_c.specs.SeriesHeld.{AtObject, Long, Opens, series_in}
+use Rattle.livevec_c.specs.SeriesHeld.{AtObject, Long, series_in}
 
 -- a series without elements, by an automaton of this table
 abbrev pub IsNewSeries : List (List ℕ) → Object → Type 0
 IsNewSeries table object = object ≡ Series (plain_series table [])
-
--- one for a slot
-abbrev pub OpensSeries : List (List ℕ) → ℕ → Option Object → Option Object → Type 0
-OpensSeries table number old new = Opens (IsNewSeries table) number old new
 
 -- an edit of a series is answered as the library answers it
 abbrev pub EditsSeries : LongEdit → SeriesEdited → Long → Long → Type 0

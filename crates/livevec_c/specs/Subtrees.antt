@@ -1,5 +1,5 @@
 -- What the calls of whole subtrees do and answer, by what lies behind the slots.
-use Rattle.std.specs.Prelude.{◌≡◌, ◌⊎◌, ℕ, Option, Some, None, option_map, IfSome}
+use Rattle.std.specs.Prelude.{◌≡◌, ◌⊎◌, ℕ, Bool, true, false, Option, Some, None, option_map, IfSome}
 use Rattle.lv_bodies.specs.Automata.{table_of}
 use Rattle.lv_bodies.specs.declared.sixes.SixByTable.{SixByTable}
 use Rattle.lv_refresh.specs.Subtrees.{Copied}
@@ -9,7 +9,7 @@ use Rattle.livevec_c.specs.declared.objects.Object.{Object}
 use Rattle.livevec_c.specs.declared.objects.Object.TheVariants.{Vector, Subtree, SubtreeOutcome}
 use Rattle.livevec_c.specs.declared.results.Count.{Count}
 use Rattle.livevec_c.specs.Behind.{State}
-use Rattle.livevec_c.specs.Blocks.{uncopied}
+use Rattle.livevec_c.specs.Blocks.{CopiesObject, uncopied}
 
 -- the answer of a subtree that was copied or taken in: so many summaries it has
 abbrev pub all_summaries : Count
@@ -33,14 +33,19 @@ abbrev pub CopiesFrom : ℕ → Count → Object → Option Object → Type 0
 CopiesFrom number answer (Vector state only) slot = CopiesFromVector number answer state slot
 CopiesFrom number answer other slot = (answer ≡ uncopied 101) × (slot ≡ None)
 
--- the same for an empty slot of the batch
-abbrev pub CopiesSubtreeInto : ℕ → Count → Option Object → Option Object → Type 0
-CopiesSubtreeInto number answer None slot = (answer ≡ uncopied 101) × (slot ≡ None)
-CopiesSubtreeInto number answer (Some object) slot = CopiesFrom number answer object slot
+-- the same, or of blocks from this number on
+abbrev pub CopiesJobs : Bool → ℕ → ℕ → Count → Object → Option Object → Type 0
+CopiesJobs true number limit answer object slot = CopiesFrom number answer object slot
+CopiesJobs false number limit answer object slot = CopiesObject number limit answer object slot
 
-abbrev pub CopiesSubtree : ℕ → Count → Option Object → Option Object → Option Object → Type 0
-CopiesSubtree number answer object (Some batch) slot = (answer ≡ uncopied 104) × (slot ≡ Some batch)
-CopiesSubtree number answer object None slot = CopiesSubtreeInto number answer object slot
+-- the same for an empty slot of the batch
+abbrev pub CopiesInto : Bool → ℕ → ℕ → Count → Option Object → Option Object → Type 0
+CopiesInto subtree number limit answer None slot = (answer ≡ uncopied 101) × (slot ≡ None)
+CopiesInto subtree number limit answer (Some object) slot = CopiesJobs subtree number limit answer object slot
+
+abbrev pub Copies : Bool → ℕ → ℕ → Count → Option Object → Option Object → Option Object → Type 0
+Copies subtree number limit answer object (Some batch) slot = (answer ≡ uncopied 104) × (slot ≡ Some batch)
+Copies subtree number limit answer object None slot = CopiesInto subtree number limit answer object slot
 
 -- an outcome may be taken in by a vector: it wasn't yet, and what it is of stands there
 abbrev pub CanTakeIn : State → Option (Copied SixByTable) → Type 0

@@ -1,12 +1,13 @@
 //! Jobs of many blocks at once: they are copied with the vector, and computed without it.
 ghost use Rattle.std.specs.Prelude.{◌≡◌, ◌<◌, ◌^◌, IfOk, None, length};
 ghost use Rattle.livevec_c.specs.declared.objects.Object.TheVariants as behind;
-ghost use Rattle.livevec_c.specs.Blocks.{Copies, CopiesObject, CopiesVector, KeepsCopies, RunsBatch, RunsBlocks, RunsObject};
+ghost use Rattle.livevec_c.specs.Blocks.{CopiesObject, CopiesVector, KeepsCopies, RunsBatch, RunsBlocks, RunsObject};
+ghost use Rattle.livevec_c.specs.Subtrees.{Copies, CopiesJobs};
 
 use crate::objects::{Object, nothing, refill};
 use crate::results::{Count, IN_USE, NO_HANDLE, NO_MEMORY, not_copied};
 use crate::slots::{Slot, is_full, put, take};
-use crate::subtrees::run_subtree;
+use crate::subtrees::{copy_subtree, run_subtree};
 use lv_bodies::SixByTable;
 use lv_live::{Batch, Live};
 use std::alloc::{AllocError, Global};
@@ -69,16 +70,37 @@ fn copy_of(alloc: Global, object: &Object, first: u32, limit: u32, slot: &mut Sl
     }
 }
 
-/// Copies each block that is whole and not fresh, of at most so many from one on, into an empty slot. None is claimed by it.
+// Copies jobs of an object into an empty slot: of blocks from one on, or of a subtree.
+fn copy_jobs(
+    alloc: Global,
+    object: &Object,
+    subtree: bool,
+    first: u32,
+    limit: u32,
+    slot: &mut Slot,
+) -> Count
+    requires { slot.old.raw.inner ≡ None }
+    ensures { CopiesJobs subtree first limit result object.now slot.new.raw.inner }
+{
+    if subtree {
+        copy_subtree(alloc, object, first, slot)
+    } else {
+        copy_of(alloc, object, first, limit, slot)
+    }
+}
+
+/// Copies each block that is whole and not fresh, of at most so many from one on, into an empty slot; or the elements of the subtree of that
+/// number, a node of level 4, where it is whole, and neither its first block nor its last is fresh. Nothing is claimed by it.
 #[unsafe(no_mangle)]
-pub extern "C" fn livevec_proved_blocks(
+pub extern "C" fn livevec_proved_copy(
     alloc: Global,
     slot: &mut Slot,
     batch: &mut Slot,
+    subtree: bool,
     first: u32,
     limit: u32,
 ) -> Count
-    ensures answer { Copies first limit result slot.old.raw.inner batch.old.raw.inner batch.new.raw.inner }
+    ensures answer { Copies subtree first limit result slot.old.raw.inner batch.old.raw.inner batch.new.raw.inner }
     ensures same { slot.new.raw.inner ≡ slot.old.raw.inner }
 {
     if is_full(batch) {
@@ -87,7 +109,7 @@ pub extern "C" fn livevec_proved_blocks(
     match take(alloc, slot) {
         None => not_copied(NO_HANDLE),
         Some(held) => {
-            let answer = copy_of(alloc, &held, first, limit, batch);
+            let answer = copy_jobs(alloc, &held, subtree, first, limit, batch);
             put(slot, held);
             answer
         }

@@ -2,6 +2,7 @@
 #![tactic(auto)]
 
 mod beginnings;
+mod begun;
 mod blocks;
 mod blocks_back;
 mod boards;

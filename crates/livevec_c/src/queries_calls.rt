@@ -1,13 +1,13 @@
 //! Sets of standing queries: how they begin, and how their questions come and go.
-ghost use Rattle.std.specs.Prelude.{◌≡◌, [], IfOk};
-ghost use Rattle.livevec_c.specs.Queried.{OpensQueries, Unwatches, UnwatchesBehind, UnwatchesObject, Watches, WatchesBehind, WatchesObject, question_in};
-ghost use Rattle.livevec_c.specs.declared.objects.Object.TheVariants as objects;
+ghost use Rattle.std.specs.Prelude.{◌≡◌, IfOk};
+ghost use Rattle.livevec_c.specs.Begun.{IsNewQueries};
+ghost use Rattle.livevec_c.specs.Queried.{Unwatches, UnwatchesBehind, UnwatchesObject, Watches, WatchesBehind, WatchesObject, question_in};
 
 use crate::boards::kind_of;
 use crate::objects::Object;
 use crate::queries::Queries;
-use crate::results::{BAD_KIND, IN_USE, NO_HANDLE, NO_MEMORY};
-use crate::slots::{Slot, is_full, put, take};
+use crate::results::{BAD_KIND, NO_HANDLE};
+use crate::slots::{Slot, put, take};
 use lv_bodies::Name;
 use lv_standing::Query;
 use std::alloc::{AllocError, Global};
@@ -15,28 +15,11 @@ use std::alloc::{AllocError, Global};
 /// The number for bytes that are no name.
 pub const BAD_NAME: u32 = 114;
 
-// A set without questions in a place of its own.
-fn new_queries(alloc: Global) -> Result<Box<Object>, AllocError>
-    ensures { IfOk result (λ b. b.value ≡ objects.Queries (record { questions = []; told = [] })) }
+/// A set without questions in a place of its own.
+pub fn new_queries(alloc: Global) -> Result<Box<Object>, AllocError>
+    ensures { IfOk result (λ b. IsNewQueries b.value) }
 {
     Ok(Box::new(alloc, Object::Queries(Queries::new(alloc)))?)
-}
-
-/// Puts a set without questions into an empty slot.
-#[unsafe(no_mangle)]
-pub extern "C" fn livevec_proved_queries_new(alloc: Global, slot: &mut Slot) -> u32
-    ensures { OpensQueries result slot.old.raw.inner slot.new.raw.inner }
-{
-    if is_full(slot) {
-        return IN_USE;
-    }
-    match new_queries(alloc) {
-        Err(_) => NO_MEMORY,
-        Ok(held) => {
-            put(slot, held);
-            0
-        }
-    }
 }
 
 // The question that a caller asks for, or the number for why there is none.

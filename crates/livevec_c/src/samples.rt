@@ -1,18 +1,18 @@
 //! Samples: values with times that do not fall. Their values are a series, and answer as one.
 ghost use Rattle.std.specs.Prelude.{◌≡◌, IfOk, length};
 ghost use Rattle.lv_bodies.specs.Plain.{program_table};
-ghost use Rattle.livevec_c.specs.SamplesBehind.{IsNewSamples, OpensSamples, SamplesEdited, SamplesObject, TellsWindow, WindowOf, WindowsBehind, WindowsIn, sample_edit, sample_in, times_in, times_put_in, unwindowed};
+ghost use Rattle.livevec_c.specs.SamplesBehind.{IsNewSamples, SamplesEdited, SamplesObject, TellsWindow, WindowOf, WindowsBehind, WindowsIn, sample_edit, sample_in, times_in, times_put_in, unwindowed};
 ghost use Rattle.livevec_c.specs.SeriesBehind.{EditsSamples};
 ghost use Rattle.livevec_c.specs.declared.objects.Object.TheVariants as objects;
 
 use crate::objects::Object;
-use crate::results::{IN_USE, NO_HANDLE, NO_MEMORY};
+use crate::results::NO_HANDLE;
 use crate::series_pieces::{lay_elements, piece_answer};
 use crate::series_results::{
     SampleElement, SeriesEdited, SeriesScanned, no_element, not_edited, not_held, not_refused,
     not_scanned, refusal_answer, sample_answer,
 };
-use crate::slots::{Slot, is_full, put, take};
+use crate::slots::{Slot, put, take};
 use lv_bodies::Automaton;
 use lv_series::{LongRefusal, Sample, Samples, Window};
 use std::alloc::{AllocError, Global};
@@ -27,29 +27,12 @@ pub struct SampleWindow {
     pub hi: u64,
 }
 
-// New samples in a place of their own.
-fn new_samples(alloc: Global) -> Result<Box<Object>, AllocError>
+/// New samples in a place of their own.
+pub fn new_samples(alloc: Global) -> Result<Box<Object>, AllocError>
     ensures { IfOk result (λ b. IsNewSamples program_table b.value) }
 {
     let samples = Samples::new(alloc, Automaton::program());
     Ok(Box::new(alloc, Object::Samples(samples))?)
-}
-
-/// Puts new samples with the program's automaton into an empty slot.
-#[unsafe(no_mangle)]
-pub extern "C" fn livevec_proved_samples_new(alloc: Global, slot: &mut Slot) -> u32
-    ensures { OpensSamples program_table result slot.old.raw.inner slot.new.raw.inner }
-{
-    if is_full(slot) {
-        return IN_USE;
-    }
-    match new_samples(alloc) {
-        Err(_) => NO_MEMORY,
-        Ok(held) => {
-            put(slot, held);
-            0
-        }
-    }
 }
 
 // An edit of samples: a push, or an expiry of those that were taken before a time.

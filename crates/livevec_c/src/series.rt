@@ -3,41 +3,23 @@ ghost use Rattle.std.specs.Prelude.{◌≡◌, IfOk};
 ghost use Rattle.lv_bodies.specs.Plain.{program_table};
 ghost use Rattle.lv_series.specs.declared.edits.LongEdit.TheVariants as asked;
 ghost use Rattle.livevec_c.specs.FlatEdits.{long_edit_at};
-ghost use Rattle.livevec_c.specs.SeriesBehind.{EditsBehind, EditsBehindBy, EditsLong, EditsSamplesBy, IsNewSeries, OpensSeries, sample_edit_of};
+ghost use Rattle.livevec_c.specs.SeriesBehind.{EditsBehind, EditsBehindBy, EditsLong, EditsSamplesBy, IsNewSeries, sample_edit_of};
 ghost use Rattle.livevec_c.specs.declared.objects.Object.TheVariants as objects;
 
 use crate::flat_edits::long_edit_of;
 use crate::objects::Object;
-use crate::results::{IN_USE, NO_MEMORY};
 use crate::series_results::{SeriesEdited, edit_answer, not_edited, not_held, sample_answer};
 use crate::slots::{Slot, is_full, put, take_full};
 use lv_bodies::Automaton;
 use lv_series::{LongEdit, Samples, Series};
 use std::alloc::{AllocError, Global};
 
-// A new series in a place of its own.
-fn new_series(alloc: Global) -> Result<Box<Object>, AllocError>
+/// A new series in a place of its own.
+pub fn new_series(alloc: Global) -> Result<Box<Object>, AllocError>
     ensures { IfOk result (λ b. IsNewSeries program_table b.value) }
 {
     let series = Series::new(alloc, Automaton::program());
     Ok(Box::new(alloc, Object::Series(series))?)
-}
-
-/// Puts a new series with the program's automaton into an empty slot.
-#[unsafe(no_mangle)]
-pub extern "C" fn livevec_proved_series_new(alloc: Global, slot: &mut Slot) -> u32
-    ensures { OpensSeries program_table result slot.old.raw.inner slot.new.raw.inner }
-{
-    if is_full(slot) {
-        return IN_USE;
-    }
-    match new_series(alloc) {
-        Err(_) => NO_MEMORY,
-        Ok(held) => {
-            put(slot, held);
-            0
-        }
-    }
 }
 
 // An edit of samples by one of their values, where it leaves each value its time.

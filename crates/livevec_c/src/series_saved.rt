@@ -1,14 +1,14 @@
 //! A series as bytes, or samples, and back.
 ghost use Rattle.std.specs.Prelude.{◌≡◌, ◌%◌, IfOk, None};
-ghost use Rattle.livevec_c.specs.SavedBehind.{EndsLoad, EndsLoadIn, EndsLoadOf, GivesBytes, GivesObject, IsNewLoader, LoadsOf, OpensLoader, SavesFrom, SavesIn, saved_behind, saved_in};
+ghost use Rattle.livevec_c.specs.SavedBehind.{EndsLoad, EndsLoadIn, EndsLoadOf, GivesBytes, GivesObject, IsNewLoader, LoadsOf, SavesFrom, SavesIn, saved_behind, saved_in};
 
 use crate::jobs::refilled;
 use crate::objects::{Object, nothing};
-use crate::results::{IN_USE, NO_HANDLE, NO_MEMORY};
+use crate::results::NO_HANDLE;
 use crate::series_results::{
     Refused, SeriesScanned, not_held, not_refused, not_scanned, refusal_answer,
 };
-use crate::slots::{Slot, is_full, put, take};
+use crate::slots::{Slot, put, take};
 use lv_saved::{LoadRefusal, Loader, save, save_samples};
 use lv_series::LongRefusal;
 use std::alloc::{AllocError, Global};
@@ -58,29 +58,12 @@ pub extern "C" fn livevec_proved_series_save(
     }
 }
 
-// A loader in a place of its own.
-fn new_loader(alloc: Global) -> Result<Box<Object>, AllocError>
+/// A loader in a place of its own.
+pub fn new_loader(alloc: Global) -> Result<Box<Object>, AllocError>
     ensures { IfOk result (λ b. IsNewLoader b.value) }
 {
     let loader = Loader::new(alloc);
     Ok(Box::new(alloc, Object::Loader(loader))?)
-}
-
-/// Begins to load a series, or samples, into an empty slot.
-#[unsafe(no_mangle)]
-pub extern "C" fn livevec_proved_series_begin_load(alloc: Global, slot: &mut Slot) -> u32
-    ensures { OpensLoader result slot.old.raw.inner slot.new.raw.inner }
-{
-    if is_full(slot) {
-        return IN_USE;
-    }
-    match new_loader(alloc) {
-        Err(_) => NO_MEMORY,
-        Ok(held) => {
-            put(slot, held);
-            0
-        }
-    }
 }
 
 // Bytes for an object that is loaded.

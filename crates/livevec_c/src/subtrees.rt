@@ -2,12 +2,12 @@
 ghost use Rattle.std.specs.Prelude.{◌≡◌, IfOk, None, option_map};
 ghost use Rattle.livevec_c.specs.declared.objects.Object.TheVariants as behind;
 ghost use Rattle.livevec_c.specs.Blocks.{RunsSubtree};
-ghost use Rattle.livevec_c.specs.Subtrees.{CopiesFrom, CopiesFromVector, CopiesSubtree, KeepsJob, TakesInAt, TakesInFrom, TakesObjectIn, TakesSubtree, TakesSubtreeIn, copied_answer};
+ghost use Rattle.livevec_c.specs.Subtrees.{CopiesFrom, CopiesFromVector, KeepsJob, TakesInAt, TakesInFrom, TakesObjectIn, TakesSubtree, TakesSubtreeIn, copied_answer};
 
 use crate::kind_vectors::KindVector;
 use crate::objects::Object;
-use crate::results::{Count, IN_USE, NO_HANDLE, NO_MEMORY, not_copied};
-use crate::slots::{Slot, is_full, put, take};
+use crate::results::{Count, NO_HANDLE, NO_MEMORY, not_copied};
+use crate::slots::{Slot, put, take};
 use lv_bodies::SixByTable;
 use lv_live::Live;
 use lv_refresh::{SUBTREE_SUMMARIES, SubtreeJob, SubtreeOutcome};
@@ -49,39 +49,14 @@ fn copy_vector(alloc: Global, live: &Live<SixByTable>, number: u32, slot: &mut S
     }
 }
 
-// Copies a subtree of an object into an empty slot.
-fn copy_of(alloc: Global, object: &Object, number: u32, slot: &mut Slot) -> Count
+/// Copies a subtree of an object into an empty slot.
+pub fn copy_subtree(alloc: Global, object: &Object, number: u32, slot: &mut Slot) -> Count
     requires { slot.old.raw.inner ≡ None }
     ensures { CopiesFrom number result object.now slot.new.raw.inner }
 {
     match object {
         Object::Vector(vector, _) => copy_vector(alloc, vector.live(), number, slot),
         _ => not_copied(NO_HANDLE),
-    }
-}
-
-/// Copies the elements of a node of level 4 into an empty slot, where it is whole, and neither its first block nor its last is fresh. No node
-/// is claimed by it.
-#[unsafe(no_mangle)]
-pub extern "C" fn livevec_proved_subtree(
-    alloc: Global,
-    slot: &mut Slot,
-    batch: &mut Slot,
-    number: u32,
-) -> Count
-    ensures answer { CopiesSubtree number result slot.old.raw.inner batch.old.raw.inner batch.new.raw.inner }
-    ensures same { slot.new.raw.inner ≡ slot.old.raw.inner }
-{
-    if is_full(batch) {
-        return not_copied(IN_USE);
-    }
-    match take(alloc, slot) {
-        None => not_copied(NO_HANDLE),
-        Some(held) => {
-            let answer = copy_of(alloc, &held, number, batch);
-            put(slot, held);
-            answer
-        }
     }
 }
 
