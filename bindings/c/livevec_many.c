@@ -1,8 +1,10 @@
 /* Many pushes, writes and questions of a vector by one call. */
 #include "livevec_slots.h"
 
-/* All pushes at once, or none. */
-livevec_pushed livevec_proved_push_all(livevec_vector *slot, const int64_t *values, size_t length);
+/* All pushes at once, or all writes, or none. As many values as indices are handed over. A proved call is never given a null pointer. */
+livevec_many livevec_proved_edit_all(livevec_vector *slot, bool pushes, const uint32_t *indices, size_t places, const int64_t *values, size_t length);
+static const uint32_t no_index[1];
+static const int64_t no_value[1];
 
 livevec_pushed livevec_push_many(livevec_vector *slot, const int64_t *values, size_t length)
 {
@@ -14,23 +16,19 @@ livevec_pushed livevec_push_many(livevec_vector *slot, const int64_t *values, si
     LEAVES(left, slot);
     if (!length)
         return (livevec_pushed){.refusal = livevec_proved_count(slot, A_VECTOR, ELEMENTS).refusal};
-    return livevec_proved_push_all(slot, values, length);
+    livevec_many told = livevec_proved_edit_all(slot, true, no_index, 0, values, length);
+    return (livevec_pushed){.refusal = told.refusal, .detail = told.detail, .edit = told.edit, .pushed = (uint32_t)told.done};
 }
-
-/* All writes at once, or none. As many values as indices are handed over. */
-livevec_many livevec_proved_write_all(livevec_vector *slot, const uint32_t *indices, size_t places, const int64_t *values, size_t length);
 
 livevec_many livevec_write_many(livevec_vector *slot, const uint32_t *indices, const int64_t *values, size_t length)
 {
-    static const uint32_t no_index[1];
-    static const int64_t no_value[1];
     uint32_t why = first_of(THERE(slot && (indices || !length)), ARRAY(values, length));
     if (why)
         return (livevec_many){.refusal = why};
     if (!enter(&slot->busy_))
         return (livevec_many){.refusal = LIVEVEC_BUSY};
     LEAVES(left, slot);
-    return livevec_proved_write_all(slot, length ? indices : no_index, length, length ? values : no_value, length);
+    return livevec_proved_edit_all(slot, false, length ? indices : no_index, length, length ? values : no_value, length);
 }
 
 /* What the first of some ranges that is refused is refused with, at a slot that is entered. An empty range is refused by its kind or

@@ -35,35 +35,35 @@ livevec_series_element livevec_series_get(livevec_series *slot, uint64_t index)
 }
 
 /* Of arrays a proved call is never given a null pointer: where there are no places, they begin anywhere. */
-livevec_series_pushed livevec_proved_series_push_all(livevec_series *slot, const int64_t *values, size_t length);
 livevec_series_scanned livevec_proved_series_read(livevec_series *slot, bool times, uint64_t lo, uint64_t hi, int64_t *buffer, size_t length);
+
+/* All pushes at once, or all writes, or none. As many values as indices are handed over. */
+livevec_series_many livevec_proved_series_edit_all(livevec_series *slot, bool pushes, const uint64_t *indices, size_t places, const int64_t *values,
+                                                   size_t length);
+static const uint64_t no_index[1];
+static const int64_t no_value[1];
 
 livevec_series_pushed livevec_series_push_many(livevec_series *slot, const int64_t *values, size_t length)
 {
-    int64_t nowhere = 0;
     uint32_t why = first_of(THERE(slot), ARRAY(values, length));
     if (why)
         return (livevec_series_pushed){.refusal = why};
     if (!enter(&slot->busy_))
         return (livevec_series_pushed){.refusal = LIVEVEC_BUSY};
     LEAVES(left, slot);
-    return livevec_proved_series_push_all(slot, values ? values : &nowhere, length);
+    livevec_series_many told = livevec_proved_series_edit_all(slot, true, no_index, 0, length ? values : no_value, length);
+    return (livevec_series_pushed){.refusal = told.refusal, .edit = told.edit, .pushed = told.done};
 }
-
-/* All writes at once, or none. As many values as indices are handed over. */
-livevec_series_many livevec_proved_series_write_all(livevec_series *slot, const uint64_t *indices, size_t places, const int64_t *values, size_t length);
 
 livevec_series_many livevec_series_write_many(livevec_series *slot, const uint64_t *indices, const int64_t *values, size_t length)
 {
-    static const uint64_t no_index[1];
-    static const int64_t no_value[1];
     uint32_t why = first_of(THERE(slot && (indices || !length)), ARRAY(values, length));
     if (why)
         return (livevec_series_many){.refusal = why};
     if (!enter(&slot->busy_))
         return (livevec_series_many){.refusal = LIVEVEC_BUSY};
     LEAVES(left, slot);
-    return livevec_proved_series_write_all(slot, length ? indices : no_index, length, length ? values : no_value, length);
+    return livevec_proved_series_edit_all(slot, false, length ? indices : no_index, length, length ? values : no_value, length);
 }
 
 livevec_series_scanned livevec_series_read(livevec_series *slot, uint64_t lo, uint64_t hi, int64_t *buffer, size_t length)

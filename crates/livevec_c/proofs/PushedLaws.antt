@@ -1,15 +1,9 @@
--- Many pushes at once: how many there may be, and that they leave the limits.
-use Rattle.std.proofs.Common.{◌≡◌, ℕ, ℤ, ◌≤◌, Result, Ok, Err, List, [], ◌∷◌, length, refl, ap, ◌∙◌, arith}
-use Rattle.std.specs.Prelude.{IfOk}
+-- Many pushes at once leave the limits.
+use Rattle.std.proofs.Common.{◌≡◌, ℕ, ℤ, Result, Ok, Err, List, [], ◌∷◌, length, refl, ap, ◌∙◌}
 use Rattle.lv_geometry.specs.declared.refusals.Refusal.{Refusal}
 use Rattle.lv_edits.specs.declared.edit.Edit.TheVariants.{Push}
 use Rattle.lv_edits.specs.History.{History, with_edit}
 use Rattle.lv_edits.specs.Pushes.{AnswersAll, with_pushes}
-
--- accepted pushes are no more than the last edit's number
-pub no_more_pushes : (h new : History) (xs : List ℤ) (r : Result ℕ Refusal) → AnswersAll h xs r new → IfOk r (λ edit. length xs ≤ edit)
-no_more_pushes h new xs (Ok edit) answer = omega (arith, answer.edit_is)
-no_more_pushes h new xs (Err refusal) answer = tt
 
 -- pushes leave the limits
 limits_pushed : (h : History) (xs : List ℤ) → (with_pushes h xs).limits ≡ h.limits

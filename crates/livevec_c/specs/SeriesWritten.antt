@@ -33,8 +33,3 @@ pub record WritesSeries (indices : List ℕ) (xs : List ℤ) (answer : SeriesMan
 abbrev pub WritesLong : List ℕ → List ℤ → SeriesMany → Object → Object → Type 0
 WritesLong indices xs answer (Series old) new = (state : Long) × (new ≡ Series state) × WritesSeries indices xs answer old state
 WritesLong indices xs answer other new = (answer ≡ unwritten_by unheld 0) × (new ≡ other)
-
--- of what lies behind a slot
-abbrev pub WritesBehind : List ℕ → List ℤ → SeriesMany → Option Object → Option Object → Type 0
-WritesBehind indices xs answer None new = (answer ≡ unwritten_by unheld 0) × (new ≡ None)
-WritesBehind indices xs answer (Some old) new = (object : Object) × (new ≡ Some object) × WritesLong indices xs answer old object

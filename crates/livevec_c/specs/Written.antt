@@ -43,8 +43,3 @@ pub record WritesVector (indices : List ℕ) (xs : List ℤ) (answer : Many) (ol
 abbrev pub WritesObject : List ℕ → List ℤ → Many → Object → Object → Type 0
 WritesObject indices xs answer (Vector old only) new = (state : State) × (new ≡ Vector state only) × WritesVector indices xs answer old state
 WritesObject indices xs answer other new = (answer ≡ unwritten 101 0 0) × (new ≡ other)
-
--- of what lies behind a slot
-abbrev pub Writes : List ℕ → List ℤ → Many → Option Object → Option Object → Type 0
-Writes indices xs answer None new = (answer ≡ unwritten 101 0 0) × (new ≡ None)
-Writes indices xs answer (Some old) new = (object : Object) × (new ≡ Some object) × WritesObject indices xs answer old object

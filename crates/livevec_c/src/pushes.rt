@@ -1,53 +1,32 @@
-//! Many pushes at once.
-ghost use Rattle.std.specs.Prelude.{◌≡◌, ◌≤◌, length, IfOk};
-ghost use Rattle.livevec_c.specs.Pushed.{Pushes, PushesObject, pushed_by, unpushed};
+//! Many edits at once: pushes, or writes.
+ghost use Rattle.std.specs.Prelude.{◌≡◌, length};
+ghost use Rattle.livevec_c.specs.Pushed.{EditsAll, EditsAllBehind, PushesObject, pushed_by};
 
 use crate::objects::Object;
 use crate::results::{NO_HANDLE, detail};
 use crate::slots::{Slot, put, take};
+use crate::writes::{Many, not_written, write_at_object};
 use lv_geometry::Refusal;
 use std::alloc::Global;
 
-/// What many pushes answer.
-#[repr(C)]
-#[derive(Clone, Copy)]
-pub struct Pushed {
-    pub refusal: u32,
-    pub detail: u32,
-    pub edit: u32,
-    pub pushed: u32,
-}
-
-// What pushes answer where they are refused.
-fn not_pushed(refusal: u32, detail: u32) -> Pushed
-    ensures { result ≡ record { refusal = refusal; detail = detail; edit = 0; pushed = 0 } }
-{
-    Pushed {
-        refusal,
-        detail,
-        edit: 0,
-        pushed: 0,
-    }
-}
-
-// What pushes answer, by what the library does. There are no more of them than edits.
-fn pushes_answer(values: &[i64], answer: Result<u32, Refusal>) -> Pushed
-    requires { IfOk answer (λ edit. length values.now ≤ edit) }
+// What pushes answer, by what the library does.
+fn pushes_answer(values: &[i64], answer: Result<u32, Refusal>) -> Many
     ensures { result ≡ pushed_by (length values.now) answer }
 {
     match answer {
-        Ok(edit) => Pushed {
+        Ok(edit) => Many {
             refusal: 0,
             detail: 0,
             edit,
-            pushed: values.len() as u32,
+            done: values.len(),
+            place: 0,
         },
-        Err(refusal) => not_pushed(refusal.number(), detail(refusal)),
+        Err(refusal) => not_written(refusal.number(), detail(refusal), 0),
     }
 }
 
 // Pushes at an object.
-fn push_at_object(object: &mut Object, values: &[i64]) -> Pushed
+fn push_at_object(object: &mut Object, values: &[i64]) -> Many
     ensures { PushesObject values.now result object.old object.new }
 {
     match object {
@@ -55,19 +34,36 @@ fn push_at_object(object: &mut Object, values: &[i64]) -> Pushed
             let answer = vector.push_all(values);
             pushes_answer(values, answer)
         }
-        _ => not_pushed(NO_HANDLE, 0),
+        _ => not_written(NO_HANDLE, 0, 0),
     }
 }
 
-/// Puts elements at the end, all of them or none.
+// Pushes at an object, or writes.
+fn edit_at_object(object: &mut Object, pushes: bool, indices: &[u32], values: &[i64]) -> Many
+    ensures { EditsAll pushes indices.now values.now result object.old object.new }
+{
+    if pushes {
+        push_at_object(object, values)
+    } else {
+        write_at_object(object, indices, values)
+    }
+}
+
+/// Puts elements at the end, or overwrites those at some indices, each by the value at the same place: all of them, or none.
 #[unsafe(no_mangle)]
-pub extern "C" fn livevec_proved_push_all(alloc: Global, slot: &mut Slot, values: &[i64]) -> Pushed
-    ensures { Pushes values.now result slot.old.raw.inner slot.new.raw.inner }
+pub extern "C" fn livevec_proved_edit_all(
+    alloc: Global,
+    slot: &mut Slot,
+    pushes: bool,
+    indices: &[u32],
+    values: &[i64],
+) -> Many
+    ensures { EditsAllBehind pushes indices.now values.now result slot.old.raw.inner slot.new.raw.inner }
 {
     match take(alloc, slot) {
-        None => not_pushed(NO_HANDLE, 0),
+        None => not_written(NO_HANDLE, 0, 0),
         Some(mut held) => {
-            let answer = push_at_object(&mut held, values);
+            let answer = edit_at_object(&mut held, pushes, indices, values);
             put(slot, held);
             answer
         }

@@ -43,16 +43,7 @@ pub struct SeriesReduced {
     pub values: PlainValues,
 }
 
-/// What many pushes at a series answer.
-#[repr(C)]
-#[derive(Clone, Copy)]
-pub struct SeriesPushed {
-    pub refusal: u32,
-    pub edit: u64,
-    pub pushed: u64,
-}
-
-/// What many writes at a series answer.
+/// What many edits at a series answer.
 #[repr(C)]
 #[derive(Clone, Copy)]
 pub struct SeriesMany {

@@ -2,17 +2,15 @@
 ghost use Rattle.std.specs.Prelude.{◌≡◌, ℤ, List, length};
 ghost use Rattle.lv_series.specs.Batches.{writes_at};
 ghost use Rattle.livevec_c.specs.SeriesAnswers.{unwritten_by};
-ghost use Rattle.livevec_c.specs.SeriesWritten.{WritesBehind, WritesLong, WritesSeries, place_refused};
+ghost use Rattle.livevec_c.specs.SeriesWritten.{WritesLong, WritesSeries, place_refused};
 
 use crate::objects::Object;
 use crate::results::SHORT_BUFFER;
 use crate::series_results::{Refused, SeriesMany, not_held, not_refused, refusal_answer};
-use crate::slots::{Slot, put, take};
 use lv_series::Series;
-use std::alloc::Global;
 
-// What writes answer where they are refused.
-fn not_written(why: Refused, place: usize) -> SeriesMany
+/// What edits answer where they are refused.
+pub fn not_written(why: Refused, place: usize) -> SeriesMany
     ensures { result ≡ unwritten_by why place }
 {
     SeriesMany {
@@ -71,32 +69,12 @@ fn write_at_series(series: &mut Series, indices: &[u64], values: &[i64]) -> Seri
     }
 }
 
-// Writes at an object.
-fn write_at_object(object: &mut Object, indices: &[u64], values: &[i64]) -> SeriesMany
+/// Writes at an object.
+pub fn write_at_object(object: &mut Object, indices: &[u64], values: &[i64]) -> SeriesMany
     ensures { WritesLong indices.now values.now result object.old object.new }
 {
     match object {
         Object::Series(series) => write_at_series(series, indices, values),
         _ => not_written(not_held(), 0),
-    }
-}
-
-/// Overwrites the elements under some indices, each by the value at the same place: all of them, or none.
-#[unsafe(no_mangle)]
-pub extern "C" fn livevec_proved_series_write_all(
-    alloc: Global,
-    slot: &mut Slot,
-    indices: &[u64],
-    values: &[i64],
-) -> SeriesMany
-    ensures { WritesBehind indices.now values.now result slot.old.raw.inner slot.new.raw.inner }
-{
-    match take(alloc, slot) {
-        None => not_written(not_held(), 0),
-        Some(mut held) => {
-            let answer = write_at_object(&mut held, indices, values);
-            put(slot, held);
-            answer
-        }
     }
 }

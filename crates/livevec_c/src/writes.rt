@@ -1,15 +1,13 @@
 //! Many writes at once.
 ghost use Rattle.std.specs.Prelude.{◌≡◌, ℤ, List, length};
 ghost use Rattle.lv_edits.specs.Batches.{writes_at};
-ghost use Rattle.livevec_c.specs.Written.{Writes, WritesObject, WritesVector, place_refused, unwritten};
+ghost use Rattle.livevec_c.specs.Written.{WritesObject, WritesVector, place_refused, unwritten};
 
 use crate::kind_vectors::KindVector;
 use crate::objects::Object;
 use crate::results::{NO_HANDLE, SHORT_BUFFER, detail};
-use crate::slots::{Slot, put, take};
-use std::alloc::Global;
 
-/// What many writes answer.
+/// What many edits answer.
 #[repr(C)]
 #[derive(Clone, Copy)]
 pub struct Many {
@@ -39,8 +37,8 @@ fn place_refused(vector: &KindVector, indices: &[u32]) -> usize
     0
 }
 
-// What writes answer where they are refused.
-fn not_written(refusal: u32, detail: u32, place: usize) -> Many
+/// What edits answer where they are refused.
+pub fn not_written(refusal: u32, detail: u32, place: usize) -> Many
     ensures { result ≡ unwritten refusal detail place }
 {
     Many {
@@ -74,32 +72,12 @@ fn write_at_vector(vector: &mut KindVector, indices: &[u32], values: &[i64]) -> 
     }
 }
 
-// Writes at an object.
-fn write_at_object(object: &mut Object, indices: &[u32], values: &[i64]) -> Many
+/// Writes at an object.
+pub fn write_at_object(object: &mut Object, indices: &[u32], values: &[i64]) -> Many
     ensures { WritesObject indices.now values.now result object.old object.new }
 {
     match object {
         Object::Vector(vector, _) => write_at_vector(vector, indices, values),
         _ => not_written(NO_HANDLE, 0, 0),
-    }
-}
-
-/// Overwrites the elements at some indices, each by the value at the same place: all of them, or none.
-#[unsafe(no_mangle)]
-pub extern "C" fn livevec_proved_write_all(
-    alloc: Global,
-    slot: &mut Slot,
-    indices: &[u32],
-    values: &[i64],
-) -> Many
-    ensures { Writes indices.now values.now result slot.old.raw.inner slot.new.raw.inner }
-{
-    match take(alloc, slot) {
-        None => not_written(NO_HANDLE, 0, 0),
-        Some(mut held) => {
-            let answer = write_at_object(&mut held, indices, values);
-            put(slot, held);
-            answer
-        }
     }
 }

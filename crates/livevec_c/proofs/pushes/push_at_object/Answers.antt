@@ -1,10 +1,6 @@
 -- Proof of `push_at_object`: pushes at an object.
 use Rattle.std.proofs.Common.{refl}
-use Rattle.livevec_c.proofs.PushedLaws.{no_more_pushes}
 use Rattle.livevec_c.proofs.pushes.push_at_object.Goals as goal
-
-pub pushes_answer-requires : goal.pushes_answer-requires
-pushes_answer-requires c = no_more_pushes _ _ c.args.values.now c.push_all-answer.result c.push_all-answer.ensures.answer
 
 pub returns-in-Vector : goal.returns-in-Vector
 returns-in-Vector c =

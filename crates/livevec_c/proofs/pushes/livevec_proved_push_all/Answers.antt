@@ -1,6 +1,0 @@
--- Proof of `livevec_proved_push_all`: puts elements at the end, all of them or none.
-use Rattle.std.proofs.Common.{◌∙◌, Some, ap, sym}
-use Rattle.livevec_c.proofs.pushes.livevec_proved_push_all.Goals as goal
-
-pub returns-in-Some : goal.returns-in-Some
-returns-in-Some c = rw (c.in-Some.ensures.taken ∙ ap Some (sym c.deref_mut.ensures.value)) (_, c.put.ensures, c.push_at_object-answer.ensures)
