@@ -2,6 +2,7 @@
 mod AcceptedLaws
 mod AsScriptsLaws
 mod AskingLaws
+mod BeginLaws
 mod LogLaws
 mod NoticeLaws
 pub mod Noticed

@@ -1,5 +1,5 @@
 //! What lies under a hub's lock.
-ghost use Rattle.std.specs.Prelude.{◌≡◌, ◌<◌, ◌≤◌, ◌&&◌, Some, None, [], IsTrue, if◌then◌else◌, false, true, is_ok, length, map, nat_eq, nat_lt, not, option_map, IfOk, IfErr, IfSome, OnErr};
+ghost use Rattle.std.specs.Prelude.{◌≡◌, ◌<◌, ◌≤◌, ◌&&◌, Some, None, [], IsTrue, if◌then◌else◌, false, true, is_ok, length, map, nat_eq, nat_lt, not, option_map, IfOk, IfErr, IfSome, OnErr, OnOk};
 ghost use mathlib.Core.List.{IsPrefix};
 ghost use Rattle.lv_geometry.specs.declared.nodes.Node.{Node};
 ghost use Rattle.lv_edits.specs.History.{list_of};
@@ -15,7 +15,7 @@ ghost use Rattle.lv_transcript.specs.Transcript.{AreAccepted, IsTrueAnswer, grea
 ghost use Rattle.lv_hub.specs.Counting.{Counts, having_seen};
 ghost use Rattle.lv_hub.specs.declared.log_entry.LogEntry.TheVariants as logged;
 ghost use Rattle.lv_hub.specs.Logging.{CameSince, HasPlace, entry_of, with_entry};
-ghost use Rattle.lv_hub.specs.Told.{Delivers, IsVector, VouchedBy};
+ghost use Rattle.lv_hub.specs.Told.{Delivers, IsVector, VouchedBy, history_of};
 ghost use Rattle.lv_hub.specs.Work.{left_asleep, makes_work};
 
 use crate::histories::{Head, HistoryPrefix, Opened};
@@ -136,6 +136,33 @@ impl<B: Body, N: WithBody<B>> Desk<B, N> {
         share.see(&mut self.head);
         take_edit(&mut self.tap, edit);
         Ok(receipt)
+    }
+
+    /// Makes edits, one after the other, by a share that has all parts and counts none, so that they are all there are. The first that is
+    /// refused is the last, and tells why.
+    pub fn begin(&mut self, share: &mut Share<N>, edits: &[Edit]) -> Result<(), Refusal>
+        requires parts { share.old.parts ≡ N.parts }
+        requires count { share.old.count ≡ 0 }
+        ensures share { OnOk result (share.new ≡ record share.old { count = length edits.now; seen = edits.now }) }
+        ensures history { OnOk result (self.new.live.history ≡ history_of N.limits edits.now) }
+    {
+        self.audit(share);
+        for edit in edits {
+            self.edit(share, *edit)?;
+        }
+        Ok(())
+    }
+
+    // Lets a share with all parts see all edits, which are as many as it counts.
+    fn audit(&mut self, share: &mut Share<N>)
+        requires { share.old.parts ≡ N.parts }
+        ensures counted { length self.old.live.history.journal ≡ share.old.count }
+        ensures share { share.new ≡ having_seen share.old self.old.live.history.journal }
+        ensures vector { IsVector N.limits self.old.live.history }
+        ensures same { self.new ≡ self.old }
+    {
+        share.see(&mut self.head);
+        share.audit(&mut self.book);
     }
 
     // Why an edit is refused that a log has no room for.

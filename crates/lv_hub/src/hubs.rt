@@ -1,5 +1,5 @@
 //! The hub: a lock round a desk, and one call of the desk for each of the hub's.
-ghost use Rattle.std.specs.Prelude.{◌≡◌, ◌↔◌, ◌<◌, true, false, [], IfSome, length, map, Err, None, Some};
+ghost use Rattle.std.specs.Prelude.{◌≡◌, ◌↔◌, ◌<◌, true, false, [], IfSome, OnOk, length, map, Err, None, Some};
 ghost use mathlib.Core.List.{IsPrefix};
 ghost use Rattle.lv_transcript.specs.Transcript.{AreAccepted, greatest};
 ghost use Rattle.lv_hub.specs.Counting.{Counts, having_seen};
@@ -77,6 +77,21 @@ impl<B: Body, N: WithBody<B>> Hub<B, N> {
             body,
         };
         (hub, share)
+    }
+
+    /// Makes the edits that a hub begins with, by a share that has all parts and counts none: the hub has no others then. The first that is
+    /// refused, as `edit` does, is the last.
+    pub fn begin<R: Wait>(
+        &self,
+        rt: &R,
+        share: &mut Share<N>,
+        edits: &[Edit],
+    ) -> Result<(), Refusal>
+        requires parts { share.old.parts ≡ N.parts }
+        requires count { share.old.count ≡ 0 }
+        ensures { OnOk result (share.new ≡ record share.old { count = length edits.now; seen = edits.now }) }
+    {
+        self.desk.lock(rt).begin(share, edits)
     }
 
     /// Makes an edit, and counts it on the share where it is accepted. The share sees all edits, and its own last. Refused as

@@ -62,11 +62,21 @@ impl<N: Naming> Share<N> {
         ensures one { result ≡ record { parts = 1; count = 0; seen = self.old.seen } }
         ensures rest { self.old ≡ record self.new { parts = self.new.parts + 1 } }
     {
+        let prefix = self.prefix.again();
+        self.split_at(&prefix)
+    }
+
+    /// Cuts one part off, which counts nothing yet, and has seen what a prefix of the same hub has.
+    pub fn split_at(&mut self, prefix: &HistoryPrefix<N>) -> Share<N>
+        requires { 2 ≤ self.old.parts }
+        ensures one { result ≡ record { parts = 1; count = 0; seen = prefix.now } }
+        ensures rest { self.old ≡ record self.new { parts = self.new.parts + 1 } }
+    {
         let token = self.token.split_off(1, 0);
         self.parts = self.parts.wrapping_sub(1);
         Share {
             token,
-            prefix: self.prefix.again(),
+            prefix: prefix.again(),
             parts: 1,
             count: 0,
         }
@@ -99,8 +109,8 @@ impl<N: Naming> Share<N> {
         self.prefix = longer;
     }
 
-    // What it has seen, as a prefix.
-    pub(crate) fn prefix(&self) -> HistoryPrefix<N>
+    /// What it has seen, as a prefix.
+    pub fn prefix(&self) -> HistoryPrefix<N>
         ensures { result ≡ self.now.seen }
     {
         self.prefix.again()

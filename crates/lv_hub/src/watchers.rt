@@ -6,6 +6,7 @@ ghost use Rattle.lv_hub.specs.Noticing.{Watches};
 ghost use Rattle.lv_standing.specs.Queries.{watch_answer};
 ghost use Rattle.lv_hub.specs.Watchers.{left_by, watcher_at};
 
+use crate::histories::HistoryPrefix;
 use crate::hubs::Hub;
 use crate::leaving::Left;
 use crate::naming::WithBody;
@@ -183,18 +184,19 @@ fn ask_all<N: WithBody<Six>>(
     Ok(())
 }
 
-/// Gives each subscriber a part of the hub, of which nobody has seen an edit. The first question that is refused, as
+/// Gives each subscriber a part of the hub that has seen what a prefix has, which is no edit. The first question that is refused, as
 /// `Subscriber::watch` does, is the refusal; or else `NoMemory`.
 pub fn subscribe_all<N: WithBody<Six>, F: Write + Drop>(
     alloc: Global,
     share: &mut Share<N>,
+    start: &HistoryPrefix<N>,
     watches: Vec<Watch<F>>,
 ) -> Result<Vec<Watcher<N, F>>, Refusal>
     requires parts { vec_len watches + 1 ≤ share.old.parts }
-    requires unseen { share.old.seen ≡ [] }
+    requires unseen { start.now ≡ [] }
     ensures parts { IfOk result (λ watchers. share.new.parts + vec_len watches ≡ share.old.parts) }
     ensures count { IfOk result (λ watchers. share.new.count ≡ share.old.count) }
-    ensures seen { IfOk result (λ watchers. share.new.seen ≡ []) }
+    ensures seen { IfOk result (λ watchers. share.new.seen ≡ share.old.seen) }
     ensures begun { IfOk result (λ watchers. watchers.items ≡ map (λ w. watcher_at (record { questions = w.questions.items; contents = F.contents w.notes })) watches.items) }
     ensures fit { OnOk result (refusal_of_all (map (λ w. w.questions.items) watches.items) ≡ None) }
     // The first question that is refused tells why; or memory was wanting.
@@ -202,7 +204,7 @@ pub fn subscribe_all<N: WithBody<Six>, F: Write + Drop>(
 {
     let mut watchers = Vec::new(alloc);
     for watch in watches {
-        let watcher = subscribe(alloc, share.split(), watch)?;
+        let watcher = subscribe(alloc, share.split_at(start), watch)?;
         if watchers.push(watcher).is_err() {
             return Err(Refusal::NoMemory);
         }

@@ -17,13 +17,14 @@ use Rattle.lv_server.specs.Writing.{Writes}
 use Rattle.lv_server.proofs.ServedLaws.{begins}
 
 -- sessions were held, by a share that has seen more
-pub held_more : (limits : Bounds) (share more : ShareState) (olds news : List Sides) (answers : List Claimed) → AreAllHeld limits share olds news answers → more.count ≡ share.count → IsPrefix share.seen more.seen
-    → AreAllHeld limits more olds news answers
-held_more limits share more olds news answers held count seen = record {
+pub held_more : (limits : Bounds) (begun : List Edit) (share more : ShareState) (olds news : List Sides) (answers : List Claimed) → AreAllHeld limits begun share olds news answers → more.count ≡ share.count → IsPrefix share.seen more.seen
+    → AreAllHeld limits begun more olds news answers
+held_more limits begun share more olds news answers held count seen = record {
   states = held.states;
   held = held.held;
   count = count ∙ held.count;
-  seen = All-weaker (λ state. IsPrefix state.seen share.seen) (λ state. IsPrefix state.seen more.seen) (λ state begun. begins state.seen share.seen more.seen begun seen) held.states held.seen;
+  starts = begins begun share.seen more.seen held.starts seen;
+  seen = All-weaker (λ state. IsPrefix state.seen share.seen) (λ state. IsPrefix state.seen more.seen) (λ state starts. begins state.seen share.seen more.seen starts seen) held.states held.seen;
   answers_are = held.answers_are;
   all_true = all_true_of_more share.seen more.seen answers seen held.all_true;
 }

@@ -1,5 +1,5 @@
 -- Sessions that were served were served plainly.
-use Rattle.std.proofs.Common.{◌≡◌, ℕ, ◌+◌, Option, List, [], ◌∷◌, All, map, sum, refl, sym, ap, ◌∙◌, subst}
+use Rattle.std.proofs.Common.{◌≡◌, ℕ, ◌+◌, Option, List, [], ◌∷◌, All, length, map, sum, refl, sym, ap, ◌∙◌, subst}
 use Rattle.std.specs.Io.KnownBytes.{Appends}
 use Rattle.std.specs.List.{sum_by}
 use Rattle.std.proofs.lemmas.List.Elements.{All-map}
@@ -7,6 +7,7 @@ use Rattle.std.proofs.lemmas.List.Sums.{sum-map}
 use Rattle.std.proofs.lemmas.Simd.{map-map}
 use mathlib.Core.List.{IsPrefix}
 use Rattle.lv_geometry.specs.Bounds.{Bounds}
+use Rattle.lv_edits.specs.declared.edit.Edit.{Edit}
 use Rattle.lv_lines.specs.Replies.{LinesServed}
 use Rattle.lv_hub.specs.PlainSession.{PlainSessionStep, Seen}
 use Rattle.lv_hub.specs.Session.{SessionState, kept_by}
@@ -15,20 +16,20 @@ use Rattle.lv_server.specs.PlainServed.{AreHeldPlainly, IsHeldPlainly, ServedPla
 use Rattle.lv_server.specs.Served.{AreHeld, Served, Sides, counted_by, ended_well, new_session}
 
 -- a conversation to the end of the lines: all were read, and answered in turn
-to_the_end : (limits : Bounds) (old new : Sides) (seen : Seen) → LinesServed (PlainSessionStep limits) (kept_by new_session) seen old.lines new.lines old.replies new.replies ended_well → IsHeldPlainly limits old new seen
-to_the_end limits old new seen c =
+to_the_end : (limits : Bounds) (begun : List Edit) (old new : Sides) (seen : Seen) → LinesServed (PlainSessionStep limits) (kept_by (new_session begun)) seen old.lines new.lines old.replies new.replies ended_well → IsHeldPlainly limits begun old new seen
+to_the_end limits begun old new seen c =
     let (at_end, few, all) = c.ends in
     record { input = c.seen; read = c.read; at_end = at_end; few = few; text = all.text; answered = all.answered; written = all.written }
 
 -- each session that was held was held plainly
-held_plainly : (limits : Bounds) (olds news : List Sides) (states : List SessionState) → AreHeld limits olds news states → AreHeldPlainly limits olds news (map kept_by states)
-held_plainly limits [] [] [] held = tt
-held_plainly limits [] [] (s ∷ states) held = absurd held
-held_plainly limits [] (n ∷ news) states held = absurd held
-held_plainly limits (o ∷ olds) [] states held = absurd held
-held_plainly limits (o ∷ olds) (n ∷ news) [] held = absurd held
-held_plainly limits (o ∷ olds) (n ∷ news) (s ∷ states) held =
-    (to_the_end limits o n (kept_by s) (session_plain limits new_session s o.lines n.lines o.replies n.replies ended_well held.0), held_plainly limits olds news states held.1)
+held_plainly : (limits : Bounds) (begun : List Edit) (olds news : List Sides) (states : List SessionState) → AreHeld limits begun olds news states → AreHeldPlainly limits begun olds news (map kept_by states)
+held_plainly limits begun [] [] [] held = tt
+held_plainly limits begun [] [] (s ∷ states) held = absurd held
+held_plainly limits begun [] (n ∷ news) states held = absurd held
+held_plainly limits begun (o ∷ olds) [] states held = absurd held
+held_plainly limits begun (o ∷ olds) (n ∷ news) [] held = absurd held
+held_plainly limits begun (o ∷ olds) (n ∷ news) (s ∷ states) held =
+    (to_the_end limits begun o n (kept_by s) (session_plain limits (new_session begun) s o.lines n.lines o.replies n.replies ended_well held.0), held_plainly limits begun olds news states held.1)
 
 -- they made as many edits as they count
 made_so : (states : List SessionState) → counted_by states ≡ sum_by (λ (seen : Seen). seen.made) (map kept_by states)
@@ -36,15 +37,16 @@ made_so states =
     let made : Seen → ℕ = λ seen. seen.made in
     sym (sum-map (λ (s : SessionState). s.count) states) ∙ ap sum (sym (map-map made kept_by states)) ∙ sum-map made (map kept_by states)
 
-pub served_plainly : (limits : Bounds) (olds news : List Sides) (a b : Option (List ℕ)) → Served limits olds news a b → ServedPlainly limits olds news a b
-served_plainly limits olds news a b s =
+pub served_plainly : (limits : Bounds) (begun : List Edit) (olds news : List Sides) (a b : Option (List ℕ)) → Served limits begun olds news a b → ServedPlainly limits begun olds news a b
+served_plainly limits begun olds news a b s =
     let t = s.transcript in record {
       edits = t.journal;
       legal = t.within;
       sessions = map kept_by s.states;
-      held = held_plainly limits olds news s.states s.held;
-      begun = All-map (λ (seen : Seen). IsPrefix seen.edits t.journal) kept_by s.states t.seen;
-      made = t.counted ∙ made_so s.states;
+      held = held_plainly limits begun olds news s.states s.held;
+      starts = t.starts;
+      seen = All-map (λ (seen : Seen). IsPrefix seen.edits t.journal) kept_by s.states t.seen;
+      made = t.counted ∙ ap (λ n. length begun + n) (made_so s.states);
       answers = t.answers;
       all_true = t.all_true;
       written = subst (Appends a b) t.text_is s.written;

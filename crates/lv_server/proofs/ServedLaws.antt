@@ -36,10 +36,10 @@ module _ (limits : Bounds) where
       subst (λ (found : Option SessionState). IfSome found (λ state. LinesServed (SessionStep limits) (session_at begun.share []) state begun.sides.lines ended.sides.lines begun.sides.replies ended.sides.replies ended_well)) is held
 
   -- one that began to wait was held, or has come to no state
-  once_so : (side : Sides) (e : Sitting) → IsHeldOnce limits (begun_at side) e → IsHeldFrom limits (begun_at side) e
-  once_so side e held =
+  once_so : (begun : List Edit) (side : Sides) (e : Sitting) → IsHeldOnce limits (begun_at begun side) e → IsHeldFrom limits (begun_at begun side) e
+  once_so begun side e held =
       elim held [
-        | inl same ↦ subst (λ e. IsHeldFrom limits (begun_at side) e) (sym same) tt
+        | inl same ↦ subst (λ e. IsHeldFrom limits (begun_at begun side) e) (sym same) tt
         | inr came ↦ came.2
       ]
 
@@ -64,17 +64,17 @@ module _ (limits : Bounds) where
   first_of x y xs ys e = (cc e, cc e)
 
   -- each of several that began anew, and came to these states, was held
-  pub each_held : (olds : List Sides) (ended : List Sitting) (states : List SessionState) → AreHeldFrom limits (map begun_at olds) ended → map state_of ended ≡ map Some states
-      → AreHeld limits olds (map (λ ended. ended.sides) ended) states
-  each_held [] [] [] held is = tt
-  each_held [] [] (s ∷ states) held is = absurd (cc is)
-  each_held [] (e ∷ ended) states held is = absurd (omega (arith, held.len))
-  each_held (old ∷ olds) [] states held is = absurd (omega (arith, held.len))
-  each_held (old ∷ olds) (e ∷ ended) [] held is = absurd (cc is)
-  each_held (old ∷ olds) (e ∷ ended) (s ∷ states) held is =
+  pub each_held : (begun : List Edit) (olds : List Sides) (ended : List Sitting) (states : List SessionState) → AreHeldFrom limits (map (begun_at begun) olds) ended → map state_of ended ≡ map Some states
+      → AreHeld limits begun olds (map (λ ended. ended.sides) ended) states
+  each_held begun [] [] [] held is = tt
+  each_held begun [] [] (s ∷ states) held is = absurd (cc is)
+  each_held begun [] (e ∷ ended) states held is = absurd (omega (arith, held.len))
+  each_held begun (old ∷ olds) [] states held is = absurd (omega (arith, held.len))
+  each_held begun (old ∷ olds) (e ∷ ended) [] held is = absurd (cc is)
+  each_held begun (old ∷ olds) (e ∷ ended) (s ∷ states) held is =
       let parts = first_of (state_of e) (Some s) (map state_of ended) (map Some states) is in (
-        held_so (begun_at old) e s parts.0 (once_so old e (held.each 0 (begun_at old) e (omega arith))),
-        each_held olds ended states (record { len = omega (arith, held.len); each = λ i b e within. held.each (suc i) b e (omega arith) }) parts.1,
+        held_so (begun_at begun old) e s parts.0 (once_so begun old e (held.each 0 (begun_at begun old) e (omega arith))),
+        each_held begun olds ended states (record { len = omega (arith, held.len); each = λ i b e within. held.each (suc i) b e (omega arith) }) parts.1,
       )
 
 -- a beginning of a beginning is one
@@ -92,6 +92,7 @@ takes_none share = record {
   states_are = refl;
   parts = omega arith;
   count = omega arith;
+  more = ([], append-nil share.seen);
   seen = All-nil (λ state. IsPrefix state.seen share.seen);
   answers_are = refl;
   all_true = All-nil (IsTrueAnswer share.seen);
@@ -110,6 +111,7 @@ takes_one_more old mid new ended answers more sides e t both some one true =
       states_are = map-append state_of ended (e ∷ []) ∙ ap (λ xs. xs ++ state_of e ∷ []) t.states_are ∙ ap (λ o. map Some t.states ++ o ∷ []) came ∙ sym (map-append Some t.states (s ∷ []));
       parts = omega (arith, both.parts, one, t.parts, length-append ended (e ∷ []));
       count = omega (arith, both.count, t.count, sum_by_push (λ state. state.count) t.states s);
+      more = begins old.seen mid.seen new.seen t.more both.first;
       seen = All-push (λ state. IsPrefix state.seen new.seen) t.states s
           (All-weaker (λ state. IsPrefix state.seen mid.seen) (λ state. IsPrefix state.seen new.seen) (λ state begun. begins state.seen mid.seen new.seen begun both.first) t.states t.seen) both.second;
       answers_are = ap (λ c. c ++ more) t.answers_are ∙ ap (λ c. answered_to t.states ++ c) (sym (append-nil more)) ∙ sym (flat_map-append (λ state. state.answers) t.states (s ∷ []));
@@ -137,22 +139,23 @@ pub begins_one_more : {S : Type 0} (begun : S → Sitting) (tasks more : List Si
 begins_one_more begun tasks more task streams its are pushed is =
     pushed ∙ ap (λ tasks. tasks ++ task ∷ []) are ∙ ap (λ task. map begun streams ++ task ∷ []) is ∙ sym (map-append begun streams (its ∷ []))
 
--- all sessions were held, and their shares taken back by one that had counted and seen nothing
-all_held : (limits : Bounds) (old new : ShareState) (olds news : List Sides) (begun : List Sitting) (ended : List Sitting) (answers : List Claimed)
-    → begun ≡ map begun_at olds → AreHeldFrom limits begun ended → TakesBack old new ended answers news → old.count ≡ 0 → AreAllHeld limits new olds news answers
-all_held limits old new olds news begun ended answers is held t none = record {
+-- all sessions were held, and their shares taken back by one that had counted and seen what the server began with
+all_held : (limits : Bounds) (first : List Edit) (old new : ShareState) (olds news : List Sides) (begun : List Sitting) (ended : List Sitting) (answers : List Claimed)
+    → begun ≡ map (begun_at first) olds → AreHeldFrom limits begun ended → TakesBack old new ended answers news → old.count ≡ length first → old.seen ≡ first → AreAllHeld limits first new olds news answers
+all_held limits first old new olds news begun ended answers is held t many seen = record {
   states = t.states;
-  held = subst (λ news. AreHeld limits olds news t.states) (sym t.sides_are) (each_held limits olds ended t.states (subst (λ begun. AreHeldFrom limits begun ended) is held) t.states_are);
-  count = omega (arith, t.count, none);
+  held = subst (λ news. AreHeld limits first olds news t.states) (sym t.sides_are) (each_held limits first olds ended t.states (subst (λ begun. AreHeldFrom limits begun ended) is held) t.states_are);
+  count = omega (arith, t.count, many);
+  starts = subst (λ (es : List Edit). IsPrefix es new.seen) seen t.more;
   seen = t.seen;
   answers_are = t.answers_are;
   all_true = t.all_true;
 }
 
 -- what began anew for each of some streams
-begun_for : {S : Type 0} (side : S → Sides) (streams : List S) → map (λ s. begun_at (side s)) streams ≡ map begun_at (map side streams)
-begun_for side [] = refl
-begun_for side (s ∷ streams) = ap (λ begun. begun_at (side s) ∷ begun) (begun_for side streams)
+begun_for : {S : Type 0} (first : List Edit) (side : S → Sides) (streams : List S) → map (λ s. begun_at first (side s)) streams ≡ map (begun_at first) (map side streams)
+begun_for first side [] = refl
+begun_for first side (s ∷ streams) = ap (λ begun. begun_at first (side s) ∷ begun) (begun_for first side streams)
 
 as_many : {S : Type 0} (begun : S → Sitting) (streams : List S) → length (map begun streams) ≡ length streams
 as_many begun [] = refl
@@ -161,21 +164,23 @@ as_many begun (s ∷ streams) = ap suc (as_many begun streams)
 pub begun_as_many : {S : Type 0} (begun : S → Sitting) (tasks : List Sitting) (streams : List S) → tasks ≡ map begun streams → length tasks ≡ length streams
 begun_as_many begun tasks streams is = ap length is ∙ as_many begun streams
 
-pub all_held_by : {S : Type 0} (side : S → Sides) (limits : Bounds) (old new : ShareState) (streams : List S) (news : List Sides) (begun : List Sitting) (ended : List Sitting) (answers : List Claimed)
-    → begun ≡ map (λ s. begun_at (side s)) streams → AreHeldFrom limits begun ended → TakesBack old new ended answers news → old.count ≡ 0 → AreAllHeld limits new (map side streams) news answers
-all_held_by side limits old new streams news begun ended answers is held t none =
-    all_held limits old new (map side streams) news begun ended answers (is ∙ begun_for side streams) held t none
+pub all_held_by : {S : Type 0} (side : S → Sides) (limits : Bounds) (first start : List Edit) (old new : ShareState) (streams : List S) (news : List Sides) (begun : List Sitting) (ended : List Sitting) (answers : List Claimed)
+    → begun ≡ map (λ s. begun_at start (side s)) streams → AreHeldFrom limits begun ended → TakesBack old new ended answers news → old.count ≡ length first → old.seen ≡ start → start ≡ first
+    → AreAllHeld limits first new (map side streams) news answers
+all_held_by side limits first start old new streams news begun ended answers is held t many seen same =
+    all_held limits first old new (map side streams) news begun ended answers (is ∙ begun_for start side streams ∙ ap (λ es. map (begun_at es) (map side streams)) same) held t many (seen ∙ same)
 
 -- the transcript of the journal is that of the sessions
-module _ (limits : Bounds) (share : ShareState) (olds news : List Sides) (answers : List Claimed) (held : AreAllHeld limits share olds news answers) where
-  transcript_so : (journal : List Edit) (text : List ℕ) → IsJournal limits share journal → IsTextOf journal answers text → Transcript limits held.states text
+module _ (limits : Bounds) (begun : List Edit) (share : ShareState) (olds news : List Sides) (answers : List Claimed) (held : AreAllHeld limits begun share olds news answers) where
+  transcript_so : (journal : List Edit) (text : List ℕ) → IsJournal limits share journal → IsTextOf journal answers text → Transcript limits begun held.states text
   transcript_so journal text of is = record {
     journal = journal;
     answers = is.answers;
     text_is = is.text_is;
     within = of.within;
     accepted = of.accepted;
-    seen = All-weaker (λ state. IsPrefix state.seen share.seen) (λ state. IsPrefix state.seen journal) (λ state begun. begins state.seen share.seen journal begun of.seen) held.states held.seen;
+    starts = begins begun share.seen journal held.starts of.seen;
+    seen = All-weaker (λ state. IsPrefix state.seen share.seen) (λ state. IsPrefix state.seen journal) (λ state starts. begins state.seen share.seen journal starts of.seen) held.states held.seen;
     counted = of.counted ∙ held.count;
     listed = subst (λ listed. IsPermutation listed is.answers) held.answers_are is.permutes;
     ties = subst (λ listed. KeepTies listed is.answers) held.answers_are is.ties;
@@ -184,7 +189,7 @@ module _ (limits : Bounds) (share : ShareState) (olds news : List Sides) (answer
   }
 
   -- where it was written, the sessions were served
-  pub served_so : {T : Type 0} (x : T) (contents_old contents_new : Option (List ℕ)) → WritesClosed {T = T} limits share answers contents_old contents_new (Ok x) → Served limits olds news contents_old contents_new
+  pub served_so : {T : Type 0} (x : T) (contents_old contents_new : Option (List ℕ)) → WritesClosed {T = T} limits share answers contents_old contents_new (Ok x) → Served limits begun olds news contents_old contents_new
   served_so x contents_old contents_new w =
       let written = w.written in record {
         states = held.states;
@@ -196,7 +201,7 @@ module _ (limits : Bounds) (share : ShareState) (olds news : List Sides) (answer
       }
 
   -- and else they were not
-  pub failed_so : {T : Type 0} (fault : Fault) (contents_old contents_new : Option (List ℕ)) → WritesClosed {T = T} limits share answers contents_old contents_new (Err fault) → FailsToServe limits contents_old contents_new fault
+  pub failed_so : {T : Type 0} (fault : Fault) (contents_old contents_new : Option (List ℕ)) → WritesClosed {T = T} limits share answers contents_old contents_new (Err fault) → FailsToServe limits begun contents_old contents_new fault
   failed_so fault contents_old contents_new w =
       elim w.written [
         | inl nothing ↦ inl nothing

@@ -1,6 +1,6 @@
--- What `livevec serve` writes, and what each session is replied, by the plain interpreter alone: one list of edits, which the sessions
--- made; each line is answered at some beginning of it; the transcript has the list, and answers that are true of it.
-use Rattle.std.specs.Prelude.{⊤, ◌≡◌, ℕ, ◌^◌, ◌≤◌, Option, List, [], ◌∷◌, All, length, take, map}
+-- What `livevec serve` writes, and what each session is replied, by the plain interpreter alone: one list of edits, those that the server
+-- began with and those that the sessions made; each line is answered at some beginning of it; the transcript has the list, and answers that are true of it.
+use Rattle.std.specs.Prelude.{⊤, ◌≡◌, ℕ, ◌+◌, ◌^◌, ◌≤◌, Option, List, [], ◌∷◌, All, length, take, map}
 use Rattle.std.specs.List.{sum_by}
 use Rattle.std.specs.Io.KnownBytes.{Appends, Consumes, IsAtEnd}
 use mathlib.Core.List.{IsPrefix}
@@ -14,8 +14,9 @@ use Rattle.lv_transcript.specs.Transcript.{IsTrueAnswer, transcript_text}
 use Rattle.lv_hub.specs.PlainSession.{PlainSessionStep, Seen}
 use Rattle.lv_server.specs.Served.{Sides}
 
-module _ (limits : Bounds) where
-  -- a session, which had seen no edit and made none, was held to the end of its lines, of which at most 2 ^ 30 bytes were read: each was
+-- of a server that began with these edits
+module _ (limits : Bounds) (begun : List Edit) where
+  -- a session, which had seen these edits and made none, was held to the end of its lines, of which at most 2 ^ 30 bytes were read: each was
   -- answered in turn, by its first 121 bytes, and all replies were written. These are the edits that it had seen then
   pub record IsHeldPlainly (old new : Sides) (seen : Seen) : Type 0 where
     pub input : List ℕ
@@ -23,7 +24,7 @@ module _ (limits : Bounds) where
     pub at_end : IsAtEnd new.lines
     pub few : length input ≤ 2 ^ 30
     pub text : List ℕ
-    pub answered : Answered (PlainSessionStep limits) record { edits = []; made = 0 } 1 (map (take 121) (lines_of input)) text seen
+    pub answered : Answered (PlainSessionStep limits) record { edits = begun; made = 0 } 1 (map (take 121) (lines_of input)) text seen
     pub written : Appends old.replies new.replies text
 
   -- so was each of several
@@ -32,15 +33,16 @@ module _ (limits : Bounds) where
   AreHeldPlainly (old ∷ olds) (new ∷ news) (seen ∷ sessions) = IsHeldPlainly old new seen × AreHeldPlainly olds news sessions
   AreHeldPlainly _ _ _ = ⊥
 
-  -- sessions were served: one legal list of edits, as many as they made together, of which each has seen a beginning at its end; what was
-  -- written is the transcript of that list, with answers that are true of it
+  -- sessions were served: one legal list of edits, which begins with those that the server began with, and has as many more as the sessions made
+  -- together; of it each has seen a beginning at its end. What was written is the transcript of that list, with answers that are true of it
   pub record ServedPlainly (old new : List Sides) (contents_old contents_new : Option (List ℕ)) : Type 0 where
     pub edits : List Edit
     pub legal : IsLegalInLimits record { limits = limits; journal = edits }
     pub sessions : List Seen
     pub held : AreHeldPlainly old new sessions
-    pub begun : All (λ seen. IsPrefix seen.edits edits) sessions
-    pub made : length edits ≡ sum_by (λ seen. seen.made) sessions
+    pub starts : IsPrefix begun edits
+    pub seen : All (λ seen. IsPrefix seen.edits edits) sessions
+    pub made : length edits ≡ length begun + sum_by (λ seen. seen.made) sessions
     pub answers : List Claimed
     pub all_true : All (IsTrueAnswer edits) answers
     pub written : Appends contents_old contents_new (transcript_text edits answers)

@@ -1,6 +1,6 @@
 -- What it means that sessions were served: each was a conversation on its own streams, on one vector whose edits are one list; and
 -- what the transcript tells of them.
-use Rattle.std.specs.Prelude.{⊤, ◌≡◌, ◌⊎◌, ℕ, Option, Result, Ok, List, [], ◌∷◌, All, length}
+use Rattle.std.specs.Prelude.{⊤, ◌≡◌, ◌⊎◌, ℕ, ◌+◌, Option, Result, Ok, List, [], ◌∷◌, All, length}
 use Rattle.std.specs.List.{flat_map, sum_by}
 use Rattle.std.specs.List.Sorted.{IsPermutation}
 use Rattle.std.specs.Io.KnownBytes.{Appends}
@@ -26,9 +26,9 @@ pub record Sides : Type 0 where
 abbrev pub ended_well : Result (Unit {0}) Fault
 ended_well = Ok tt
 
--- a session that has counted no edit, has seen none, and was answered no reduction
-abbrev pub new_session : SessionState
-new_session = record { count = 0; seen = []; answers = [] }
+-- a session that has counted no edit, has seen those that the server began with, and was answered no reduction
+abbrev pub new_session : List Edit → SessionState
+new_session begun = record { count = 0; seen = begun; answers = [] }
 
 -- the edits that sessions count together, and the reductions that they were answered, session by session
 abbrev pub counted_by : List SessionState → ℕ
@@ -37,10 +37,11 @@ counted_by states = sum_by (λ state. state.count) states
 abbrev pub answered_to : List SessionState → List Claimed
 answered_to states = flat_map (λ state. state.answers) states
 
-module _ (limits : Bounds) where
+-- of a server that began with these edits
+module _ (limits : Bounds) (begun : List Edit) where
   -- a session was held to the end of its lines, and came to this state
   abbrev pub IsHeld : Sides → Sides → SessionState → Type 0
-  IsHeld old new state = LinesServed (SessionStep limits) new_session state old.lines new.lines old.replies new.replies ended_well
+  IsHeld old new state = LinesServed (SessionStep limits) (new_session begun) state old.lines new.lines old.replies new.replies ended_well
 
   -- so was each of several
   abbrev pub AreHeld : List Sides → List Sides → List SessionState → Type 0
@@ -48,8 +49,8 @@ module _ (limits : Bounds) where
   AreHeld (old ∷ olds) (new ∷ news) (state ∷ states) = IsHeld old new state × AreHeld olds news states
   AreHeld _ _ _ = ⊥
 
-  -- a text is the transcript of sessions that came to these states. Their edits are one list, of which each has seen a beginning, and
-  -- which has as many as they count together. The answers are the reductions that they were answered, in the order of their edits, and
+  -- a text is the transcript of sessions that came to these states. There is one list of edits, which begins with those that the server began
+  -- with, and has as many more as the sessions count together; each has seen a beginning of it. The answers are the reductions that they were answered, in the order of their edits, and
   -- at one edit in the order of the sessions.
   pub record Transcript (states : List SessionState) (text : List ℕ) : Type 0 where
     pub journal : List Edit
@@ -57,8 +58,9 @@ module _ (limits : Bounds) where
     pub text_is : text ≡ transcript_text journal answers
     pub within : IsLegalInLimits (history_of limits journal)
     pub accepted : AreAccepted greatest journal
+    pub starts : IsPrefix begun journal
     pub seen : All (λ state. IsPrefix state.seen journal) states
-    pub counted : length journal ≡ counted_by states
+    pub counted : length journal ≡ length begun + counted_by states
     pub listed : IsPermutation (answered_to states) answers
     pub ties : KeepTies (answered_to states) answers
     pub order : AreInOrder answers

@@ -1,6 +1,7 @@
 -- Sessions before and after they were held.
 use Rattle.std.specs.Prelude.{◌≡◌, ◌⊎◌, ℕ, ◌+◌, ◌<◌, Bool, true, false, Option, Some, None, IfSome, option_map, Result, Ok, Err, List, [], All, length, map, slice_index_or}
 use mathlib.Core.List.{IsPrefix}
+use Rattle.lv_edits.specs.declared.edit.Edit.{Edit}
 use Rattle.lv_transcript.specs.declared.claimed.Claimed.{Claimed}
 use Rattle.lv_geometry.specs.Bounds.{Bounds}
 use Rattle.lv_lines.specs.Replies.{LinesServed}
@@ -23,9 +24,9 @@ listed_in (Some (Ok answers)) = Some answers
 listed_in (Some (Err failure)) = None
 listed_in None = None
 
--- a session that waits with one part of the hub, and has counted and seen nothing
-abbrev pub begun_at : Sides → Sitting
-begun_at sides = record { share = record { parts = 1; count = 0; seen = [] }; sides = sides; waits = true; answers = None }
+-- a session that waits with one part of the hub, has counted nothing, and has seen the edits that the server began with
+abbrev pub begun_at : List Edit → Sides → Sitting
+begun_at begun sides = record { share = record { parts = 1; count = 0; seen = begun }; sides = sides; waits = true; answers = None }
 
 -- the state that a session came to, unless it ended with a fault
 abbrev pub state_of : Sitting → Option SessionState
@@ -51,16 +52,18 @@ pub record TakesBack (old new : ShareState) (ended : List Sitting) (answers : Li
   pub states_are : map state_of ended ≡ map Some states
   pub parts : new.parts ≡ old.parts + length ended
   pub count : new.count ≡ old.count + counted_by states
+  pub more : IsPrefix old.seen new.seen
   pub seen : All (λ state. IsPrefix state.seen new.seen) states
   pub answers_are : answers ≡ answered_to states
   pub all_true : All (IsTrueAnswer new.seen) answers
   pub sides_are : sides ≡ map (λ ended. ended.sides) ended
 
--- sessions were held, and their shares are one
-pub record AreAllHeld (limits : Bounds) (share : ShareState) (old new : List Sides) (answers : List Claimed) : Type 0 where
+-- sessions of a server that began with these edits were held, and their shares are one
+pub record AreAllHeld (limits : Bounds) (begun : List Edit) (share : ShareState) (old new : List Sides) (answers : List Claimed) : Type 0 where
   pub states : List SessionState
-  pub held : AreHeld limits old new states
-  pub count : share.count ≡ counted_by states
+  pub held : AreHeld limits begun old new states
+  pub count : share.count ≡ length begun + counted_by states
+  pub starts : IsPrefix begun share.seen
   pub seen : All (λ state. IsPrefix state.seen share.seen) states
   pub answers_are : answers ≡ answered_to states
   pub all_true : All (IsTrueAnswer share.seen) answers

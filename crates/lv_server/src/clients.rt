@@ -11,7 +11,7 @@ ghost use Rattle.lv_transcript.specs.Transcribing.{IsUnused};
 use crate::opened_client::OpenedClient;
 use crate::program_error::{ProgramError, Reason};
 use lv_bodies::Six;
-use lv_hub::{Leaving, Share, Watch, Watched, Watcher, WithBody, subscribe_all};
+use lv_hub::{HistoryPrefix, Leaving, Share, Watch, Watched, Watcher, WithBody, subscribe_all};
 use lv_lines::HELD;
 use lv_script::Fault;
 use lv_transcript::{Queue, TranscriptWriter};
@@ -129,18 +129,17 @@ impl<F: Drop> Gathered<F> {
     }
 }
 
-/// Gives each session a part of the hub, of which nobody has seen an edit, and puts memory by for it.
+/// Gives each session a part of the hub, which has seen what the share has, and puts memory by for it.
 pub fn share_out<N: WithBody<Six>, F: Read + Write + Drop>(
     alloc: Global,
     share: &mut Share<N>,
     streams: Vec<OpenedClient<F>>,
 ) -> Result<Vec<Task<N, F>>, ProgramError>
-    requires parts { share.old.parts ≡ vec_len streams + 1 }
-    requires unseen { share.old.seen ≡ [] }
+    requires { share.old.parts ≡ vec_len streams + 1 }
     ensures parts { IfOk result (λ tasks. share.new.parts ≡ 1) }
     ensures count { IfOk result (λ tasks. share.new.count ≡ share.old.count) }
-    ensures seen { IfOk result (λ tasks. share.new.seen ≡ []) }
-    ensures begun { IfOk result (λ tasks. tasks.items ≡ map (λ s. begun_at (record { lines = F.remaining s.lines; replies = F.contents s.replies })) streams.items) }
+    ensures seen { IfOk result (λ tasks. share.new.seen ≡ share.old.seen) }
+    ensures begun { IfOk result (λ tasks. tasks.items ≡ map (λ s. begun_at share.old.seen (record { lines = F.remaining s.lines; replies = F.contents s.replies })) streams.items) }
 {
     let mut tasks = Vec::new(alloc);
     for streams in streams {
@@ -212,18 +211,21 @@ pub struct Present<N: WithBody<Six>, F: Read + Write + Drop> {
     pub leaving: Leaving<F>,
 }
 
-/// Gives each session and each subscriber a part of the hub, of which nobody has seen an edit. The share keeps one. Memory that is
+/// Gives each session a part of the hub, which has seen what the share has, and each subscriber one that has seen what a prefix has, which is
+/// no edit. The share keeps one. Memory that is
 /// wanting is the fault, `NoMemory`; a question that no `watch` would take is `ReadFault`, though no file brings one here.
 pub fn begin_all<N: WithBody<Six>, F: Read + Write + Drop>(
     alloc: Global,
     share: &mut Share<N>,
+    start: &HistoryPrefix<N>,
     clients: Clients<F>,
 ) -> Result<Present<N, F>, ProgramError>
     requires parts { share.old.parts ≡ vec_len clients.streams + vec_len clients.watches + 1 }
-    requires unseen { share.old.seen ≡ [] }
+    requires unseen { start.now ≡ [] }
     ensures parts { IfOk result (λ present. share.new.parts ≡ 1) }
     ensures count { IfOk result (λ present. share.new.count ≡ share.old.count) }
-    ensures sessions { IfOk result (λ present. present.tasks.items ≡ map (λ s. begun_at (record { lines = F.remaining s.lines; replies = F.contents s.replies })) clients.streams.items) }
+    ensures seen { IfOk result (λ present. share.new.seen ≡ share.old.seen) }
+    ensures sessions { IfOk result (λ present. present.tasks.items ≡ map (λ s. begun_at share.old.seen (record { lines = F.remaining s.lines; replies = F.contents s.replies })) clients.streams.items) }
     ensures watchers { IfOk result (λ present. present.watchers.items ≡ map (λ w. watcher_at (record { questions = w.questions.items; contents = F.contents w.notes })) clients.watches.items) }
     ensures none { IfOk result (λ present. (present.leaving.left.items ≡ []) × (present.leaving.watched.items ≡ [])) }
     ensures left_room { IfOk result (λ present. vec_len clients.watches ≤ vec_capacity present.leaving.left) }
@@ -233,7 +235,7 @@ pub fn begin_all<N: WithBody<Six>, F: Read + Write + Drop>(
     let Ok(leaving) = Leaving::with_room(alloc, watches.len()) else {
         return Err(ProgramError::memory());
     };
-    let watchers = subscribe(alloc, share, watches)?;
+    let watchers = subscribe(alloc, share, start, watches)?;
     let tasks = share_out(alloc, share, streams)?;
     Ok(Present {
         tasks,
@@ -242,20 +244,21 @@ pub fn begin_all<N: WithBody<Six>, F: Read + Write + Drop>(
     })
 }
 
-// Gives each subscriber a part of the hub, of which nobody has seen an edit.
+// Gives each subscriber a part of the hub that has seen what a prefix has, which is no edit.
 fn subscribe<N: WithBody<Six>, F: Read + Write + Drop>(
     alloc: Global,
     share: &mut Share<N>,
+    start: &HistoryPrefix<N>,
     watches: Vec<Watch<F>>,
 ) -> Result<Vec<Watcher<N, F>>, ProgramError>
     requires parts { vec_len watches + 1 ≤ share.old.parts }
-    requires unseen { share.old.seen ≡ [] }
+    requires unseen { start.now ≡ [] }
     ensures parts { IfOk result (λ watchers. share.new.parts + vec_len watches ≡ share.old.parts) }
     ensures count { IfOk result (λ watchers. share.new.count ≡ share.old.count) }
-    ensures seen { IfOk result (λ watchers. share.new.seen ≡ []) }
+    ensures seen { IfOk result (λ watchers. share.new.seen ≡ share.old.seen) }
     ensures begun { IfOk result (λ watchers. watchers.items ≡ map (λ w. watcher_at (record { questions = w.questions.items; contents = F.contents w.notes })) watches.items) }
 {
-    match subscribe_all(alloc, share, watches) {
+    match subscribe_all(alloc, share, start, watches) {
         Ok(watchers) => Ok(watchers),
         Err(refusal) => Err(ProgramError::unwatched(refusal)),
     }

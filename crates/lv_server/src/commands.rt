@@ -29,7 +29,7 @@ pub fn serve_files<C: Clock + Copy + Send, R: Files<File = File> + Sync + Thread
     writer: &mut W,
 ) -> Result<(), ProgramError> {
     let (Clients { streams, watches }, file) = open_all(clock, rt, alloc, names)?;
-    match serve(rt, alloc, plan, streams, watches, file, writer) {
+    match serve(rt, alloc, plan, &[], streams, watches, file, writer) {
         Ok((streams, file, watched)) => {
             let ended = first_unwritten(&watched);
             drop((streams, file, watched));

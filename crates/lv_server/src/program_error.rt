@@ -25,6 +25,9 @@ pub enum Reason {
     /// A question that no `watch` would take, though no file brings one.
     #[error("what a subscriber asks can't be watched: {0}")]
     Watching(Refusal),
+    /// An edit that the vector is to begin with is refused.
+    #[error("an update that the vector begins with is rejected: {0}")]
+    Beginning(Refusal),
     #[error("' can't be opened")]
     Unopened,
     #[error("' can't be read")]
@@ -195,7 +198,7 @@ impl fmt::Display for ErrorText<'_> {
         let name = self.name(file);
         match reason {
             Reason::Memory | Reason::Input | Reason::LongInput | Reason::Output => {}
-            Reason::Transcript | Reason::Watching(_) => {}
+            Reason::Transcript | Reason::Watching(_) | Reason::Beginning(_) => {}
             Reason::Refused(line, _) => write!(f, "line {line} of '{name}")?,
             Reason::NoQuery(line) => write!(f, "line {line} of '{name}")?,
             Reason::Standard => {

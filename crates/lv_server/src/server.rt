@@ -1,6 +1,6 @@
 //! The server: sessions in threads of their own, with workers and subscribers beside them, and the transcript of it all.
 
-ghost use Rattle.std.specs.Prelude.{◌≡◌, ◌+◌, ◌≤◌, IfErr, IfOk, IfSome, [], Some, is_some, map, vec_capacity, vec_len};
+ghost use Rattle.std.specs.Prelude.{◌≡◌, ◌+◌, ◌≤◌, IfErr, IfOk, IfSome, OnOk, [], Some, is_some, length, map, vec_capacity, vec_len};
 ghost use Rattle.lv_transcript.specs.Joined.{in_a_row};
 ghost use Rattle.lv_server.specs.PlainServed.{ServedPlainly};
 ghost use Rattle.lv_server.specs.Starting.{Records, start_of};
@@ -12,14 +12,16 @@ ghost use Rattle.lv_hub.specs.Watchers.{AreLeft};
 
 use crate::clients::{Clients, Gathered, Present, begin_all, take_back};
 use crate::opened_client::OpenedClient;
-use crate::program_error::ProgramError;
+use crate::program_error::{ProgramError, Reason};
 use crate::threads::hold_all;
 use crate::transcript::{all_or_failure, begin_log, unlocked, write_closed};
 use lv_bodies::Six;
-use lv_geometry::Limits;
+use lv_edits::Edit;
+use lv_geometry::{Limits, Refusal};
 use lv_hub::{
     Begun, Hub, Leaving, Opened, OperationLog, Share, Watch, Watched, WithBody, leave_all,
 };
+use lv_script::Fault;
 use std::alloc::Global;
 use std::io::{Read, Write};
 use std::marker::Brand;
@@ -40,14 +42,15 @@ pub struct Plan {
     pub most: usize,
 }
 
-/// Holds a session for each pair of streams, in a thread of its own where one can be made, with workers beside them. Then
+/// Holds a session for each pair of streams, in a thread of its own where one can be made, with workers beside them, on a vector that begins
+/// with some edits. Where one of those is refused, that is the fault: `NoMemory`, or else `ReadFault`. Then
 /// writes the transcript: the journal, and the sessions' reductions in the order of their edits. Gives the streams back, where
 /// each session has answered all its lines. Where sessions end with faults nothing is written, and the first of them is the fault.
 ///
 /// Beside the sessions each subscriber is told, as they come, of edits that change the answers to its questions. One whose output fails ends
 /// by itself, and everything else is as without it; so it is no fault here, and what becomes of its lines is given back with the others'.
 ///
-/// Where there is a file for it, edits and answers are written there too, as they come, and the file is given back with all of them.
+/// Where there is a file for it, and the vector begins with no edit, edits and answers are written there too, as they come, and the file is given back with all of them.
 /// That it can't be written is a fault at the end, once the transcript is written.
 ///
 /// A failure gives nothing back: no clause says what the file, the replies and the outputs of subscribers have got then. What was written
@@ -61,15 +64,17 @@ pub fn serve<
     rt: &R,
     alloc: Global,
     plan: Plan,
+    begun: &[Edit],
     streams: Vec<OpenedClient<F>>,
     watches: Vec<Watch<F>>,
     file: Option<V>,
     writer: &mut W,
 ) -> Result<(Vec<OpenedClient<F>>, Option<V>, Vec<Watched<F>>), ProgramError>
-    ensures served { IfOk result (λ done. Served plan.limits (map (λ s. record { lines = F.remaining s.lines; replies = F.contents s.replies }) streams.items) (map (λ s. record { lines = F.remaining s.lines; replies = F.contents s.replies }) done.0.items) (W.contents writer.old) (W.contents writer.new)) }
+    requires { IfSome file (λ _. begun.now ≡ []) }
+    ensures served { IfOk result (λ done. Served plan.limits begun.now (map (λ s. record { lines = F.remaining s.lines; replies = F.contents s.replies }) streams.items) (map (λ s. record { lines = F.remaining s.lines; replies = F.contents s.replies }) done.0.items) (W.contents writer.old) (W.contents writer.new)) }
     // Each reply is the plain interpreter's, at a beginning of one list of edits.
-    ensures plain { IfOk result (λ done. ServedPlainly plan.limits (map (λ s. record { lines = F.remaining s.lines; replies = F.contents s.replies }) streams.items) (map (λ s. record { lines = F.remaining s.lines; replies = F.contents s.replies }) done.0.items) (W.contents writer.old) (W.contents writer.new)) }
-    ensures failed { IfErr result (λ failure. FailsToServe plan.limits (W.contents writer.old) (W.contents writer.new) failure.fault) }
+    ensures plain { IfOk result (λ done. ServedPlainly plan.limits begun.now (map (λ s. record { lines = F.remaining s.lines; replies = F.contents s.replies }) streams.items) (map (λ s. record { lines = F.remaining s.lines; replies = F.contents s.replies }) done.0.items) (W.contents writer.old) (W.contents writer.new)) }
+    ensures failed { IfErr result (λ failure. FailsToServe plan.limits begun.now (W.contents writer.old) (W.contents writer.new) failure.fault) }
     ensures back { IfOk result (λ done. is_some done.1 ≡ is_some file) }
     // The file has got the edits of the transcript that was written, and true answers between them, in the order of time.
     ensures recorded { IfOk result (λ done. IfSome done.1 (λ kept. Records (start_of V.contents file) (V.contents kept) (W.contents writer.old) (W.contents writer.new))) }
@@ -81,6 +86,7 @@ pub fn serve<
         rt,
         alloc,
         plan,
+        begun,
         Clients { streams, watches },
         file,
         writer,
@@ -103,6 +109,7 @@ fn serve_as<
     rt: &R,
     alloc: Global,
     plan: Plan,
+    begun: &[Edit],
     clients: Clients<F>,
     file: Option<V>,
     writer: &mut W,
@@ -119,14 +126,15 @@ fn serve_as<
     requires history { opened ≡ N.history }
     requires body { N.body ≡ Some body }
     requires start { IfSome file (λ file. K.start ≡ V.contents file) }
-    ensures served { IfOk result (λ done. Served plan.limits (map (λ s. record { lines = F.remaining s.lines; replies = F.contents s.replies }) clients.streams.items) (map (λ s. record { lines = F.remaining s.lines; replies = F.contents s.replies }) done.0.items) (W.contents writer.old) (W.contents writer.new)) }
-    ensures failed { IfErr result (λ failure. FailsToServe plan.limits (W.contents writer.old) (W.contents writer.new) failure.fault) }
+    requires fresh { IfSome file (λ _. begun.now ≡ []) }
+    ensures served { IfOk result (λ done. Served plan.limits begun.now (map (λ s. record { lines = F.remaining s.lines; replies = F.contents s.replies }) clients.streams.items) (map (λ s. record { lines = F.remaining s.lines; replies = F.contents s.replies }) done.0.items) (W.contents writer.old) (W.contents writer.new)) }
+    ensures failed { IfErr result (λ failure. FailsToServe plan.limits begun.now (W.contents writer.old) (W.contents writer.new) failure.fault) }
     ensures back { IfOk result (λ done. is_some done.1 ≡ is_some file) }
     ensures recorded { IfOk result (λ done. IfSome done.1 (λ kept. Records K.start (V.contents kept) (W.contents writer.old) (W.contents writer.new))) }
     ensures watched { IfOk result (λ done. ServedWatched (map (λ w. record { questions = w.questions.items; contents = F.contents w.notes }) clients.watches.items) (map (λ w. w.notices) done.2.items) (W.contents writer.old) (W.contents writer.new)) }
 {
     let (hub, mut share) = Hub::<Six, N>::new(alloc, plan.limits, body, blank, parts, opened);
-    match serve_all::<N, K, F, V, R>(rt, alloc, plan, &hub, &mut share, clients, file) {
+    match serve_all::<N, K, F, V, R>(rt, alloc, plan, begun, &hub, &mut share, clients, file) {
         Ok((all, log, leaving)) => {
             let Gathered {
                 mut answers,
@@ -163,26 +171,31 @@ fn serve_all<
     rt: &R,
     alloc: Global,
     plan: Plan,
+    begun: &[Edit],
     hub: &Hub<Six, N>,
     share: &mut Share<N>,
     clients: Clients<F>,
     file: Option<V>,
 ) -> Result<(Gathered<F>, Option<OperationLog<N, V, K>>, Leaving<F>), ProgramError>
     requires start { IfSome file (λ file. K.start ≡ V.contents file) }
+    requires fresh { IfSome file (λ _. begun.now ≡ []) }
+    requires all { share.old.parts ≡ N.parts }
     requires parts { share.old.parts ≡ vec_len clients.streams + vec_len clients.watches + 1 }
     requires count { share.old.count ≡ 0 }
     requires unseen { share.old.seen ≡ [] }
     ensures parts { IfOk result (λ all. share.new.parts ≡ share.old.parts) }
     ensures unused { IfOk result (λ all. IsUnused all.0.transcript) }
     ensures logged { IfOk result (λ all. is_some all.1 ≡ is_some file) }
-    ensures held { IfOk result (λ all. AreAllHeld N.limits share.new (map (λ s. record { lines = F.remaining s.lines; replies = F.contents s.replies }) clients.streams.items) (map (λ s. record { lines = F.remaining s.lines; replies = F.contents s.replies }) all.0.streams.items) (in_a_row all.0.answers.items)) }
+    ensures held { IfOk result (λ all. AreAllHeld N.limits begun.now share.new (map (λ s. record { lines = F.remaining s.lines; replies = F.contents s.replies }) clients.streams.items) (map (λ s. record { lines = F.remaining s.lines; replies = F.contents s.replies }) all.0.streams.items) (in_a_row all.0.answers.items)) }
     ensures left { IfOk result (λ all. AreLeft share.new.seen (map (λ w. record { questions = w.questions.items; contents = F.contents w.notes }) clients.watches.items) all.2.left.items) }
     ensures none { IfOk result (λ all. all.2.watched.items ≡ []) }
     ensures room { IfOk result (λ all. vec_len all.2.left ≤ vec_capacity all.2.watched) }
 {
+    let start = share.prefix();
+    begin(rt, hub, share, begun)?;
     let log = begin_log::<N, K, V, R>(rt, alloc, file, hub, share)?;
     let room = Gathered::with_room(alloc, clients.streams.len())?;
-    let present = begin_all(alloc, share, clients)?;
+    let present = begin_all(alloc, share, &start, clients)?;
     let Present {
         tasks,
         watchers,
@@ -192,4 +205,23 @@ fn serve_all<
     let all = take_back(room, share, held)?;
     let left = leave_all(leaving, share, watchers);
     Ok((all, unlocked(rt, hub, log), left))
+}
+
+// Makes the edits that a hub begins with. Its share has all parts. Memory that is wanting is the fault, `NoMemory`; an edit that is refused
+// otherwise is `ReadFault`.
+fn begin<N: WithBody<Six>, R: Wait>(
+    rt: &R,
+    hub: &Hub<Six, N>,
+    share: &mut Share<N>,
+    begun: &[Edit],
+) -> Result<(), ProgramError>
+    requires all { share.old.parts ≡ N.parts }
+    requires count { share.old.count ≡ 0 }
+    ensures { OnOk result (share.new ≡ record share.old { count = length begun.now; seen = begun.now }) }
+{
+    match hub.begin(rt, share, begun) {
+        Ok(()) => Ok(()),
+        Err(Refusal::NoMemory) => Err(ProgramError::memory()),
+        Err(refusal) => Err(ProgramError::new(Fault::ReadFault, Reason::Beginning(refusal), 0)),
+    }
 }

@@ -22,7 +22,7 @@ use std::alloc::Global;
 use std::io::Write;
 use std::sync::{Mutex, Wait};
 
-/// The log of a hub whose edits nobody has seen, where there is a file for it.
+/// The log of a hub, where there is a file for it: nobody has seen an edit of it then.
 pub fn begin_log<N: WithBody<Six>, K: Begun, V: Write + Drop, R: Wait>(
     rt: &R,
     alloc: Global,
@@ -31,7 +31,7 @@ pub fn begin_log<N: WithBody<Six>, K: Begun, V: Write + Drop, R: Wait>(
     share: &Share<N>,
 ) -> Result<Option<Mutex<OperationLog<N, V, K>>>, ProgramError>
     requires start { IfSome file (λ file. K.start ≡ V.contents file) }
-    requires unseen { share.now.seen ≡ [] }
+    requires unseen { IfSome file (λ _. share.now.seen ≡ []) }
     ensures { IfOk result (λ log. is_some log ≡ is_some file) }
 {
     let Some(file) = file else {

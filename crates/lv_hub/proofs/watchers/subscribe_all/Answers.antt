@@ -1,4 +1,4 @@
--- Proof of `subscribe_all`: gives each subscriber a part of the hub, of which nobody has seen an edit.
+-- Proof of `subscribe_all`: gives each subscriber a part of the hub that has seen what a prefix has.
 use Rattle.std.proofs.Common.{◌≡◌, ◌∙◌, is_ok, true, refl, ap, sym, map, rules, arith}
 use Rattle.std.proofs.lemmas.Iterator.Adapters.{YieldsList-from_vec}
 use Rattle.std.proofs.lemmas.Iterator.Consumers.{YieldsList-end, YieldsList-so_far, YieldsList-turn}
@@ -10,14 +10,14 @@ use Rattle.lv_hub.proofs.WatchedLaws.{begun_more}
 use Rattle.lv_hub.proofs.watchers.subscribe_all.Goals as goal
 
 pub loop-watch-init : goal.loop-watch-init
-loop-watch-init g c = (tt, tt, c.new-watchers.ensures.items, omega arith, refl, c.requires.unseen, refl)
+loop-watch-init g c = (tt, tt, c.new-watchers.ensures.items, omega arith, refl, refl, refl)
 
 pub loop-watch-preserved : goal.loop-watch-preserved
 loop-watch-preserved g c =
     let i = c.loop-watch.invariant in
     let longer = length_push c.loop-watch.yielded c.in-Some.watch in
     let pushed : is_ok c.push.result ≡ true = search rules in
-    let rest = c.split.ensures.rest in (
+    let rest = c.split_at.ensures.rest in (
       tt,
       tt,
       begun_more _ c.loop-watch.watchers.items _ c.in_ok-watcher.watcher c.loop-watch.yielded c.in-Some.watch i.2 (rw pushed at c.push.ensures.items) c.in_ok-watcher.ensures.begun,
@@ -28,20 +28,20 @@ loop-watch-preserved g c =
     )
 
 -- each that is still to come has a part, and the share has one besides
-pub split-requires : goal.split-requires
-split-requires g c =
+pub split_at-requires : goal.split_at-requires
+split_at-requires g c =
     let gives = c.into_iter-watch-iterator.ensures.into_iter_gives in
     let turn = YieldsList-turn (YieldsList-from_vec c.args.watches.items gives.0 (gives.1 ∙ c.args.watches.ok.0)) c.loop-watch.yielded c.loop-watch.watch-iterator c.loop-watch.yielded_by c.next.result c.next.new.self c.in-Some.watch c.in-Some.is c.next.ensures.steps in
     omega (arith, turn.0, c.loop-watch.invariant.3, c.requires.parts, c.args.watches.ok.0)
 
 pub subscribe-requires-clause-parts : goal.subscribe-requires-clause-parts
-subscribe-requires-clause-parts g c = ap (λ share. share.parts) c.split.ensures.one
+subscribe-requires-clause-parts g c = ap (λ share. share.parts) c.split_at.ensures.one
 
 pub subscribe-requires-clause-count : goal.subscribe-requires-clause-count
-subscribe-requires-clause-count g c = ap (λ share. share.count) c.split.ensures.one
+subscribe-requires-clause-count g c = ap (λ share. share.count) c.split_at.ensures.one
 
 pub subscribe-requires-clause-seen : goal.subscribe-requires-clause-seen
-subscribe-requires-clause-seen g c = ap (λ share. share.seen) c.split.ensures.one ∙ c.loop-watch.invariant.5
+subscribe-requires-clause-seen g c = ap (λ share. share.seen) c.split_at.ensures.one ∙ c.requires.unseen
 
 pub returns-clause-parts : goal.returns-clause-parts
 returns-clause-parts g c =

@@ -1,5 +1,5 @@
--- What the loop keeps in `subscribe_all`: gives each subscriber a part of the hub, of which nobody has seen an edit.
-use Rattle.std.proofs.Common.{◌≡◌, ◌+◌, [], None, length, map}
+-- What the loop keeps in `subscribe_all`: gives each subscriber a part of the hub that has seen what a prefix has.
+use Rattle.std.proofs.Common.{◌≡◌, ◌+◌, None, length, map}
 use Rattle.lv_hub.specs.Asking.{refusal_of_all}
 use Rattle.lv_hub.specs.Watchers.{watcher_at}
 use Rattle.lv_hub.proofs.watchers.subscribe_all.Given as goal
@@ -11,5 +11,5 @@ invariant-loop-watch g l =
     (l.watchers.items ≡ map (λ w. watcher_at (record { questions = w.questions.items; contents = g.F.Write.contents w.notes })) l.yielded) ×
     (l.share.parts + length l.yielded ≡ l.fn.share.parts) ×
     (l.share.count ≡ l.fn.share.count) ×
-    (l.share.seen ≡ []) ×
+    (l.share.seen ≡ l.fn.share.seen) ×
     (refusal_of_all (map (λ w. w.questions.items) l.yielded) ≡ None)

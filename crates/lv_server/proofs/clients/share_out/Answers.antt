@@ -1,4 +1,4 @@
--- Proof of `share_out`: gives each session a part of the hub, of which nobody has seen an edit, and puts memory by for it.
+-- Proof of `share_out`: gives each session a part of the hub, which has seen what the share has, and puts memory by for it.
 use Rattle.std.proofs.Common.{◌≡◌, ◌∙◌, None, is_ok, true, refl, ap, sym, map, rules, arith}
 use Rattle.std.proofs.lemmas.Iterator.Adapters.{YieldsList-from_vec}
 use Rattle.std.proofs.lemmas.Iterator.Consumers.{YieldsList-turn, YieldsList-end}
@@ -19,7 +19,7 @@ loop-streams-preserved g c =
     let rest = c.split.ensures.rest in
     let sides : Sides = record { lines = g.F.Read.remaining c.in-Some.streams.lines; replies = g.F.Write.contents c.in-Some.streams.replies } in
     let task : Sitting = record { share = c.split.result; sides = sides; waits = true; answers = None } in
-    let begun : task ≡ begun_at sides = ap (λ share. record { share = share; sides = sides; waits = true; answers = None }) (c.split.ensures.one ∙ ap (λ seen. record { parts = 1; count = 0; seen = seen }) i.5) in (
+    let begun : task ≡ begun_at c.args.share.now.seen sides = ap (λ share. record { share = share; sides = sides; waits = true; answers = None }) (c.split.ensures.one ∙ ap (λ seen. record { parts = 1; count = 0; seen = seen }) i.5) in (
       tt,
       tt,
       begins_one_more _ c.loop-streams.tasks.items _ task c.loop-streams.yielded c.in-Some.streams i.2 (rw pushed at c.push.ensures.items) begun,
@@ -29,7 +29,7 @@ loop-streams-preserved g c =
     )
 
 pub loop-streams-init : goal.loop-streams-init
-loop-streams-init g c = (tt, tt, c.new-tasks.ensures.items, omega (arith, c.requires.parts), refl, c.requires.unseen)
+loop-streams-init g c = (tt, tt, c.new-tasks.ensures.items, omega (arith, c.requires), refl, refl)
 
 -- each stream that is still to come has a part, and the share has one besides
 pub split-requires : goal.split-requires

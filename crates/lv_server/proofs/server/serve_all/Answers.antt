@@ -3,7 +3,7 @@ use Rattle.std.proofs.Common.{◌∙◌, ap, arith, subst, sym, vec_capacity}
 use Rattle.lv_transcript.specs.Transcribing.{IsUnused}
 use Rattle.lv_hub.proofs.WatchedLaws.{all_left, watched_as_many}
 use Rattle.lv_server.proofs.BesideLaws.{held_more, taken_as_many}
-use Rattle.lv_server.proofs.ServedLaws.{all_held_by, begun_as_many}
+use Rattle.lv_server.proofs.ServedLaws.{all_held_by, begun_as_many, if_some}
 use Rattle.lv_server.proofs.server.serve_all.Goals as goal
 
 -- there is room for what each subscriber leaves
@@ -11,6 +11,10 @@ pub leave_all-left-requires-clause-room : goal.leave_all-left-requires-clause-ro
 leave_all-left-requires-clause-room g c =
     let many = watched_as_many _ _ c.args.clients.watches.items c.in_ok-present.ensures.watchers in
     omega (arith, many, c.hold_all-held.ensures.watched.len, c.in_ok-present.ensures.left_room, c.args.clients.watches.ok.0, c.hold_all-held.result.1.ok.0)
+
+-- a log is of a hub that begins with no edit
+pub begin_log-requires-clause-unseen : goal.begin_log-requires-clause-unseen
+begin_log-requires-clause-unseen g c = if_some c.args.file (λ _ none. ap (λ s. s.seen) c.in_ok-begin.ensures ∙ none) c.requires.fresh
 
 -- as many parts come back as were cut off
 pub returns-clause-parts : goal.returns-clause-parts
@@ -24,8 +28,10 @@ returns-clause-parts g c =
 pub returns-clause-held : goal.returns-clause-held
 returns-clause-held g c =
     let left = c.leave_all-left.ensures.left in
-    held_more g.N.Naming.limits _ _ _ _ _
-    (all_held_by _ g.N.Naming.limits _ _ c.args.clients.streams.items _ _ _ _ c.in_ok-present.ensures.sessions c.hold_all-held.ensures.held c.in_ok-all.ensures.back (c.in_ok-present.ensures.count ∙ c.requires.count))
+    let begun = c.args.begun.now in
+    let made = c.in_ok-begin.ensures in
+    held_more g.N.Naming.limits begun _ _ _ _ _
+    (all_held_by _ g.N.Naming.limits begun _ _ _ c.args.clients.streams.items _ _ _ _ c.in_ok-present.ensures.sessions c.hold_all-held.ensures.held c.in_ok-all.ensures.back (c.in_ok-present.ensures.count ∙ ap (λ s. s.count) made) c.in_ok-present.ensures.seen (ap (λ s. s.seen) made))
     left.count left.more
 
 -- what each subscriber has left is told of all that was seen

@@ -1,0 +1,42 @@
+-- The edits that a hub begins with, made by a share that has all parts.
+use Rattle.std.proofs.Common.{◌≡◌, ℕ, ◌+◌, ◌<◌, List, [], ◌∷◌, ◌++◌, get_or, length, take, refl, sym, ap, ◌∙◌, arith}
+use Rattle.std.proofs.lemmas.List.{take_all, take_more}
+use Rattle.lv_geometry.specs.Bounds.{Bounds}
+use Rattle.lv_edits.specs.declared.edit.Edit.{Edit}
+use Rattle.lv_edits.specs.declared.receipt.Receipt.{Receipt}
+use Rattle.lv_edits.specs.History.{History, with_edit}
+use Rattle.lv_edits.specs.Verdict.{Accepts}
+use Rattle.lv_hub.specs.Counting.{ShareState, having_seen, one_more}
+use Rattle.lv_hub.specs.Told.{IsVector, history_of}
+
+-- a list that is as long as nothing
+none_of : (edits : List Edit) (n : ℕ) → length edits ≡ n → n ≡ 0 → edits ≡ []
+none_of [] n is none = refl
+none_of (e ∷ edits) n is none = absurd (omega (arith, is, none))
+
+-- a vector that has as many edits as a share that counts none
+pub history_begins : (limits : Bounds) (h : History) (n : ℕ) → IsVector limits h → length h.journal ≡ n → n ≡ 0 → h ≡ history_of limits []
+history_begins limits h n vector counted none = λ i. record { limits = vector.limits_are i; journal = none_of h.journal n counted none i }
+
+-- that share, once it has seen them
+pub share_begins : (old new : ShareState) (edits : List Edit) → new ≡ having_seen old edits → length edits ≡ old.count → old.count ≡ 0 → new ≡ record old { count = 0; seen = [] }
+share_begins old new edits is counted none = is ∙ (λ i. record { parts = old.parts; count = none i; seen = none_of edits old.count counted none i })
+
+-- one edit more was accepted
+pub history_goes_on : (limits : Bounds) (old new : History) (edits : List Edit) (i : ℕ) (d e : Edit) (receipt : Receipt) → i < length edits → e ≡ get_or edits i d → old ≡ history_of limits (take i edits) → Accepts old e receipt new
+    → new ≡ history_of limits (take (i + 1) edits)
+history_goes_on limits old new edits i d e receipt within is so_far accepts =
+    accepts.journal ∙ ap (λ h. with_edit h e) so_far ∙ ap (λ e. history_of limits (take i edits ++ e ∷ [])) is ∙ ap (λ es. history_of limits es) (sym (take_more edits i d within))
+
+-- and the share counts it
+pub share_goes_on : (start old new : ShareState) (edits : List Edit) (i : ℕ) → new ≡ one_more (having_seen old new.seen) → new.seen ≡ take (i + 1) edits → old ≡ record start { count = i; seen = take i edits }
+    → new ≡ record start { count = i + 1; seen = take (i + 1) edits }
+share_goes_on start old new edits i counts seen so_far =
+    counts ∙ (λ k. record { parts = ap (λ s. s.parts) so_far k; count = ap (λ s. s.count + 1) so_far k; seen = seen k })
+
+-- all of them were made
+pub share_ends : (start share : ShareState) (edits : List Edit) (i : ℕ) → i ≡ length edits → share ≡ record start { count = i; seen = take i edits } → share ≡ record start { count = length edits; seen = edits }
+share_ends start share edits i all is = is ∙ (λ k. record { parts = start.parts; count = all k; seen = take_all i edits (omega (arith, all)) k })
+
+pub history_ends : (limits : Bounds) (h : History) (edits : List Edit) (i : ℕ) → i ≡ length edits → h ≡ history_of limits (take i edits) → h ≡ history_of limits edits
+history_ends limits h edits i all is = is ∙ ap (λ es. history_of limits es) (take_all i edits (omega (arith, all)))
