@@ -19,7 +19,7 @@ taken set new q told answer (Err refusal) most same takes = takes
 pub returns-in-Ok-clause-ok : goal.returns-in-Ok-clause-ok
 returns-in-Ok-clause-ok g c =
     subst (λ s. OnOk c.watch.result ((question_refusal s.questions c.args.question.now ≡ None)
-        × (c.watch.new.self.queries ≡ s.questions ++ c.args.question.now ∷ [])
-        × (c.watch.new.self.told ≡ s.told ++ watch_answer [] c.args.question.now ∷ [])))
-        c.self.view_is
-        (taken c.self.inside.queries c.watch.new.self c.args.question.now c.untold.result (watch_answer [] c.args.question.now) c.watch.result c.self.invariant.0 c.untold.ensures.none c.watch.ensures.ok)
+    × (c.watch.new.self.queries ≡ s.questions ++ c.args.question.now ∷ [])
+    × (c.watch.new.self.told ≡ s.told ++ watch_answer [] c.args.question.now ∷ [])))
+    c.self.view_is
+    (taken c.self.inside.queries c.watch.new.self c.args.question.now c.untold.result (watch_answer [] c.args.question.now) c.watch.result c.self.invariant.0 c.untold.ensures.none c.watch.ensures.ok)
