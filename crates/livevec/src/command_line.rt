@@ -4,7 +4,9 @@ ghost use Rattle.std.specs.Prelude.{◌≡◌};
 ghost use Rattle.lv_geometry.specs.Bounds.{AreAllowed};
 
 use crate::help;
-use crate::modes::{AUDIT, Argument, BOARD, KINDS, Mode, Number, RESTORE, RUN, SCHEDULE, SERVE};
+use crate::modes::{
+    AUDIT, Argument, BOARD, COMPACT, KINDS, Mode, Number, RESTORE, RUN, SCHEDULE, SERVE,
+};
 use clap::builder::ValueParser;
 use clap::error::ErrorKind;
 use clap::{Arg, ArgAction, ArgMatches, Command, Error};
@@ -18,6 +20,7 @@ pub fn command<'a>(alloc: Global) -> Result<Command<'a>, AllocError> {
     let command = with_command(heading(alloc), command_of(alloc, &RUN));
     let command = with_command(command, command_of(alloc, &SERVE));
     let command = with_command(command, command_of(alloc, &RESTORE));
+    let command = with_command(command, command_of(alloc, &COMPACT));
     let command = with_command(command, command_of(alloc, &BOARD));
     let command = with_command(command, command_of(alloc, &SCHEDULE));
     with_command(command, command_of(alloc, &AUDIT))
@@ -74,8 +77,11 @@ fn arg_of<'a>(alloc: Global, argument: &Argument) -> Result<Arg<'a>, AllocError>
             flag(alloc, name, says).conflicts_with_all(others)
         }
         Argument::File(name, says) => Ok(file(alloc, name, says)),
+        Argument::FileWithout(name, says, others) => {
+            file(alloc, name, says).conflicts_with_all(others)
+        }
         Argument::Several(name, says) => Ok(file(alloc, name, says).action(ArgAction::Append)),
-        Argument::Front => Ok(front(alloc)),
+        Argument::Front(says) => Ok(front(alloc, says)),
     }
 }
 
@@ -125,7 +131,7 @@ pub fn plan(matches: &ArgMatches<'_>) -> Plan {
     }
 }
 
-/// What the files of a command are, by its options: those of sessions, those of subscribers behind them, and that of the transcript last.
+/// What the files of a command are, by its options: those of sessions, those of subscribers behind them, and that of the transcript or of the log last.
 pub fn names<'a>(matches: &ArgMatches<'_>, all: &'a [&'a str]) -> Names<'a> {
     let sessions = matches.get_strs("files").unwrap_or(&[]).len();
     let watches = matches.get_strs("watch").unwrap_or(&[]).len();
@@ -221,10 +227,10 @@ fn file<'a>(alloc: Global, name: &'static str, says: &'static str) -> Arg<'a> {
         .action(ArgAction::Set)
 }
 
-fn front<'a>(alloc: Global) -> Arg<'a> {
+fn front<'a>(alloc: Global, says: &'static str) -> Arg<'a> {
     Arg::new(alloc, "front")
         .value_name("FILE")
-        .help("A transcript, or a prefix of one")
+        .help(says)
         .required(true)
 }
 

@@ -107,6 +107,15 @@ server. If `serve` is killed, `livevec audit --front` says how much is there, an
 continues from it. At a good end its last line is `end`. With --sync it is on the disk before the
 reply. If FILE can't be written, that is a fault at the end.
 
+With --log FILE the record is the store: `serve` begins with the updates of FILE and appends the new ones,
+each before its reply, and nothing goes to standard output. Versions go on where those of FILE end. With
+--log-answers answers are appended too. A FILE that isn't there is made. FILE is opened after the
+others, and locked before it is read; the usage errors are those of --transcript. If its last line isn't
+complete, that line is cut off, which standard error says. If another line is wrong, or an update is
+rejected within --buckets and --edits, that is a fault, and no file has changed. A transcript is no log:
+`livevec compact FILE` makes a log of it, and also shortens a log. If FILE can't be written, standard
+error says so at once, no session goes on, and it is a fault at the end.
+
 With --watch FILE, up to 4 times, a subscriber runs next to the sessions. FILE has at most 64 lines
 `watch NAME KIND LO HI`, blank lines and comments. `last N` in place of LO HI means the last N elements,
 and `at-least X` or `at-most X` may follow. A wrong line is a fault, which names the line before a
@@ -120,7 +129,7 @@ With --answers N each session keeps at most N answers for the transcript. The re
 that is `refused 6`. If memory runs out, lines are rejected with `refused 6` too, and the transcript is
 complete.
 
-No signal ends the sessions in an orderly way: only --transcript survives one.";
+No signal ends the sessions in an orderly way: only --transcript and --log survive one.";
 
 /// What `restore` does.
 pub const RESTORE: &str =
@@ -132,6 +141,25 @@ FILE is a transcript, or as much of one as was written: complete lines from the 
 updates and answers may be in real order. Whatever follows the last line end doesn't count. Its updates
 are replayed, and those of the script are numbered after them. If a line of FILE is false or misspelt,
 that is the fault, and nothing is answered. FILE is only read: no output may go there.";
+
+/// What `compact` does.
+pub const COMPACT: &str =
+    "Makes the log FILE anew, of the elements that there are at its end, so that it is short";
+
+/// What becomes of the files.
+pub const COMPACTED: &str = "\
+FILE is a log that nobody serves, or a transcript, or a prefix of one. It is replaced by a log of the
+elements that there are after all its updates. The next update has the number that it would have had,
+and `livevec serve --log FILE` continues from it. One line on standard output says what was done.
+
+What was there is kept as FILE.1, in place of a regular file with that name, unless --drop-old is given.
+The new log is written to FILE.compacting, and gets the name FILE when it is whole and on the disk. So if
+`compact` is killed, FILE is the old file or the new one. FILE.compacting may be left, or FILE.1 as a
+second name of FILE; the next `compact` uses these names again, and `serve --log` removes the second name.
+
+FILE is locked meanwhile. It is a usage error if it is a link, has a second name, or is locked, as by a
+server. If it is no log and no prefix of a transcript, that is a fault, which names the first wrong
+line, and nothing changes.";
 
 /// What `board` does.
 pub const BOARD: &str =

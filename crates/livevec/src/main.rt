@@ -9,7 +9,7 @@ mod modes;
 mod status;
 
 use crate::misuse::{Misuse, NAME_BYTES, misuse_in, unreadable_in, unshown_in};
-use crate::modes::{BOARD, RESTORE, SERVE};
+use crate::modes::{BOARD, COMPACT, RESTORE, SERVE};
 use crate::status::{CUT, show, show_misuse, status_of, status_of_front, status_told, tell};
 use clap::{ArgMatches, Error};
 use lv_bodies::Sum;
@@ -17,7 +17,10 @@ use lv_machine::Machine;
 use lv_script::{
     Fault, MOST_NUMBERED, audit, audit_front, run_schedule, run_script_within, run_series_script,
 };
-use lv_server::{Piped, ProgramError, Waited, hold_files, null_files, restore_file, serve_files};
+use lv_server::{
+    Compacted, Escaped, Piped, ProgramError, Waited, compact_file, hold_files, null_files,
+    restore_file, serve_files, serve_logged_files,
+};
 use std::alloc::{AllocError, Global};
 use std::fs::{File, Files};
 use std::io::{Read, Write};
@@ -139,6 +142,7 @@ fn answer<
         }
         "serve" => serve(rt, asked, writer),
         "restore" => restore(rt, asked, writer),
+        "compact" => compact(rt, asked, writer),
         "board" => board(rt, asked),
         "schedule" => {
             schedule(alloc, asked, &mut lines_of(rt), writer)?;
@@ -189,11 +193,16 @@ fn serve<
         return Err(Fault::NoMemory);
     };
     let names = command_line::names(asked, all.as_slice());
-    let ended = serve_files(rt, rt, alloc, command_line::plan(asked), names, writer);
+    let plan = command_line::plan(asked);
+    let ended = if asked.get_str("log").is_some() {
+        serve_logged_files(rt, rt, alloc, plan, asked.get_flag("log-answers"), names)
+    } else {
+        serve_files(rt, rt, alloc, plan, names, writer)
+    };
     status_told(rt, &SERVE, all.as_slice(), writer.ends_quietly(), ended)
 }
 
-// The files of sessions, those of subscribers, and that of the transcript.
+// The files of sessions, those of subscribers, and that of the transcript or of the log.
 fn files_of<'a>(alloc: Global, asked: &ArgMatches<'a>) -> Result<Vec<&'a str>, AllocError> {
     let mut names = Vec::new(alloc);
     names.extend_from_slice(asked.get_strs("files").unwrap_or(&[]))?;
@@ -201,7 +210,42 @@ fn files_of<'a>(alloc: Global, asked: &ArgMatches<'a>) -> Result<Vec<&'a str>, A
     if let Some(name) = asked.get_str("transcript") {
         names.push(name)?;
     }
+    if let Some(name) = asked.get_str("log") {
+        names.push(name)?;
+    }
     Ok(names)
+}
+
+// Compacts the file that a command line names, and says what became of it.
+fn compact<R: AllocGlobal + Clock + Eprint + Files<File = File> + Print, W: Write>(
+    rt: &R,
+    asked: &ArgMatches<'_>,
+    writer: &mut Piped<W>,
+) -> Result<u8, Fault> {
+    let file = asked.get_str("front").unwrap_or("");
+    match compact_file(rt, rt, rt.alloc(), file, asked.get_flag("drop-old")) {
+        Ok(compacted) => match write_compacted(file, compacted, writer) {
+            Ok(()) => Ok(0),
+            Err(_) => Err(Fault::WriteFault),
+        },
+        Err(error) => status_told(rt, &COMPACT, &[file], writer.ends_quietly(), Err(error)),
+    }
+}
+
+// Writes the line that says what became of a file that was compacted.
+fn write_compacted<W: Write>(
+    file: &str,
+    compacted: Compacted,
+    writer: &mut W,
+) -> io::Result<()> {
+    let base = compacted.heading.base;
+    let elements = compacted.heading.elements;
+    let name = Escaped(file);
+    if compacted.is_kept {
+        writeln!(writer, "compacted '{name}': {base} base {elements} elements, '{name}.1' is what it was")
+    } else {
+        writeln!(writer, "compacted '{name}': {base} base {elements} elements, what it was is dropped")
+    }
 }
 
 // Restores a vector from the file that a command line names, and answers a script.

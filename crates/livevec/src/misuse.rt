@@ -29,6 +29,8 @@ pub enum Misuse<'a> {
     Unshown(&'a str),
     /// An option is given so often.
     TooOften(&'static str, usize),
+    /// An option is given without another that it is for.
+    Without(&'static str, &'static str),
 }
 
 impl fmt::Display for Misuse<'_> {
@@ -52,6 +54,9 @@ impl fmt::Display for Misuse<'_> {
             Misuse::TooOften(name, most) => {
                 write!(f, "error: --{name} may be given {most} times at most")?
             }
+            Misuse::Without(name, other) => {
+                write!(f, "error: --{name} says nothing without {other}")?
+            }
         }
         f.write_str("\n\nFor more information, try '--help'.")
     }
@@ -63,7 +68,23 @@ pub fn misuse_in<'a>(matches: &ArgMatches<'a>) -> Option<Misuse<'a>> {
     if watches.len() > WATCHES {
         return Some(Misuse::TooOften("watch", WATCHES));
     }
-    plus_in(matches)
+    match idle_in(matches) {
+        Some(misuse) => Some(misuse),
+        None => plus_in(matches),
+    }
+}
+
+// The first option of a command that is given without another that it is for, if one is.
+fn idle_in<'a>(matches: &ArgMatches<'a>) -> Option<Misuse<'a>> {
+    let is_logged = matches.get_str("log").is_some();
+    let is_recorded = is_logged || matches.get_str("transcript").is_some();
+    if matches.get_flag("sync") && !is_recorded {
+        return Some(Misuse::Without("sync", "--transcript or --log"));
+    }
+    if matches.get_flag("log-answers") && !is_logged {
+        return Some(Misuse::Without("log-answers", "--log"));
+    }
+    None
 }
 
 // The first number of a command's options that is written with a plus, if one is.

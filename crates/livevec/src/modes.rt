@@ -100,10 +100,12 @@ pub enum Argument {
     FlagWithout(&'static str, &'static str, &'static [&'static str]),
     /// An option whose value is a file: its name, and what it says.
     File(&'static str, &'static str),
+    /// The same, which is not given beside others: their names.
+    FileWithout(&'static str, &'static str, &'static [&'static str]),
     /// An option that may be given several times, each with a file: its name, and what it says.
     Several(&'static str, &'static str),
-    /// The file of a transcript's front.
-    Front,
+    /// A file that is a front: what it says.
+    Front(&'static str),
 }
 
 /// A command: its name, that with the program's, what it says, what stands at the end of its help, and what it takes, in order.
@@ -151,7 +153,16 @@ pub const SERVE: Mode = Mode {
             "transcript",
             "Writes updates and answers there as they come, in real order",
         ),
-        Argument::Flag("sync", "Flushes to the disk what --transcript writes"),
+        Argument::FileWithout(
+            "log",
+            "Goes on from this log, and writes updates there as they come: it is the store",
+            &["transcript", "answers"],
+        ),
+        Argument::Flag("log-answers", "Writes answers to the log too"),
+        Argument::Flag(
+            "sync",
+            "Flushes to the disk what --transcript or --log writes, before its reply",
+        ),
         Argument::Several(
             "watch",
             "A file of queries, whose answers are written to FILE.out as they change; up to 4 times",
@@ -167,7 +178,23 @@ pub const RESTORE: Mode = Mode {
     whole_name: "livevec restore",
     about: help::RESTORE,
     after_help: help::RESTORED,
-    arguments: &[QUIET_PIPE, Argument::Front],
+    arguments: &[
+        QUIET_PIPE,
+        Argument::Front("A log, a transcript, or a prefix of one"),
+    ],
+};
+
+/// `compact`.
+pub const COMPACT: Mode = Mode {
+    name: "compact",
+    whole_name: "livevec compact",
+    about: help::COMPACT,
+    after_help: help::COMPACTED,
+    arguments: &[
+        Argument::Flag("drop-old", "Doesn't keep what was there as FILE.1"),
+        QUIET_PIPE,
+        Argument::Front("A log that nobody serves, a transcript, or a prefix of one"),
+    ],
 };
 
 /// `board`.

@@ -1,12 +1,15 @@
-//! What a program does with files that are named: it serves them, holds them at a board, or restores from one.
+//! What a program does with files that are named: it serves them, by a transcript or by a log, holds them at a board, or restores from one.
 
+use crate::announced_file::AnnouncedFile;
 use crate::board_sessions::hold_sessions;
 use crate::clients::{Clients, first_unwritten};
 use crate::identity::{is_written, standard_files};
 use crate::names::Names;
-use crate::opened_client::{open_all, open_input};
+use crate::opened_client::{open_all, open_input, open_with_log};
 use crate::program_error::{ProgramError, Reason};
 use crate::server::{Plan, serve};
+use crate::serving_logs::serve_log;
+use crate::store_file::StartedLog;
 use crate::waited::Waited;
 use lv_bodies::Kind;
 use lv_geometry::Limits;
@@ -20,7 +23,11 @@ use std::time::Clock;
 
 /// Opens files, and serves them; they are waited for by a clock. What a subscriber was told that couldn't be written is the fault once all
 /// else is done.
-pub fn serve_files<C: Clock + Copy + Send, R: Files<File = File> + Sync + Threads + Wait, W: Write>(
+pub fn serve_files<
+    C: Clock + Copy + Send,
+    R: Eprint + Files<File = File> + Sync + Threads + Wait,
+    W: Write,
+>(
     clock: C,
     rt: &R,
     alloc: Global,
@@ -29,6 +36,7 @@ pub fn serve_files<C: Clock + Copy + Send, R: Files<File = File> + Sync + Thread
     writer: &mut W,
 ) -> Result<(), ProgramError> {
     let (Clients { streams, watches }, file) = open_all(clock, rt, alloc, names)?;
+    let file = announced(rt, names, file);
     match serve(rt, alloc, plan, &[], streams, watches, file, writer) {
         Ok((streams, file, watched)) => {
             let ended = first_unwritten(&watched);
@@ -36,6 +44,74 @@ pub fn serve_files<C: Clock + Copy + Send, R: Files<File = File> + Sync + Thread
             ended
         }
         Err(error) => Err(error),
+    }
+}
+
+// The file of a transcript whose failure is told at once, if there is one.
+fn announced<'a, R, F: Write + Drop>(
+    rt: &'a R,
+    names: Names<'a>,
+    file: Option<F>,
+) -> Option<AnnouncedFile<'a, &'a R, F>>
+where
+    R: Eprint,
+{
+    match file {
+        Some(file) => Some(AnnouncedFile::new(rt, names.of_record().unwrap_or(""), file)),
+        None => None,
+    }
+}
+
+/// Opens files and a log, and serves them from where the log ends; they are waited for by a clock, and updates go to the log, with
+/// `logs_answers` also answers. What can't be written to the log is told at once, and is the fault at the end. What a subscriber was told
+/// that couldn't be written is the fault once all else is done.
+pub fn serve_logged_files<
+    C: Clock + Copy + Send,
+    R: Eprint + Files<File = File> + Sync + Threads + Wait,
+>(
+    clock: C,
+    rt: &R,
+    alloc: Global,
+    plan: Plan,
+    logs_answers: bool,
+    names: Names<'_>,
+) -> Result<(), ProgramError> {
+    let (Clients { streams, watches }, log) =
+        open_with_log(clock, rt, alloc, plan.limits, names)?;
+    let StartedLog {
+        file,
+        heading,
+        edits,
+    } = log;
+    let file = AnnouncedFile::new(rt, names.of_record().unwrap_or(""), file);
+    let begun = edits.journal();
+    let served = serve_log(
+        rt,
+        alloc,
+        plan,
+        logs_answers,
+        heading,
+        begun,
+        streams,
+        watches,
+        file,
+    );
+    drop(edits);
+    match served {
+        Ok((streams, file, watched)) => {
+            let ended = first_unwritten(&watched);
+            drop((streams, file, watched));
+            ended
+        }
+        Err(error) => Err(about_log(error, names)),
+    }
+}
+
+// An error that names the log, where it is about that.
+fn about_log(error: ProgramError, names: Names<'_>) -> ProgramError {
+    match error.reason {
+        Reason::Transcript => ProgramError::new(error.fault, Reason::Log, names.clients),
+        _ => error,
     }
 }
 
@@ -79,7 +155,7 @@ fn restore_from<F: Read + Drop, I: Read, W: Write>(
         Ok(FrontVerdict::Front { .. }) => return Ok(()),
         Ok(FrontVerdict::No(line)) => Reason::False(line),
         Ok(FrontVerdict::Bad(line)) => Reason::Misspelt(line),
-        Err(Unrestored::Front(fault)) => return Err(ProgramError::session(0, fault)),
+        Err(Unrestored::Front(fault)) => return Err(ProgramError::front(0, fault)),
         Err(Unrestored::Script(fault)) => return Err(ProgramError::standard(fault)),
     };
     Err(ProgramError::new(Fault::ReadFault, reason, 0))

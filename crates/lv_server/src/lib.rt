@@ -4,10 +4,12 @@
 //! `restore_file` open the files that are named and pass them on. Why any of them failed is a `ProgramError`.
 #![tactic(auto)]
 
+mod announced_file;
 mod board_sessions;
 mod clients;
 mod commands;
 mod escaped;
+mod folders;
 mod identity;
 mod log_file;
 mod names;
@@ -16,12 +18,15 @@ mod output_file;
 mod piped;
 mod program_error;
 mod server;
+mod serving_logs;
+mod store_compaction;
+mod store_file;
 mod threads;
 mod transcript;
 mod waited;
 
 pub use board_sessions::hold_sessions;
-pub use commands::{hold_files, restore_file, serve_files};
+pub use commands::{hold_files, restore_file, serve_files, serve_logged_files};
 pub use escaped::{Escaped, EscapedBytes, is_shown};
 pub use identity::null_files;
 pub use names::Names;
@@ -29,4 +34,6 @@ pub use opened_client::OpenedClient;
 pub use piped::Piped;
 pub use program_error::{ErrorText, ProgramError, Reason};
 pub use server::{Plan, serve};
+pub use serving_logs::serve_log;
+pub use store_compaction::{Compacted, compact_file};
 pub use waited::Waited;

@@ -1,13 +1,16 @@
-//! The file of a transcript as it is written.
+//! The file of a transcript or of a log as it is written.
 
-use crate::output_file::OutputFile;
+use crate::output_file::{Access, OutputFile};
 use crate::program_error::Reason;
 use std::fs::{File, Files, OpenFile, TryLockError};
 use std::io;
 use std::io::Write;
 use std::os::unix::fs::MetadataExt;
 
-/// The file of a transcript as it is written. What is flushed is on the disk, where that is wanted.
+// How often a file is opened anew because another came in its place.
+const TRIES: u32 = 100;
+
+/// The file of a transcript or of a log as it is written. What is flushed is on the disk, where that is wanted.
 #[derive(Drop)]
 pub struct LogFile<F: Drop> {
     /// The file.
@@ -16,26 +19,66 @@ pub struct LogFile<F: Drop> {
     pub syncs: bool,
 }
 
-/// Opens the file of a transcript, as those of replies are opened. The reason tells it.
-pub fn open_log<R: Files>(rt: &R, name: &str) -> Result<(R::File, OutputFile), Reason> {
-    match OutputFile::open(rt, name) {
+/// Opens the file of a transcript or of a log, as those of replies are opened, and locks it before anything else, so that no second
+/// server writes it as long as it is open. Where another file has come in place of what was opened until the lock was there, as a compaction
+/// brings one, that one is opened. The reason tells the file, and is `Unopened` where it isn't there and isn't to be made.
+pub fn open_locked<R: Files<File = File>>(
+    rt: &R,
+    how: Access,
+    name: &str,
+) -> Result<(File, OutputFile), Reason> {
+    for _ in 0..TRIES {
+        let (file, output) = open_record(rt, how, name)?;
+        match lock(&file) {
+            Ok(()) => {}
+            Err(reason) => return Err(without(rt, name, output, reason)),
+        }
+        if output.is_named(rt, name) {
+            return Ok((file, output));
+        }
+    }
+    Err(Reason::RecordLocked)
+}
+
+// Opens it.
+fn open_record<R: Files>(
+    rt: &R,
+    how: Access,
+    name: &str,
+) -> Result<(R::File, OutputFile), Reason> {
+    match OutputFile::open_by(rt, how, name) {
         Ok(opened) => Ok(opened),
-        Err(Reason::Link) => Err(Reason::TranscriptLink),
+        Err(Reason::Link) => Err(Reason::RecordLink),
+        Err(Reason::Unopened) => Err(Reason::Unopened),
         Err(_) => Err(Reason::Transcript),
     }
 }
 
-/// Locks a transcript's file, so that no second server writes it as long as it is open. It must have one name.
-pub fn lock_log(file: &File) -> Result<(), Reason> {
-    match file.metadata() {
-        Ok(found) if found.nlink() > 1 => return Err(Reason::TranscriptNames),
-        Ok(_) => {}
-        Err(_) => return Err(Reason::Transcript),
-    }
+// Locks it.
+fn lock(file: &File) -> Result<(), Reason> {
     match file.try_lock() {
         Ok(()) => Ok(()),
-        Err(TryLockError::WouldBlock) => Err(Reason::TranscriptLocked),
+        Err(TryLockError::WouldBlock) => Err(Reason::RecordLocked),
         Err(TryLockError::Error(_)) => Err(Reason::Transcript),
+    }
+}
+
+// The reason, once a file that was made here and that nobody has locked is taken away.
+fn without<R: Files>(rt: &R, name: &str, output: OutputFile, reason: Reason) -> Reason {
+    match reason {
+        Reason::RecordLocked => {}
+        _ => {
+            let _ = output.is_removed(rt, name);
+        }
+    }
+    reason
+}
+
+/// How many names a file has.
+pub fn names_of<F: OpenFile>(file: &F) -> Result<u64, Reason> {
+    match file.metadata() {
+        Ok(found) => Ok(found.nlink()),
+        Err(_) => Err(Reason::Transcript),
     }
 }
 

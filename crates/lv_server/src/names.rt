@@ -9,13 +9,13 @@ pub const REPLIES: &str = ".out";
 /// The files that are served, by their names.
 #[derive(Clone, Copy)]
 pub struct Names<'a> {
-    /// Those of sessions, those of subscribers behind them, and that of the transcript last, if there is one.
+    /// Those of sessions, those of subscribers behind them, and that of the transcript or of the log last, if there is one.
     pub all: &'a [&'a str],
     /// How many sessions there are.
     pub sessions: usize,
     /// How many sessions and subscribers there are.
     pub clients: usize,
-    /// Whether what is written to the transcript's file goes to the disk at once.
+    /// Whether what is written to the transcript's file, or to the log, goes to the disk at once.
     pub syncs: bool,
 }
 
@@ -25,8 +25,8 @@ impl<'a> Names<'a> {
         self.all.get(..self.clients).unwrap_or(self.all)
     }
 
-    /// The name of the transcript's file, if there is one.
-    pub fn of_transcript(&self) -> Option<&'a str> {
+    /// The name of the file of the transcript or of the log, if there is one.
+    pub fn of_record(&self) -> Option<&'a str> {
         self.all.get(self.clients).copied()
     }
 }

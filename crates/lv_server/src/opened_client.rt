@@ -1,12 +1,14 @@
-//! The files of clients and of the transcript, and how they are opened: none is changed before all are found fit.
+//! The files of clients, and of the transcript or of the log, and how they are opened: none is changed before all are found fit.
 
 use crate::clients::Clients;
 use crate::identity::{Identity, is_written, standard_files};
-use crate::log_file::{LogFile, lock_log, open_log};
+use crate::log_file::{LogFile, names_of, open_locked};
 use crate::names::{Names, REPLIES, first_clash};
-use crate::output_file::OutputFile;
+use crate::output_file::{Access, OutputFile};
 use crate::program_error::{ProgramError, Reason};
+use crate::store_file::{StartedLog, StoreFile};
 use crate::waited::Waited;
+use lv_geometry::Limits;
 use lv_hub::{Query, Unasked, read_questions};
 use lv_script::Fault;
 use std::alloc::Global;
@@ -84,21 +86,46 @@ pub fn open_all<C: Clock + Copy, R: Files<File = File>>(
     alloc: Global,
     names: Names<'_>,
 ) -> Result<(Clients<Waited<C, File>>, Option<Waited<C, LogFile<File>>>), ProgramError> {
+    let (clients, mut all) = room_for(alloc, names)?;
+    match open_and_ask(rt, alloc, names, &mut all) {
+        Ok(last) => empty_with(clock, all, clients, last, names),
+        Err(error) => Err(without_new(rt, &all, error)),
+    }
+}
+
+/// Opens each file and that of its replies likewise, and the log that a server goes on from, which comes last, is locked before it is read, and begins, or has
+/// a torn line cut off, once all are found fit. It is so where it has whole lines that are a log, whose updates keep to these limits, or is new.
+pub fn open_with_log<C: Clock + Copy, R: Eprint + Files<File = File>>(
+    clock: C,
+    rt: &R,
+    alloc: Global,
+    limits: Limits,
+    names: Names<'_>,
+) -> Result<(Clients<Waited<C, File>>, StartedLog<Waited<C, LogFile<File>>>), ProgramError> {
+    let (clients, mut all) = room_for(alloc, names)?;
+    match open_and_start(clock, rt, alloc, limits, names, &mut all) {
+        Ok(log) => Ok((empty_all(clock, all, clients, names.sessions)?, log)),
+        Err(error) => Err(without_new(rt, &all, error)),
+    }
+}
+
+// Room for all clients, where their names don't clash.
+fn room_for<F: Drop>(
+    alloc: Global,
+    names: Names<'_>,
+) -> Result<(Clients<F>, Vec<OpenedClient<File>>), ProgramError> {
     let files = names.of_clients();
     if let Some(error) = first_clash(files) {
         return Err(error);
     }
     let watches = files.len().saturating_sub(names.sessions);
-    let (Ok(clients), Ok(mut all)) = (
+    let (Ok(clients), Ok(all)) = (
         Clients::with_room(alloc, names.sessions, watches),
         Vec::with_capacity(alloc, files.len()),
     ) else {
         return Err(ProgramError::memory());
     };
-    match open_and_ask(rt, alloc, names, &mut all) {
-        Ok(last) => empty_with(clock, all, clients, last, names),
-        Err(error) => Err(without_new(rt, &all, error)),
-    }
+    Ok((clients, all))
 }
 
 // Opens them, reads what subscribers ask, and opens the file of a transcript if there is to be one.
@@ -110,13 +137,54 @@ fn open_and_ask<R: Files<File = File>>(
 ) -> Result<Option<(File, OutputFile)>, ProgramError> {
     open_each(rt, alloc, names.of_clients(), all)?;
     ask_each(alloc, all.as_mut_slice(), names.sessions)?;
-    match names.of_transcript() {
+    match names.of_record() {
         Some(name) => match open_unshared(rt, name, all) {
             Ok(opened) => Ok(Some(opened)),
             Err(reason) => Err(ProgramError::new(Fault::WriteFault, reason, names.clients)),
         },
         None => Ok(None),
     }
+}
+
+// Opens them, reads what subscribers ask, and opens and begins the log. One that was made here and can't begin is taken away.
+fn open_and_start<C: Clock + Copy, R: Eprint + Files<File = File>>(
+    clock: C,
+    rt: &R,
+    alloc: Global,
+    limits: Limits,
+    names: Names<'_>,
+    all: &mut Vec<OpenedClient<File>>,
+) -> Result<StartedLog<Waited<C, LogFile<File>>>, ProgramError> {
+    open_each(rt, alloc, names.of_clients(), all)?;
+    ask_each(alloc, all.as_mut_slice(), names.sessions)?;
+    let name = names.of_record().unwrap_or("");
+    let store = StoreFile::open(clock, rt, alloc, name, names.clients, true)?;
+    let output = store.output;
+    match start(clock, rt, alloc, limits, names, store, all) {
+        Ok(log) => Ok(log),
+        Err(error) => {
+            let _ = output.is_removed(rt, name);
+            Err(error)
+        }
+    }
+}
+
+// Begins the log, once it is seen that no client reads or writes it, and that it is fit.
+fn start<C: Clock + Copy, R: Eprint + Files<File = File>>(
+    clock: C,
+    rt: &R,
+    alloc: Global,
+    limits: Limits,
+    names: Names<'_>,
+    store: StoreFile,
+    all: &[OpenedClient<File>],
+) -> Result<StartedLog<Waited<C, LogFile<File>>>, ProgramError> {
+    let mut store = store;
+    if is_taken(rt, all, store.output) {
+        return Err(ProgramError::new(Fault::WriteFault, Reason::RecordTaken, names.clients));
+    }
+    store.check_log(alloc, limits)?;
+    store.start(clock, rt, alloc, names.of_record().unwrap_or(""), names.syncs)
 }
 
 // Opens them in order, and sees that none is written that is read or written otherwise.
@@ -192,26 +260,34 @@ fn is_used<F: Drop>(all: &[OpenedClient<F>], number: usize, output: Identity) ->
     false
 }
 
-// Opens the file of a transcript. No client reads or writes it, no standard stream leads there, and nobody else has locked it.
+// Opens the file of a transcript. No client reads or writes it, no standard stream leads there, nobody else has locked it, and it has one name.
 fn open_unshared<R: Files<File = File>>(
     rt: &R,
     name: &str,
     all: &[OpenedClient<File>],
 ) -> Result<(File, OutputFile), Reason> {
-    let (file, output) = open_log(rt, name)?;
-    if is_used(all, usize::MAX, output.identity)
-        || standard_files(rt).contains(&Some(output.identity))
-    {
-        return Err(Reason::TranscriptTaken);
+    let how = Access {
+        is_store: false,
+        makes: true,
+    };
+    let (file, output) = open_locked(rt, how, name)?;
+    if is_taken(rt, all, output) {
+        return Err(Reason::RecordTaken);
     }
-    match lock_log(&file) {
-        Ok(()) => Ok((file, output)),
-        Err(Reason::Transcript) => {
+    match names_of(&file) {
+        Ok(names) if names <= 1 => Ok((file, output)),
+        Ok(_) => Err(Reason::RecordNames),
+        Err(reason) => {
             let _ = output.is_removed(rt, name);
-            Err(Reason::Transcript)
+            Err(reason)
         }
-        Err(reason) => Err(reason),
     }
+}
+
+// Whether a client reads or writes a file, or a standard stream leads there.
+fn is_taken<R: Files, F: Drop>(rt: &R, all: &[OpenedClient<F>], output: OutputFile) -> bool {
+    is_used(all, usize::MAX, output.identity)
+        || standard_files(rt).contains(&Some(output.identity))
 }
 
 // Reads what each file asks that comes behind those of so many sessions. The first file that can't be read, or has a line that is wrong, is

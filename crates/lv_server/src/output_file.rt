@@ -2,8 +2,30 @@
 
 use crate::identity::Identity;
 use crate::program_error::Reason;
-use std::fs::{File, Files, Metadata, OpenFile, OpenOptions, remove_file, symlink_metadata};
+use std::fs::{Files, Metadata, OpenFile, OpenOptions, remove_file, symlink_metadata};
 use std::io::ErrorKind;
+
+/// How a file is opened that is written.
+#[derive(Clone, Copy)]
+pub struct Access {
+    /// Whether it is also read, and written at its end only.
+    pub is_store: bool,
+    /// Whether it is made where it isn't there.
+    pub makes: bool,
+}
+
+impl Access {
+    // The same, as options.
+    fn options(self) -> OpenOptions {
+        let mut how = OpenOptions::new();
+        if self.is_store {
+            how.read(true).append(true);
+        } else {
+            how.write(true);
+        }
+        how
+    }
+}
 
 /// A file that is written: which it is, and whether it was made here.
 #[derive(Clone, Copy)]
@@ -13,13 +35,61 @@ pub struct OutputFile {
 }
 
 impl OutputFile {
-    /// Opens the file of this name, as it stands, or makes it. No link is followed, and only a regular file is opened: the reason is
-    /// `Link`, or `Unmade`.
+    /// Opens the file of this name to be written, as it stands, or makes it. No link is followed, and only a regular file is opened: the
+    /// reason is `Link`, or `Unmade`.
     pub fn open<R: Files>(rt: &R, name: &str) -> Result<(R::File, OutputFile), Reason> {
+        let how = Access {
+            is_store: false,
+            makes: true,
+        };
+        OutputFile::open_by(rt, how, name)
+    }
+
+    /// Opens it so, likewise. One that isn't there and isn't to be made is `Unopened`.
+    pub fn open_by<R: Files>(
+        rt: &R,
+        how: Access,
+        name: &str,
+    ) -> Result<(R::File, OutputFile), Reason> {
         match symlink_metadata(rt, name) {
-            Ok(found) => open_regular(rt, name, &found),
-            Err(error) if error.kind() == ErrorKind::NotFound => make(rt, name),
+            Ok(found) => open_regular(rt, how, name, &found),
+            Err(error) if error.kind() == ErrorKind::NotFound => {
+                if how.makes {
+                    OutputFile::make(rt, how, name)
+                } else {
+                    Err(Reason::Unopened)
+                }
+            }
             Err(_) => Err(Reason::Unmade),
+        }
+    }
+
+    /// Makes the file of this name, which isn't there, so. One of which it can't be said which it is stays, and is empty.
+    pub fn make<R: Files>(
+        rt: &R,
+        how: Access,
+        name: &str,
+    ) -> Result<(R::File, OutputFile), Reason> {
+        let Ok(file) = how.options().create_new(true).open(rt, name) else {
+            return Err(Reason::Unmade);
+        };
+        match file.metadata() {
+            Ok(made) => {
+                let output = OutputFile {
+                    identity: Identity::of(&made),
+                    is_new: true,
+                };
+                Ok((file, output))
+            }
+            Err(_) => Err(Reason::Unmade),
+        }
+    }
+
+    /// Whether its name leads to it.
+    pub fn is_named<R: Files>(self, rt: &R, name: &str) -> bool {
+        match symlink_metadata(rt, name) {
+            Ok(found) => Identity::of(&found) == self.identity,
+            Err(_) => false,
         }
     }
 
@@ -44,6 +114,7 @@ impl OutputFile {
 // Opens a file to write that is there. What is opened must be what was found: a link may have come in between.
 fn open_regular<R: Files>(
     rt: &R,
+    how: Access,
     name: &str,
     found: &Metadata,
 ) -> Result<(R::File, OutputFile), Reason> {
@@ -53,7 +124,7 @@ fn open_regular<R: Files>(
     if !found.is_file() {
         return Err(Reason::Unmade);
     }
-    let Ok(file) = OpenOptions::new().write(true).open(rt, name) else {
+    let Ok(file) = how.options().open(rt, name) else {
         return Err(Reason::Unmade);
     };
     let output = OutputFile {
@@ -63,23 +134,6 @@ fn open_regular<R: Files>(
     match file.metadata() {
         Ok(opened) if Identity::of(&opened) == output.identity => Ok((file, output)),
         Ok(_) => Err(Reason::Link),
-        Err(_) => Err(Reason::Unmade),
-    }
-}
-
-// Makes a file to write. One of which it can't be said which it is stays, and is empty.
-fn make<R: Files>(rt: &R, name: &str) -> Result<(R::File, OutputFile), Reason> {
-    let Ok(file) = File::create_new(rt, name) else {
-        return Err(Reason::Unmade);
-    };
-    match file.metadata() {
-        Ok(made) => {
-            let output = OutputFile {
-                identity: Identity::of(&made),
-                is_new: true,
-            };
-            Ok((file, output))
-        }
         Err(_) => Err(Reason::Unmade),
     }
 }

@@ -34,6 +34,8 @@ pub enum Reason {
     Unread,
     #[error("' has more than 2^30 bytes")]
     Long,
+    #[error("' has more than 4294967293 bytes")]
+    LongFront,
     #[error(".out' can't be made")]
     Unmade,
     #[error(".out' can't be written")]
@@ -43,6 +45,28 @@ pub enum Reason {
     False(u32),
     #[error("' is no front of a transcript: line {0} is not of a form that may stand there")]
     Misspelt(u32),
+    #[error("' can't be opened, made or written")]
+    Log,
+    /// A line of a log, by its number.
+    #[error("' is no log: line {0} is false")]
+    FalseLog(u32),
+    #[error("' is no log: line {0} is not of a form that may stand there")]
+    MisspeltLog(u32),
+    #[error("' is a transcript and no log: `livevec compact` makes a log of it")]
+    NoLog,
+    #[error("' is a log with more than 2^62 updates before it, and none goes behind it")]
+    HighBase,
+    /// An update of a log, by its number in the file.
+    #[error("' is a log whose update {0} is rejected within --buckets and --edits: {1}")]
+    OverLimits(u32, Refusal),
+    #[error("' can't be replaced by what was made of it")]
+    Unreplaced,
+    #[error("' is there, and its folder can't be flushed to the disk")]
+    Unsynced,
+    #[error(".1' can't be made of the old file: give --drop-old if it needn't be kept")]
+    Unkept,
+    #[error(".compacting' can't be made or written")]
+    Uncompacted,
     /// A line of a subscriber's file, by its number, whose question is refused.
     #[error("' can't be watched: {1}")]
     Refused(u32, Refusal),
@@ -59,14 +83,18 @@ pub enum Reason {
     Standard,
     #[error(".out' is a link, and replies don't go through one: remove it")]
     Link,
-    #[error("' is read or written here otherwise, perhaps under another name: write the transcript elsewhere")]
-    TranscriptTaken,
-    #[error("' is a link, and the transcript doesn't go through one: remove it")]
-    TranscriptLink,
-    #[error("' has a second name (a hard link), and the transcript doesn't go under two: write it elsewhere")]
-    TranscriptNames,
-    #[error("' is locked, as by a server that writes it: write the transcript elsewhere")]
-    TranscriptLocked,
+    #[error("' is read or written here otherwise, perhaps under another name: name another file")]
+    RecordTaken,
+    #[error("' is a link, and neither a transcript nor a log goes through one: name the file itself, or remove the link")]
+    RecordLink,
+    #[error("' has a second name (a hard link), and neither a transcript nor a log goes under two: name another file")]
+    RecordNames,
+    #[error("' is locked, as by a server that writes it: name another file")]
+    RecordLocked,
+    #[error(".1' is there and no regular file, and would have what was there before: remove it, or give --drop-old")]
+    KeptTaken,
+    #[error(".compacting' is there and no regular file: remove it")]
+    CompactingTaken,
 }
 
 impl Reason {
@@ -76,14 +104,15 @@ impl Reason {
             Reason::Twice | Reason::Replies | Reason::Shared | Reason::Standard | Reason::Link => {
                 true
             }
-            Reason::TranscriptTaken | Reason::TranscriptLink => true,
-            Reason::TranscriptNames | Reason::TranscriptLocked => true,
+            Reason::RecordTaken | Reason::RecordLink => true,
+            Reason::RecordNames | Reason::RecordLocked => true,
+            Reason::KeptTaken | Reason::CompactingTaken => true,
             _ => false,
         }
     }
 }
 
-/// Why the program fails. Files are counted from 0: those of sessions, those of subscribers, and that of the transcript.
+/// Why the program fails. Files are counted from 0: those of sessions, those of subscribers, and that of the transcript or of the log.
 #[derive(Clone, Copy, Debug, Error)]
 #[error("livevec: {fault}")]
 pub struct ProgramError {
@@ -141,6 +170,16 @@ impl ProgramError {
             Fault::WriteFault => Reason::Unwritten,
         };
         ProgramError::new(fault, reason, file)
+    }
+
+    /// A fault in the reading of a front, or of a log, that the file of a number has.
+    pub fn front(file: usize, fault: Fault) -> ProgramError
+        ensures { result.fault ≡ fault }
+    {
+        match fault {
+            Fault::TooLong => ProgramError::new(fault, Reason::LongFront, file),
+            _ => ProgramError::session(file, fault),
+        }
     }
 
     /// A line of a subscriber's file is wrong, or memory was wanting for its question.

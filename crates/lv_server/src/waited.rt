@@ -23,6 +23,11 @@ impl<C: Clock + Copy, S: Drop> Waited<C, S> {
         Waited { clock, stream }
     }
 
+    /// The stream that is waited for.
+    pub fn stream(&self) -> &S {
+        &self.stream
+    }
+
     // Lets some time pass, the more the oftener the stream was asked.
     fn nap(&self, times: u64) {
         let naps = times.min(GROWING_NAPS - 1) + 1;
@@ -64,6 +69,12 @@ impl<C: Clock + Copy, W: Write + Drop> Write for Waited<C, W> {
     }
 
     fn flush(&mut self) -> io::Result<()> {
-        self.stream.flush()
+        for times in 0..u64::MAX {
+            match self.stream.flush() {
+                Err(error) if is_passing(&error) => self.nap(times),
+                flushed => return flushed,
+            }
+        }
+        Err(Error::from(ErrorKind::WouldBlock))
     }
 }

@@ -13,6 +13,7 @@
 mod auditor;
 mod block_folds;
 mod claimed;
+mod compaction;
 mod flat_edits;
 mod fronts;
 mod kind_folds;
@@ -29,6 +30,7 @@ mod whole_lines;
 
 pub use auditor::{Verdict, audit};
 pub use claimed::Claimed;
+pub use compaction::{compact_log, compacted_heading};
 pub use flat_edits::{FlatEdit, copy_edits, flat_edit};
 pub use fronts::{FoundFront, FrontVerdict, audit_front, read_front};
 pub use log_heading::LogHeading;

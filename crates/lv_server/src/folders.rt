@@ -1,0 +1,62 @@
+//! The folder of a file, and what lies beside it.
+
+use crate::identity::Identity;
+use crate::program_error::{ProgramError, Reason};
+use lv_script::Fault;
+use std::alloc::Global;
+use std::fs::{File, Files, OpenFile, symlink_metadata};
+use std::io::ErrorKind;
+
+/// What ends the name that the old file has once a log was compacted.
+pub const KEPT: &str = ".1";
+
+/// What ends the name of a log that is being compacted.
+pub const COMPACTING: &str = ".compacting";
+
+/// What lies under a name.
+#[derive(Clone, Copy, PartialEq)]
+pub enum Found {
+    Nothing,
+    /// A regular file.
+    Regular(Identity),
+    /// Something else, or nobody knows what.
+    Else,
+}
+
+/// What lies under a name. No link is followed.
+pub fn found_at<R: Files>(rt: &R, name: &str) -> Found {
+    match symlink_metadata(rt, name) {
+        Ok(found) if found.is_file() => Found::Regular(Identity::of(&found)),
+        Err(error) if error.kind() == ErrorKind::NotFound => Found::Nothing,
+        _ => Found::Else,
+    }
+}
+
+/// The name of a file beside another: the same with an ending behind it.
+pub fn beside(alloc: Global, name: &str, ending: &str) -> Result<String, ProgramError> {
+    match format!(in alloc; "{name}{ending}") {
+        Ok(name) => Ok(name),
+        Err(_) => Err(ProgramError::memory()),
+    }
+}
+
+/// Flushes the folder of a file to the disk, so that the file has its name there too.
+pub fn sync_folder<R: Files>(rt: &R, name: &str, number: usize) -> Result<(), ProgramError> {
+    let unsynced = ProgramError::new(Fault::WriteFault, Reason::Unsynced, number);
+    let Ok(folder) = File::open(rt, folder_of(name)) else {
+        return Err(unsynced);
+    };
+    match folder.sync_all() {
+        Ok(()) => Ok(()),
+        Err(_) => Err(unsynced),
+    }
+}
+
+// The folder of a file.
+fn folder_of(name: &str) -> &str {
+    match name.rsplit_once('/') {
+        Some(("", _)) => "/",
+        Some((folder, _)) => folder,
+        None => ".",
+    }
+}

@@ -1,0 +1,279 @@
+//! The log that a server goes on from: how it is opened and looked at, and how it begins.
+
+use crate::escaped::Escaped;
+use crate::folders::{Found, KEPT, beside, found_at, sync_folder};
+use crate::identity::Identity;
+use crate::log_file::{LogFile, names_of, open_locked};
+use crate::output_file::{Access, OutputFile};
+use crate::program_error::{ProgramError, Reason};
+use crate::waited::Waited;
+use lv_edits::Edits;
+use lv_geometry::{Limits, Refusal};
+use lv_lines::MOST_NUMBERED;
+use lv_script::Fault;
+use lv_transcript::{FoundFront, FrontVerdict, LogHeading, read_front, write_log};
+use std::alloc::Global;
+use std::fs::{File, Files, OpenFile, remove_file};
+use std::io::{Read, Seek, SeekFrom};
+use std::time::Clock;
+
+// How many updates come before a log at most that is gone on with.
+const HIGHEST_BASE: u64 = 4_611_686_018_427_387_904;
+
+// The first line of a log before which nothing came, without its LF, and its length.
+const FIRST_LINE: [u8; 13] = *b"livevec 2 0 0";
+
+/// A log, or a front of a transcript, that is open and locked, and what was found in it. Nothing of it has changed.
+#[derive(Drop)]
+pub struct StoreFile {
+    /// The file, at its end.
+    pub file: File,
+    /// Which it is.
+    pub output: OutputFile,
+    /// What was found in it.
+    pub found: FoundFront,
+    /// How many bytes it has.
+    pub length: u64,
+    /// Whether a compaction that was killed has left it the second name for what it was.
+    pub is_kept: bool,
+    // Which of the files it is.
+    number: usize,
+}
+
+/// A log that a server goes on from: its file is at its end and has whole lines, those of its heading and of these edits, and answers.
+#[derive(Drop)]
+pub struct StartedLog<F: Drop> {
+    pub file: F,
+    pub heading: LogHeading,
+    pub edits: Edits,
+}
+
+impl StoreFile {
+    /// Opens the file of this name and number, which is made where it isn't there, if that is wanted, and locks it before it is read. Nothing of it changes.
+    ///
+    /// It is a clash where it is a link, has a second name, or is locked, and `WriteFault` where it can't be opened otherwise. What can't be read is `ReadFault`, as is a file that is no front; but
+    /// what is found there is for the caller to judge.
+    pub fn open<C: Clock + Copy, R: Files<File = File>>(
+        clock: C,
+        rt: &R,
+        alloc: Global,
+        name: &str,
+        number: usize,
+        makes: bool,
+    ) -> Result<StoreFile, ProgramError> {
+        let how = Access {
+            is_store: true,
+            makes,
+        };
+        let (file, output) = match open_locked(rt, how, name) {
+            Ok(opened) => opened,
+            Err(reason) => return Err(unopened(reason, number)),
+        };
+        match read_store(clock, rt, alloc, name, number, file, output) {
+            Ok(store) => Ok(store),
+            Err(error) => {
+                let _ = output.is_removed(rt, name);
+                Err(error)
+            }
+        }
+    }
+
+    /// Whether nothing but a part of a first line is there.
+    fn is_blank(&self) -> bool {
+        self.found.whole == 0 && self.found.heading.is_none()
+    }
+
+    /// Sees that a front was found there, and that its next updates can be numbered. The first wrong line is the fault, `ReadFault`.
+    pub fn check_front(&self) -> Result<(), ProgramError> {
+        let reason = match self.found.verdict {
+            FrontVerdict::No(line) => Reason::FalseLog(line),
+            FrontVerdict::Bad(line) => Reason::MisspeltLog(line),
+            FrontVerdict::Front { .. } => match self.found.heading {
+                Some(heading) if heading.base > HIGHEST_BASE => Reason::HighBase,
+                _ => return Ok(()),
+            },
+        };
+        Err(ProgramError::new(Fault::ReadFault, reason, self.number))
+    }
+
+    /// Sees that it is a log, or nothing but a part of the first line of a new one, whose updates keep to these limits. What it is otherwise is the
+    /// fault, `ReadFault`.
+    pub fn check_log(&mut self, alloc: Global, limits: Limits) -> Result<(), ProgramError> {
+        self.check_front()?;
+        if self.is_blank() && !self.is_first_line_torn() {
+            return Err(ProgramError::new(Fault::ReadFault, Reason::MisspeltLog(1), self.number));
+        }
+        if self.found.heading.is_none() && !self.is_blank() {
+            return Err(ProgramError::new(Fault::ReadFault, Reason::NoLog, self.number));
+        }
+        self.check_limits(alloc, limits)
+    }
+
+    // Whether a file without a whole line has a beginning of a new log's first line.
+    fn is_first_line_torn(&mut self) -> bool {
+        let Ok(length) = usize::try_from(self.length) else {
+            return false;
+        };
+        let Some(first) = FIRST_LINE.get(..length) else {
+            return false;
+        };
+        let mut bytes = [0u8; 13];
+        let Some(there) = bytes.get_mut(..length) else {
+            return false;
+        };
+        self.file.seek(SeekFrom::Start(0)).is_ok()
+            && self.file.read_exact(there).is_ok()
+            && &*there == first
+    }
+
+    // Sees that its updates keep to these limits. To the greatest they do.
+    fn check_limits(&self, alloc: Global, limits: Limits) -> Result<(), ProgramError> {
+        if limits == Limits::greatest() {
+            return Ok(());
+        }
+        let mut edits = Edits::new(alloc, limits);
+        for edit in self.found.edits.journal() {
+            match edits.apply(*edit) {
+                Ok(_) => {}
+                Err(Refusal::NoMemory) => return Err(ProgramError::memory()),
+                Err(refusal) => {
+                    let reason = Reason::OverLimits(edits.edit().saturating_add(1), refusal);
+                    return Err(ProgramError::new(Fault::ReadFault, reason, self.number));
+                }
+            }
+        }
+        Ok(())
+    }
+
+    /// Begins the log where nothing is there, cuts a torn line off, which is told, and takes the second name away that a compaction has left. With `syncs`
+    /// what is flushed is on the disk, and so is the name of the file. What can't be written is the fault, `WriteFault`.
+    pub fn start<C: Clock + Copy, R: Eprint + Files<File = File>>(
+        self,
+        clock: C,
+        rt: &R,
+        alloc: Global,
+        name: &str,
+        syncs: bool,
+    ) -> Result<StartedLog<Waited<C, LogFile<File>>>, ProgramError> {
+        let unwritten = ProgramError::new(Fault::WriteFault, Reason::Log, self.number);
+        if self.is_kept && !is_single(rt, alloc, name)? {
+            return Err(unwritten);
+        }
+        if self.length > self.found.whole && self.file.set_len(self.found.whole).is_err() {
+            return Err(unwritten);
+        }
+        tell_of_cut(rt, name, self.length, self.found.whole);
+        let number = self.number;
+        let started = self.with_heading(clock, alloc, syncs)?;
+        if syncs {
+            sync_folder(rt, name, number)?;
+        }
+        Ok(started)
+    }
+
+    // Writes the first line where there is none.
+    fn with_heading<C: Clock + Copy>(
+        self,
+        clock: C,
+        alloc: Global,
+        syncs: bool,
+    ) -> Result<StartedLog<Waited<C, LogFile<File>>>, ProgramError> {
+        let StoreFile {
+            file,
+            found,
+            number,
+            ..
+        } = self;
+        let FoundFront { edits, heading, .. } = found;
+        let mut file = Waited::new(clock, LogFile { file, syncs });
+        if let Some(heading) = heading {
+            return Ok(StartedLog {
+                file,
+                heading,
+                edits,
+            });
+        }
+        let heading = LogHeading {
+            base: 0,
+            elements: 0,
+        };
+        match write_log(alloc, heading, &[], &mut file) {
+            Ok(()) => Ok(StartedLog {
+                file,
+                heading,
+                edits,
+            }),
+            Err(Fault::NoMemory) => Err(ProgramError::memory()),
+            Err(fault) => Err(ProgramError::new(fault, Reason::Log, number)),
+        }
+    }
+}
+
+// Why a log can't be opened.
+fn unopened(reason: Reason, number: usize) -> ProgramError {
+    match reason {
+        Reason::Transcript => ProgramError::new(Fault::WriteFault, Reason::Log, number),
+        Reason::Unopened => ProgramError::new(Fault::ReadFault, Reason::Unopened, number),
+        reason => ProgramError::new(Fault::WriteFault, reason, number),
+    }
+}
+
+// Reads a log that is open and locked.
+fn read_store<C: Clock + Copy, R: Files>(
+    clock: C,
+    rt: &R,
+    alloc: Global,
+    name: &str,
+    number: usize,
+    file: File,
+    output: OutputFile,
+) -> Result<StoreFile, ProgramError> {
+    let is_kept = has_kept_name(rt, alloc, name, number, &file, output.identity)?;
+    let found = match read_front(alloc, MOST_NUMBERED, Waited::new(clock, &file)) {
+        Ok(found) => found,
+        Err(fault) => return Err(ProgramError::front(number, fault)),
+    };
+    let length = match file.metadata() {
+        Ok(metadata) => metadata.len(),
+        Err(_) => return Err(ProgramError::new(Fault::ReadFault, Reason::Unread, number)),
+    };
+    Ok(StoreFile {
+        file,
+        output,
+        found,
+        length,
+        is_kept,
+        number,
+    })
+}
+
+// Whether the file has a second name, which a compaction that was killed has left for what it was. Any other name is a clash.
+fn has_kept_name<R: Files>(
+    rt: &R,
+    alloc: Global,
+    name: &str,
+    number: usize,
+    file: &File,
+    identity: Identity,
+) -> Result<bool, ProgramError> {
+    match names_of(file) {
+        Ok(names) if names <= 1 => Ok(false),
+        Ok(2) if found_at(rt, beside(alloc, name, KEPT)?.as_str()) == Found::Regular(identity) => {
+            Ok(true)
+        }
+        Ok(_) => Err(ProgramError::new(Fault::WriteFault, Reason::RecordNames, number)),
+        Err(_) => Err(ProgramError::new(Fault::WriteFault, Reason::Log, number)),
+    }
+}
+
+// Takes the second name away that a compaction has left. Says whether it could.
+fn is_single<R: Files>(rt: &R, alloc: Global, name: &str) -> Result<bool, ProgramError> {
+    Ok(remove_file(rt, beside(alloc, name, KEPT)?.as_str()).is_ok())
+}
+
+// Tells of a line that was cut off.
+fn tell_of_cut<R: Eprint>(rt: &R, name: &str, length: u64, whole: u64) {
+    if length > whole {
+        let _ = eprintln!(rt; "livevec: the last line of '{}' isn't whole: {} bytes are cut off", Escaped(name), length - whole);
+    }
+}
