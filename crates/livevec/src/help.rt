@@ -107,14 +107,14 @@ server. If `serve` is killed, `livevec audit --front` says how much is there, an
 continues from it. At a good end its last line is `end`. With --sync it is on the disk before the
 reply. If FILE can't be written, that is a fault at the end.
 
-With --log FILE the record is the store: `serve` begins with the updates of FILE and appends the new ones,
-each before its reply, and nothing goes to standard output. Versions go on where those of FILE end. With
---log-answers answers are appended too. A FILE that isn't there is made. FILE is opened after the
-others, and locked before it is read; the usage errors are those of --transcript. If its last line isn't
-complete, that line is cut off, which standard error says. If another line is wrong, or an update is
-rejected within --buckets and --edits, that is a fault, and no file has changed. A transcript is no log:
-`livevec compact FILE` makes a log of it, and also shortens a log. If FILE can't be written, standard
-error says so at once, no session goes on, and it is a fault at the end.
+With --log FILE the record is the store: `serve` begins with the updates of FILE and appends the new
+ones, each before its reply, and nothing goes to standard output. Their numbers go on from FILE's, also
+after `livevec compact`. With --log-answers answers are appended too. FILE is made if it isn't there,
+opened after the others, and locked before it is read; the usage errors are those of --transcript. If
+its last line isn't complete, that line is cut off, and standard error says so. If another line is
+wrong, or --buckets and --edits reject an update, that is a fault, and no file has changed. A transcript
+is no log: `livevec compact FILE` makes a log of it. If FILE can't be written, standard error says so at
+once, no session goes on, and that is a fault at the end.
 
 With --watch FILE, up to 4 times, a subscriber runs next to the sessions. FILE has at most 64 lines
 `watch NAME KIND LO HI`, blank lines and comments. `last N` in place of LO HI means the last N elements,

@@ -54,7 +54,7 @@ pub enum Reason {
     MisspeltLog(u32),
     #[error("' is a transcript and no log: `livevec compact` makes a log of it")]
     NoLog,
-    #[error("' is a log with more than 2^62 updates before it, and none goes behind it")]
+    #[error("' is a log with more than 2^62 updates before it, which can't be continued")]
     HighBase,
     /// An update of a log, by its number in the file.
     #[error("' is a log whose update {0} is rejected within --buckets and --edits: {1}")]

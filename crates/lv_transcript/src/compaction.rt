@@ -1,4 +1,10 @@
 //! How what is there after a front's edits becomes a log of its own.
+ghost use Rattle.std.specs.Prelude.{◌≡◌, ◌≤◌, ◌^◌, IfOk, OnOk, Some, length};
+ghost use Rattle.lv_edits.specs.History.{list_of};
+ghost use Rattle.lv_edits.specs.Kept.{IsLegalInLimits};
+ghost use Rattle.lv_transcript.specs.Fronts.{IsWholeFront};
+ghost use Rattle.lv_transcript.specs.Logs.{GoesOnFrom, base_of, compacted, log_text, number_of, pushes_of_elements};
+ghost use Rattle.lv_transcript.specs.Transcript.{Transcribes};
 
 use crate::fronts::FoundFront;
 use crate::log_heading::LogHeading;
@@ -6,12 +12,38 @@ use crate::logs::write_log;
 use crate::plain_ranges::Replay;
 use lv_edits::Edits;
 use lv_lines::Fault;
-use std::alloc::Global;
+use std::alloc::{AllocError, Global};
 use std::io::Write;
 
+/// Writes a log of exactly the elements that there are after all edits that were found, and flushes the writer. Its heading is that of
+/// `compacted_heading`: so it is a sound log, which is gone on with as what was found would have been, with the same list and the same number for the next edit.
+///
+/// O(n) for n edits, and memory for the elements: where there is none, the fault is `NoMemory`, and nothing was written. A failed write,
+/// and one that takes no byte, is `WriteFault`.
+pub fn compact_log<W: Write>(
+    alloc: Global,
+    found: &FoundFront,
+    writer: &mut W,
+) -> Result<(), Fault>
+    requires numbers { base_of found.now.heading ≤ 2 ^ 62 }
+    ensures text { Transcribes (W.contents writer.old) (W.contents writer.new) (log_text (compacted found.now.heading found.now.edits.journal) (list_of found.now.edits.journal)) result }
+    ensures sound { OnOk result (IsWholeFront (Some (compacted found.now.heading found.now.edits.journal)) (log_text (compacted found.now.heading found.now.edits.journal) (list_of found.now.edits.journal)) (pushes_of_elements (list_of found.now.edits.journal))) }
+    ensures goes_on { GoesOnFrom found.now.heading found.now.edits.journal (compacted found.now.heading found.now.edits.journal) (pushes_of_elements (list_of found.now.edits.journal)) }
+{
+    let heading = compacted_heading(found.heading, &found.edits);
+    match copy_elements(alloc, &found.edits) {
+        Ok(elements) => write_log(alloc, heading, elements.as_slice(), writer),
+        Err(_) => Err(Fault::NoMemory),
+    }
+}
+
 /// How the log begins that comes behind the edits of a front, or of a log with this heading: it has the elements that there are after them,
-/// and the next edit has the number that it would have had there.
-pub fn compacted_heading(heading: Option<LogHeading>, edits: &Edits) -> LogHeading {
+/// and its base is the number of the last of them.
+pub fn compacted_heading(heading: Option<LogHeading>, edits: &Edits) -> LogHeading
+    requires numbers { base_of heading ≤ 2 ^ 62 }
+    ensures heading { result ≡ compacted heading edits.now.journal }
+    ensures limits { IsLegalInLimits edits.now }
+{
     LogHeading {
         base: next_base(heading, edits.edit()),
         elements: edits.size(),
@@ -19,26 +51,22 @@ pub fn compacted_heading(heading: Option<LogHeading>, edits: &Edits) -> LogHeadi
 }
 
 // How many edits come before a log that comes behind so many edits, of which those that stand for elements do not count.
-fn next_base(heading: Option<LogHeading>, edits: u32) -> u64 {
+fn next_base(heading: Option<LogHeading>, edits: u32) -> u64
+    requires numbers { base_of heading ≤ 2 ^ 62 }
+    ensures { result ≡ number_of heading edits }
+{
     match heading {
-        Some(heading) => heading.base + u64::from(edits - heading.elements),
-        None => u64::from(edits),
+        Some(heading) => heading.base + u64::from(edits.saturating_sub(heading.elements)),
+        None => edits.into(),
     }
 }
 
-/// Writes a log of exactly the elements that there are after all edits that were found, and flushes the writer. Its heading is that of
-/// `compacted_heading`. O(n) for n edits, and memory for the elements; where there is none, the fault is `NoMemory`, and nothing was written. A failed write,
-/// and one that takes no byte, is `WriteFault`.
-pub fn compact_log<W: Write>(
-    alloc: Global,
-    found: &FoundFront,
-    writer: &mut W,
-) -> Result<(), Fault> {
-    let edits = &found.edits;
+// The elements that there are after all edits, in order.
+fn copy_elements(alloc: Global, edits: &Edits) -> Result<Vec<i64>, AllocError>
+    ensures { IfOk result (λ elements. elements.items ≡ list_of edits.now.journal) }
+{
     let mut replay = Replay::new(alloc);
-    if replay.bring_up(edits.journal(), edits.edit()).is_err() {
-        return Err(Fault::NoMemory);
-    }
-    let heading = compacted_heading(found.heading, edits);
-    write_log(alloc, heading, replay.list.as_slice(), writer)
+    replay.bring_up(edits.journal(), edits.edit())?;
+    let Replay { list, .. } = replay;
+    Ok(list)
 }
