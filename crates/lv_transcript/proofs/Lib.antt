@@ -16,3 +16,4 @@ pub mod KeptLaws
 pub mod TranscribedFronts
 pub mod LogTexts
 pub mod SeenTexts
+pub mod Compactions
