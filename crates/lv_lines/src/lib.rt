@@ -35,8 +35,8 @@ pub use output::{HELD, put, put_element, put_name, put_number, put_wide, write_w
 pub use printing::{COMMAND, print_command, put_command};
 pub use replies::{
     LINE, command_of, put_answer, put_bad, put_capacity, put_counted, put_found, put_receipt,
-    put_refusal, put_refused, put_scan_head, put_settled, put_shown, put_size, put_swapped,
-    put_value, put_valued,
+    put_receipt_at, put_refusal, put_refused, put_scan_head, put_settled, put_shown, put_size,
+    put_swapped, put_value, put_valued,
 };
 pub use reply_buffer::ReplyBuffer;
 pub use script_grammar::ScriptGrammar;
