@@ -11,4 +11,5 @@ mod sleepers;
 mod strangers;
 mod strangers_above;
 mod thresholds;
+mod told_numbers;
 mod totals;

@@ -1,20 +1,23 @@
 -- A session's step is one of the plain interpreter of scripts.
-use Rattle.std.proofs.Common.{◌≡◌, ◌↔◌, ℕ, ◌+◌, Option, Some, None, List, [], ◌∷◌, ◌++◌, refl, sym, ap, ◌∙◌, inl, inr, append-nil, arith}
+use Rattle.std.proofs.Common.{◌≡◌, ◌↔◌, ℕ, ◌+◌, Option, Some, None, List, [], ◌∷◌, ◌++◌, refl, sym, ap, ◌∙◌, inl, inr, append-nil, arith, length}
 use Rattle.std.specs.Option.{option_map_or}
 use Rattle.std.proofs.lemmas.List.{length-append}
 use Rattle.lv_geometry.specs.Bounds.{Bounds}
 use Rattle.lv_geometry.specs.declared.refusals.Refusal.{Refusal}
+use Rattle.lv_bodies.specs.Plain.{plain_value}
 use Rattle.lv_edits.specs.declared.edit.Edit.{Edit}
+use Rattle.lv_edits.specs.declared.edit.Edit.TheVariants.{Pop, Push, Reserve, Swap, Truncate, Write}
 use Rattle.lv_edits.specs.Verdict.{receipt_of, verdict_of}
-use Rattle.lv_edits.specs.Ranges.{range_refusal}
+use Rattle.lv_edits.specs.Ranges.{range_refusal, slice_of}
 use Rattle.lv_lines.specs.declared.command.Command.{Command}
 use Rattle.lv_lines.specs.declared.command.Command.TheVariants as command
 use Rattle.lv_lines.specs.declared.lines.Line.{Line}
 use Rattle.lv_lines.specs.declared.lines.Line.TheVariants.{Nothing, Bad, Do}
 use Rattle.lv_lines.specs.Grammar.{line_of}
-use Rattle.lv_lines.specs.Texts.{receipt_text, refused_text}
+use Rattle.lv_lines.specs.Texts.{answer_text, numbered, receipt_text, refused_text, scan_text}
 use Rattle.lv_script.specs.Interpreter.{plain_after, plain_reply}
-use Rattle.lv_script.specs.PlainScript.{Plain, after, vector_script}
+use Rattle.lv_script.specs.PlainScript.{Plain, after, scan_by, vector_script}
+use Rattle.lv_hub.specs.Numbering.{from_the_first, told_number}
 use Rattle.lv_hub.specs.PlainSession.{FindsNoMemory, PlainSessionStep, Seen, known_of, seen_after, session_reply}
 use Rattle.lv_hub.specs.AsScripts.{ScriptedStep, WantsMemory, made_since, plain_at}
 
@@ -30,17 +33,36 @@ none_made old edits = ap (λ made. record { edits = edits; made = made }) (omega
 one_made : (old : Seen) (edits : List Edit) (e : Edit) → made_since old edits (edits ++ e ∷ []) ≡ record { edits = edits ++ e ∷ []; made = old.made + 1 }
 one_made old edits e = ap (λ made. record { edits = edits ++ e ∷ []; made = made }) (omega (arith, length-append edits (e ∷ [])))
 
+-- where no log came before, each edit is told by its own number
+own_number : (n : ℕ) → told_number from_the_first n ≡ n
+own_number n = omega arith
+
+-- a receipt has the number of the next edit
+own_receipt : (edits : List Edit) (e : Edit) → numbered (length edits + 1) (receipt_of edits e) ≡ receipt_of edits e
+own_receipt edits (Push x) = refl
+own_receipt edits Pop = refl
+own_receipt edits (Write i x) = refl
+own_receipt edits (Reserve n) = refl
+own_receipt edits (Swap i j) = refl
+own_receipt edits (Truncate n) = refl
+
 module _ (limits : Bounds) (edits : List Edit) where
   -- the interpreter there
   abbrev there : Plain
   there = plain_at limits edits
 
   -- the replies are the same
-  command_reply : (n : ℕ) (c : Command) → session_reply limits edits n (known_of (Do c)) ≡ plain_reply vector_script [] there n (known_of (Do c))
-  command_reply n (command.Edit e) = ap (option_map_or refused_text (verdict_of limits edits e)) (sym (append-nil (receipt_text (receipt_of edits e))))
+  command_reply : (n : ℕ) (c : Command) → session_reply limits from_the_first edits n (known_of (Do c)) ≡ plain_reply vector_script [] there n (known_of (Do c))
+  command_reply n (command.Edit e) =
+      ap (option_map_or refused_text (verdict_of limits edits e))
+      (ap (λ n. receipt_text (numbered n (receipt_of edits e))) (own_number (length edits + 1)) ∙ ap receipt_text (own_receipt edits e) ∙ sym (append-nil (receipt_text (receipt_of edits e))))
+  command_reply n (command.Reduce kind lo hi) =
+      ap (λ n. option_map_or refused_text (range_refusal edits lo hi) (answer_text n kind (plain_value kind (slice_of edits lo hi)))) (own_number (length edits))
+  command_reply n (command.Scan inclusive kind lo hi) =
+      ap (λ n. option_map_or refused_text (range_refusal edits lo hi) (scan_text n inclusive kind (scan_by (plain_value kind) inclusive (slice_of edits lo hi)))) (own_number (length edits))
   command_reply n _ = refl
 
-  reply_is : (n : ℕ) (line : Line Command) → session_reply limits edits n (known_of line) ≡ plain_reply vector_script [] there n (known_of line)
+  reply_is : (n : ℕ) (line : Line Command) → session_reply limits from_the_first edits n (known_of line) ≡ plain_reply vector_script [] there n (known_of line)
   reply_is n Nothing = refl
   reply_is n Bad = refl
   reply_is n (Do c) = command_reply n c
@@ -78,7 +100,7 @@ module _ (limits : Bounds) (edits : List Edit) where
   wants_is (Do c) text = command_wants c text
 
 -- what a session is answered is what the interpreter of scripts answers
-scripted : (limits : Bounds) (old : Seen) (n : ℕ) (line text : List ℕ) (new : Seen) → PlainSessionStep limits old n line text new → ScriptedStep limits old n line text new
+scripted : (limits : Bounds) (old : Seen) (n : ℕ) (line text : List ℕ) (new : Seen) → PlainSessionStep limits from_the_first old n line text new → ScriptedStep limits old n line text new
 scripted limits old n line text new step = record {
   before = step.before;
   grown = step.grown;
@@ -89,7 +111,7 @@ scripted limits old n line text new step = record {
 }
 
 -- and the other way round
-unscripted : (limits : Bounds) (old : Seen) (n : ℕ) (line text : List ℕ) (new : Seen) → ScriptedStep limits old n line text new → PlainSessionStep limits old n line text new
+unscripted : (limits : Bounds) (old : Seen) (n : ℕ) (line text : List ℕ) (new : Seen) → ScriptedStep limits old n line text new → PlainSessionStep limits from_the_first old n line text new
 unscripted limits old n line text new step = record {
   before = step.before;
   grown = step.grown;
@@ -99,5 +121,5 @@ unscripted limits old n line text new step = record {
   ];
 }
 
-pub as_scripts : (limits : Bounds) (old : Seen) (n : ℕ) (line text : List ℕ) (new : Seen) → PlainSessionStep limits old n line text new ↔ ScriptedStep limits old n line text new
+pub as_scripts : (limits : Bounds) (old : Seen) (n : ℕ) (line text : List ℕ) (new : Seen) → PlainSessionStep limits from_the_first old n line text new ↔ ScriptedStep limits old n line text new
 as_scripts limits old n line text new = (scripted limits old n line text new, unscripted limits old n line text new)

@@ -6,6 +6,7 @@ use mathlib.Core.List.{IsPrefix}
 use Rattle.lv_geometry.specs.Bounds.{Bounds}
 use Rattle.lv_bodies.specs.declared.kinds.Shown.{Shown}
 use Rattle.lv_edits.specs.declared.edit.Edit.{Edit}
+use Rattle.lv_transcript.specs.declared.log_heading.LogHeading.{LogHeading}
 use Rattle.lv_hub.specs.Counting.{ShareState}
 use Rattle.lv_standing.specs.declared.queries.Query.{Query}
 use Rattle.lv_hub.specs.declared.told.Told.{Told}
@@ -26,43 +27,44 @@ writes_both a b c xs ys first second =
     λ start before wrote. subst (WroteOrPart c.failed start c.contents) (append_assoc before xs ys) (second start (before ++ xs) (first start before wrote))
 
 -- the lines of all are those of some and of the others
-pub text_of_both : (xs ys : List Told) → all_told_text (xs ++ ys) ≡ all_told_text xs ++ all_told_text ys
-text_of_both xs ys = flat_map-append told_text xs ys
+pub text_of_both : (numbers : LogHeading) (xs ys : List Told) → all_told_text numbers (xs ++ ys) ≡ all_told_text numbers xs ++ all_told_text numbers ys
+text_of_both numbers xs ys = flat_map-append (told_text numbers) xs ys
 
-pub text_of_one : (told : Told) → all_told_text (told ∷ []) ≡ told_text told
-text_of_one told = append-nil (told_text told)
+pub text_of_one : (numbers : LogHeading) (told : Told) → all_told_text numbers (told ∷ []) ≡ told_text numbers told
+text_of_one numbers told = append-nil (told_text numbers told)
 
 module _ (limits : Bounds) where
   told_both : (old mid new : SubscriberState) (xs ys : List Told) → AreTold limits old xs mid → AreTold limits mid ys new → AreTold limits old (xs ++ ys) new
   told_both old mid new [] ys first second = subst (λ s. AreTold limits s ys new) first second
   told_both old mid new (x ∷ xs) ys first second = (first.0, first.1, told_both first.0 mid new xs ys first.2 second)
 
-  -- nothing was told
-  pub watches_nothing : (w : WatcherState) → Watches limits w w
-  watches_nothing w = record { tolds = []; told = refl; written = writes_no_more w.notices }
-
-  -- one thing was
-  pub watches_one : (old new : WatcherState) (told : Told) → HasTold limits old.subscriber new.subscriber told → WritesMore (told_text told) old.notices new.notices → Watches limits old new
-  watches_one old new told has wrote = record {
-    tolds = told ∷ [];
-    told = (new.subscriber, has, refl);
-    written = subst (λ text. WritesMore text old.notices new.notices) (sym (text_of_one told)) wrote;
-  }
-
-  -- some things, and then others
-  pub watches_both : (old mid new : WatcherState) → Watches limits old mid → Watches limits mid new → Watches limits old new
-  watches_both old mid new first second = record {
-    tolds = first.tolds ++ second.tolds;
-    told = told_both old.subscriber mid.subscriber new.subscriber first.tolds second.tolds first.told second.told;
-    written = subst (λ text. WritesMore text old.notices new.notices) (sym (text_of_both first.tolds second.tolds))
-        (writes_both old.notices mid.notices new.notices (all_told_text first.tolds) (all_told_text second.tolds) first.written second.written);
-  }
-
   -- what was seen only grows
   seen_grows : (old new : SubscriberState) (tolds : List Told) → AreTold limits old tolds new → IsPrefix old.share.seen new.share.seen
   seen_grows old new [] told = subst (λ s. IsPrefix old.share.seen s.share.seen) (sym told) (prefix_self old.share.seen)
   seen_grows old new (t ∷ tolds) told =
       prefix_trans old.share.seen told.0.share.seen new.share.seen told.1.seen (seen_grows told.0 new tolds told.2)
+
+module _ (limits : Bounds) (numbers : LogHeading) where
+  -- nothing was told
+  pub watches_nothing : (w : WatcherState) → Watches limits numbers w w
+  watches_nothing w = record { tolds = []; told = refl; written = writes_no_more w.notices }
+
+  -- one thing was
+  pub watches_one : (old new : WatcherState) (told : Told) → HasTold limits old.subscriber new.subscriber told → WritesMore (told_text numbers told) old.notices new.notices → Watches limits numbers old new
+  watches_one old new told has wrote = record {
+    tolds = told ∷ [];
+    told = (new.subscriber, has, refl);
+    written = subst (λ text. WritesMore text old.notices new.notices) (sym (text_of_one numbers told)) wrote;
+  }
+
+  -- some things, and then others
+  pub watches_both : (old mid new : WatcherState) → Watches limits numbers old mid → Watches limits numbers mid new → Watches limits numbers old new
+  watches_both old mid new first second = record {
+    tolds = first.tolds ++ second.tolds;
+    told = told_both limits old.subscriber mid.subscriber new.subscriber first.tolds second.tolds first.told second.told;
+    written = subst (λ text. WritesMore text old.notices new.notices) (sym (text_of_both numbers first.tolds second.tolds))
+        (writes_both old.notices mid.notices new.notices (all_told_text numbers first.tolds) (all_told_text numbers second.tolds) first.written second.written);
+  }
 
 -- the first so many of a list that goes on
 taken : (n : ℕ) (xs all : List Edit) → n ≡ length xs → IsPrefix xs all → take n all ≡ xs
@@ -117,8 +119,8 @@ told_keeps limits old new None told = (ap (λ s. s.share.parts) told, ap (λ s. 
 told_keeps limits old new (Some t) told = (ap (λ share. share.parts) told.share, ap (λ share. share.count) told.share)
 
 -- nothing was told, and nothing written
-pub watches_still : (limits : Bounds) (old : WatcherState) (subscriber : SubscriberState) → subscriber ≡ old.subscriber → Watches limits old (record { subscriber = subscriber; notices = old.notices })
-watches_still limits old subscriber same = subst (λ s. Watches limits old (record { subscriber = s; notices = old.notices })) (sym same) (watches_nothing limits old)
+pub watches_still : (limits : Bounds) (numbers : LogHeading) (old : WatcherState) (subscriber : SubscriberState) → subscriber ≡ old.subscriber → Watches limits numbers old (record { subscriber = subscriber; notices = old.notices })
+watches_still limits numbers old subscriber same = subst (λ s. Watches limits numbers old (record { subscriber = s; notices = old.notices })) (sym same) (watches_nothing limits numbers old)
 
 -- one question more is asked
 pub asks_more : (questions asked more : List Query) (i : ℕ) (d q : Query) → i < length questions → q ≡ get_or questions i d → asked ≡ take i questions → more ≡ asked ++ q ∷ [] → more ≡ take (i + 1) questions

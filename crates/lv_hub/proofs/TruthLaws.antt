@@ -1,5 +1,5 @@
 -- The reductions that a session lists are true of what its share has seen.
-use Rattle.std.proofs.Common.{◌≡◌, ℕ, ◌+◌, ◌-◌, ◌≤◌, None, Option, Result, Ok, Err, OnOk, IfErr, List, [], ◌∷◌, ◌++◌, length, take, slice_range, All, nat_lt, refl, sym, ap, ◌∙◌, subst, inl, inr, arith}
+use Rattle.std.proofs.Common.{◌≡◌, ℕ, Bool, true, false, ◌+◌, ◌-◌, ◌≤◌, None, Option, Result, Ok, Err, OnOk, IfErr, List, [], ◌∷◌, ◌++◌, length, take, slice_range, All, nat_lt, refl, sym, ap, ◌∙◌, subst, inl, inr, arith}
 use Rattle.std.proofs.lemmas.Bool.{cases_Bool, cond-false, cond-true, ltb-false}
 use Rattle.std.proofs.lemmas.List.{take_all, take-append-le}
 use Rattle.std.proofs.lemmas.List.Elements.{All-get_or, All-push, All-weaker}
@@ -24,9 +24,10 @@ use Rattle.lv_lines.specs.declared.fault.Fault.TheVariants.{NoMemory, ReadFault,
 use Rattle.lv_lines.specs.Grammar.{line_of}
 use Rattle.lv_lines.specs.Replies.{Answered, LinesServed}
 use Rattle.lv_transcript.specs.declared.claimed.Claimed.{Claimed}
+use Rattle.lv_transcript.specs.declared.log_heading.LogHeading.{LogHeading}
 use Rattle.lv_transcript.specs.Transcript.{AreInOrder, IsTrueAnswer}
 use Rattle.lv_hub.specs.Replying.{ListsAnswer, SessionCommandAnswer, SessionLineAnswer, TellsLine, listed_of, having_counted, up_to}
-use Rattle.lv_hub.specs.Session.{SessionState}
+use Rattle.lv_hub.specs.Session.{SessionState, listed_if}
 use Rattle.lv_hub.specs.Told.{EditTold, ValueTold}
 use Rattle.lv_standing.specs.Queries.{IsValue}
 use Rattle.lv_standing.specs.declared.notes.Answered.{Answered as Valued}
@@ -99,7 +100,16 @@ value_true edits kind lo hi answered is =
       value = subst (λ es. answered.value ≡ plain_value kind (slice_range (list_of es) lo hi)) (sym all) is.value;
     }
 
-module _ (limits : Bounds) where
+-- what is listed, or not, behind true answers stays true and in order
+listed_true : (listing : Bool) (edits : List Edit) (answers : List Claimed) (reduction : Claimed) → All (IsTrueAnswer edits) answers → IsTrueAnswer edits reduction → All (IsTrueAnswer edits) (listed_if listing answers reduction)
+listed_true true edits answers reduction holds one = All-push (IsTrueAnswer edits) answers reduction holds one
+listed_true false edits answers reduction holds one = holds
+
+listed_order : (listing : Bool) (xs ys : List Edit) (answers : List Claimed) (reduction : Claimed) → IsPrefix xs ys → reduction.edit ≡ length ys → All (IsTrueAnswer xs) answers → AreInOrder answers → AreInOrder (listed_if listing answers reduction)
+listed_order true xs ys answers reduction more last holds rises = order_push xs ys answers reduction more last holds rises
+listed_order false xs ys answers reduction more last holds rises = rises
+
+module _ (limits : Bounds) (numbers : LogHeading) (listing : Bool) where
   -- who has seen more, and lists nothing more, keeps
   keeps_by_more : (old new : SessionState) → IsPrefix old.seen new.seen → new.answers ≡ old.answers → Keeps old new
   keeps_by_more old new more same =
@@ -114,24 +124,24 @@ module _ (limits : Bounds) where
   keeps_same old new same = keeps_by_more old new (subst (IsPrefix old.seen) (sym (ap (λ s. s.seen) same)) (prefix_self old.seen)) (ap (λ s. s.answers) same)
 
   -- a reduction
-  reduction_keeps : (old new : SessionState) (kind : Kind) (lo hi : ℕ) (text : List ℕ) (result : Result Valued Refusal) → ValueTold limits old.seen new.seen kind lo hi result → ListsAnswer (up_to old new.seen) kind lo hi result text new → Keeps old new
+  reduction_keeps : (old new : SessionState) (kind : Kind) (lo hi : ℕ) (text : List ℕ) (result : Result Valued Refusal) → ValueTold limits old.seen new.seen kind lo hi result → ListsAnswer limits numbers listing (up_to old new.seen) kind lo hi result text new → Keeps old new
   reduction_keeps old new kind lo hi text (Ok answered) told lists =
       elim lists [
         | inl listed ↦ record {
           seen = told.seen;
           all_true = λ holds.
               subst (All (IsTrueAnswer new.seen)) (sym (ap (λ s. s.answers) listed.1))
-              (All-push (IsTrueAnswer new.seen) old.answers (listed_of kind lo hi answered) (all_true_of_more old.seen new.seen old.answers told.seen holds) (value_true new.seen kind lo hi answered told.answered));
+              (listed_true listing new.seen old.answers (listed_of kind lo hi answered) (all_true_of_more old.seen new.seen old.answers told.seen holds) (value_true new.seen kind lo hi answered told.answered));
           order = λ holds rises.
               subst AreInOrder (sym (ap (λ s. s.answers) listed.1))
-              (order_push old.seen new.seen old.answers (listed_of kind lo hi answered) told.seen told.answered.edit holds rises);
+              (listed_order listing old.seen new.seen old.answers (listed_of kind lo hi answered) told.seen told.answered.edit holds rises);
         }
-        | inr not_listed ↦ keeps_by_more old new told.seen (ap (λ s. s.answers) not_listed.1)
+        | inr not_listed ↦ keeps_by_more old new told.seen (ap (λ s. s.answers) not_listed.2)
       ]
   reduction_keeps old new kind lo hi text (Err refusal) told lists = keeps_by_more old new told.seen (ap (λ s. s.answers) lists.1)
 
   -- a command
-  command_keeps : (old new : SessionState) (n : ℕ) (command : Command) (text : List ℕ) → SessionCommandAnswer limits old n command text new → Keeps old new
+  command_keeps : (old new : SessionState) (n : ℕ) (command : Command) (text : List ℕ) → SessionCommandAnswer limits numbers listing old n command text new → Keeps old new
   command_keeps old new n (commands.Edit e) text a =
       keeps_by_more old new (edit_grows limits old.seen new.seen e a.result a.told) (ap (λ s. s.answers) a.state ∙ edit_lists_nothing (up_to old new.seen) a.result)
   command_keeps old new n (commands.Reduce kind lo hi) text a = reduction_keeps old new kind lo hi text a.result a.told a.lists
@@ -139,18 +149,18 @@ module _ (limits : Bounds) where
   command_keeps old new n _ text a = keeps_same old new a.1
 
   -- a line
-  line_keeps : (old new : SessionState) (n : ℕ) (line : Line Command) (text : List ℕ) → SessionLineAnswer limits old n line text new → Keeps old new
+  line_keeps : (old new : SessionState) (n : ℕ) (line : Line Command) (text : List ℕ) → SessionLineAnswer limits numbers listing old n line text new → Keeps old new
   line_keeps old new n Nothing text a = keeps_same old new a.1
   line_keeps old new n Bad text a = keeps_same old new a.1
   line_keeps old new n (Do command) text a = command_keeps old new n command text a
 
-  step_keeps : (old new : SessionState) (n : ℕ) (line text : List ℕ) → TellsLine limits old n line text new → Keeps old new
+  step_keeps : (old new : SessionState) (n : ℕ) (line text : List ℕ) → TellsLine limits numbers listing old n line text new → Keeps old new
   unfolding TellsLine
   step_keeps old new n line text a = line_keeps old new n (line_of line) text a
 
   -- a line that was answered, whether its reply could be written or not
   pub answered_keeps : (P Q : List ℕ → Type 0) (old new : SessionState) (n : ℕ) (line : Line Command) (result : Result (Unit {0}) Fault)
-      → OnOk result ((text : List ℕ) × SessionLineAnswer limits old n line text new × P text) → IfErr result (λ fault. (fault ≡ WriteFault) × (text : List ℕ) × SessionLineAnswer limits old n line text new × Q text)
+      → OnOk result ((text : List ℕ) × SessionLineAnswer limits numbers listing old n line text new × P text) → IfErr result (λ fault. (fault ≡ WriteFault) × (text : List ℕ) × SessionLineAnswer limits numbers listing old n line text new × Q text)
       → All (IsTrueAnswer old.seen) old.answers → All (IsTrueAnswer new.seen) new.answers
   answered_keeps P Q old new n line (Ok u) ok err = (line_keeps old new n line ok.0 ok.1).all_true
   answered_keeps P Q old new n line (Err fault) ok err = (line_keeps old new n line err.1 err.2).all_true
@@ -165,13 +175,13 @@ module _ (limits : Bounds) where
       }
 
   -- many lines
-  lines_keep : (old new : SessionState) (n : ℕ) (lines : List (List ℕ)) (text : List ℕ) → Answered (TellsLine limits) old n lines text new → Keeps old new
+  lines_keep : (old new : SessionState) (n : ℕ) (lines : List (List ℕ)) (text : List ℕ) → Answered (TellsLine limits numbers listing) old n lines text new → Keeps old new
   lines_keep old new n [] text a = keeps_same old new a.1
   lines_keep old new n (line ∷ lines) text a =
       keeps_both old a.2 new (step_keeps old a.2 n line a.0 a.3) (lines_keep a.2 new (n + 1) lines a.1 a.4)
 
   -- a conversation
-  pub lines_served_keeps : {T : Type 0} (old new : SessionState) (a b k l : Option (List ℕ)) (result : Result T Fault) → LinesServed (TellsLine limits) old new a b k l result → Keeps old new
+  pub lines_served_keeps : {T : Type 0} (old new : SessionState) (a b k l : Option (List ℕ)) (result : Result T Fault) → LinesServed (TellsLine limits numbers listing) old new a b k l result → Keeps old new
   lines_served_keeps old new a b k l (Ok x) c = lines_keep old new 1 _ c.ends.2.text c.ends.2.answered
   lines_served_keeps old new a b k l (Err ReadFault) c = lines_keep old new 1 _ c.ends.1.text c.ends.1.answered
   lines_served_keeps old new a b k l (Err TooLong) c = lines_keep old new 1 _ c.ends.1.text c.ends.1.answered

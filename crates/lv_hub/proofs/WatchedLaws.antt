@@ -6,17 +6,18 @@ use Rattle.std.proofs.lemmas.List.Elements.{All-head, All-nil, All-push, All-tai
 use mathlib.Core.List.{IsPrefix}
 use Rattle.lv_geometry.specs.Bounds.{Bounds}
 use Rattle.lv_edits.specs.declared.edit.Edit.{Edit}
+use Rattle.lv_transcript.specs.declared.log_heading.LogHeading.{LogHeading}
 use Rattle.lv_hub.specs.Counting.{AreTogether, ShareState}
 use Rattle.lv_standing.specs.Queries.{AreNotesOf, watch_answer}
-use Rattle.lv_hub.specs.Noticing.{NoticesState, WatcherState, Watches, WroteOrPart, all_told_text}
+use Rattle.lv_hub.specs.Noticing.{NoticesState, WatcherState, Watches, WritesMore, WroteOrPart, all_told_text, told_text}
 use Rattle.lv_hub.specs.Watched.{AreWatched, IsWatched, ServedWatched, ToldOf, WatchState}
 use Rattle.lv_hub.specs.Watchers.{AllTellLast, AreLeft, AreWatchedFrom, ClosesTelling, LeftState, TakesWatchers, TellsLast, left_by, watcher_at}
 use Rattle.lv_hub.proofs.PrefixLaws.{prefix_self, prefix_trans}
 use Rattle.lv_hub.proofs.Noticed.{text_of_both, text_of_one, told_last, told_of}
 
 -- no subscriber was taken back yet
-pub takes_no_watchers : (share : ShareState) → TakesWatchers share share [] []
-takes_no_watchers share = record {
+pub takes_no_watchers : (numbers : LogHeading) (share : ShareState) → TakesWatchers numbers share share [] []
+takes_no_watchers numbers share = record {
   parts = omega arith;
   count = refl;
   more = prefix_self share.seen;
@@ -25,23 +26,23 @@ takes_no_watchers share = record {
 }
 
 -- one more was
-pub takes_watcher : (old mid new : ShareState) (watchers : List WatcherState) (left more : List LeftState) (w : WatcherState) (part : ShareState) (one : LeftState)
-    → TakesWatchers old mid watchers left → AreTogether mid part new → part ≡ w.subscriber.share → part.parts ≡ 1 → part.count ≡ 0 → one ≡ left_by w → more ≡ left ++ one ∷ []
-    → TakesWatchers old new (watchers ++ w ∷ []) more
-takes_watcher old mid new watchers left more w part one t both part_is parts count one_is more_is = record {
+pub takes_watcher : (numbers : LogHeading) (old mid new : ShareState) (watchers : List WatcherState) (left more : List LeftState) (w : WatcherState) (part : ShareState) (one : LeftState)
+    → TakesWatchers numbers old mid watchers left → AreTogether mid part new → part ≡ w.subscriber.share → part.parts ≡ 1 → part.count ≡ 0 → one ≡ left_by numbers w → more ≡ left ++ one ∷ []
+    → TakesWatchers numbers old new (watchers ++ w ∷ []) more
+takes_watcher numbers old mid new watchers left more w part one t both part_is parts count one_is more_is = record {
   parts = omega (arith, both.parts, parts, t.parts, length-append watchers (w ∷ []));
   count = omega (arith, both.count, count, t.count);
   more = prefix_trans old.seen mid.seen new.seen t.more both.first;
   seen = All-push (λ w. IsPrefix w.subscriber.share.seen new.seen) watchers w
       (All-weaker (λ w. IsPrefix w.subscriber.share.seen mid.seen) (λ w. IsPrefix w.subscriber.share.seen new.seen) (λ w begun. prefix_trans w.subscriber.share.seen mid.seen new.seen begun both.first) watchers t.seen)
       (subst (λ s. IsPrefix s.seen new.seen) part_is both.second);
-  left_are = more_is ∙ ap (λ left. left ++ one ∷ []) t.left_are ∙ ap (λ one. map left_by watchers ++ one ∷ []) one_is ∙ sym (map-append left_by watchers (w ∷ []));
+  left_are = more_is ∙ ap (λ left. left ++ one ∷ []) t.left_are ∙ ap (λ one. map (left_by numbers) watchers ++ one ∷ []) one_is ∙ sym (map-append (left_by numbers) watchers (w ∷ []));
 }
 
 -- what one has left was told of every list that goes on from what was seen
-left_so : (limits : Bounds) (seen : List Edit) (watch : WatchState) (w : WatcherState) → Watches limits (watcher_at watch) w → IsPrefix w.subscriber.share.seen seen
-    → (w.subscriber.questions ≡ watch.questions) × ((edits : List Edit) → IsPrefix seen edits → ToldOf edits watch w.subscriber.told w.notices)
-left_so limits seen watch w watches begun = (
+left_so : (limits : Bounds) (numbers : LogHeading) (seen : List Edit) (watch : WatchState) (w : WatcherState) → Watches limits numbers (watcher_at watch) w → IsPrefix w.subscriber.share.seen seen
+    → (w.subscriber.questions ≡ watch.questions) × ((edits : List Edit) → IsPrefix seen edits → ToldOf numbers edits watch w.subscriber.told w.notices)
+left_so limits numbers seen watch w watches begun = (
   (told_of limits seen (watcher_at watch).subscriber w.subscriber watches.tolds watches.told begun).1,
   λ edits goes_on. record {
     tolds = watches.tolds;
@@ -50,16 +51,17 @@ left_so limits seen watch w watches begun = (
   },
 )
 
-left_each : (limits : Bounds) (seen : List Edit) (watches : List WatchState) (watchers : List WatcherState) → AreWatchedFrom limits (map watcher_at watches) watchers
-    → All (λ w. IsPrefix w.subscriber.share.seen seen) watchers → AreLeft seen watches (map left_by watchers)
-left_each limits seen [] [] are begun = tt
-left_each limits seen [] (w ∷ watchers) are begun = absurd (omega (arith, are.len))
-left_each limits seen (watch ∷ watches) [] are begun = absurd (omega (arith, are.len))
-left_each limits seen (watch ∷ watches) (w ∷ watchers) are begun =
-    let one = left_so limits seen watch w (are.each 0 (watcher_at watch) w (omega arith)) (All-head (λ w. IsPrefix w.subscriber.share.seen seen) w watchers begun) in (
+left_each : (limits : Bounds) (numbers : LogHeading) (seen : List Edit) (watches : List WatchState) (watchers : List WatcherState) → AreWatchedFrom limits numbers (map watcher_at watches) watchers
+    → All (λ w. IsPrefix w.subscriber.share.seen seen) watchers → AreLeft numbers seen watches (map (left_by numbers) watchers)
+left_each limits numbers seen [] [] are begun = tt
+left_each limits numbers seen [] (w ∷ watchers) are begun = absurd (omega (arith, are.len))
+left_each limits numbers seen (watch ∷ watches) [] are begun = absurd (omega (arith, are.len))
+left_each limits numbers seen (watch ∷ watches) (w ∷ watchers) are begun =
+    let one = left_so limits numbers seen watch w (are.each 0 (watcher_at watch) w (omega arith)) (All-head (λ w. IsPrefix w.subscriber.share.seen seen) w watchers begun) in (
+      refl,
       one.0,
       one.1,
-      left_each limits seen watches watchers (record { len = omega (arith, are.len); each = λ i o n within. are.each (suc i) o n (omega arith) }) (All-tail (λ w. IsPrefix w.subscriber.share.seen seen) w watchers begun),
+      left_each limits numbers seen watches watchers (record { len = omega (arith, are.len); each = λ i o n within. are.each (suc i) o n (omega arith) }) (All-tail (λ w. IsPrefix w.subscriber.share.seen seen) w watchers begun),
     )
 
 -- the same, of what was begun for each of some files
@@ -67,11 +69,11 @@ begun_watches : {S : Type 0} (watch : S → WatchState) (files : List S) → map
 begun_watches watch [] = refl
 begun_watches watch (f ∷ files) = ap (λ begun. watcher_at (watch f) ∷ begun) (begun_watches watch files)
 
-pub all_left : {S : Type 0} (watch : S → WatchState) (limits : Bounds) (old new : ShareState) (files : List S) (begun watchers : List WatcherState) (left : List LeftState)
-    → begun ≡ map (λ f. watcher_at (watch f)) files → AreWatchedFrom limits begun watchers → TakesWatchers old new watchers left → AreLeft new.seen (map watch files) left
-all_left watch limits old new files begun watchers left begun_is are t =
-    subst (AreLeft new.seen (map watch files)) (sym t.left_are)
-    (left_each limits new.seen (map watch files) watchers (subst (λ begun. AreWatchedFrom limits begun watchers) (begun_is ∙ begun_watches watch files) are) t.seen)
+pub all_left : {S : Type 0} (watch : S → WatchState) (limits : Bounds) (numbers : LogHeading) (old new : ShareState) (files : List S) (begun watchers : List WatcherState) (left : List LeftState)
+    → begun ≡ map (λ f. watcher_at (watch f)) files → AreWatchedFrom limits numbers begun watchers → TakesWatchers numbers old new watchers left → AreLeft numbers new.seen (map watch files) left
+all_left watch limits numbers old new files begun watchers left begun_is are t =
+    subst (AreLeft numbers new.seen (map watch files)) (sym t.left_are)
+    (left_each limits numbers new.seen (map watch files) watchers (subst (λ begun. AreWatchedFrom limits numbers begun watchers) (begun_is ∙ begun_watches watch files) are) t.seen)
 
 -- one more was begun
 pub begun_more : {S : Type 0} (begun : S → WatcherState) (watchers more : List WatcherState) (w : WatcherState) (files : List S) (f : S) → watchers ≡ map begun files → more ≡ watchers ++ w ∷ [] → w ≡ begun f → more ≡ map begun (files ++ f ∷ [])
@@ -94,36 +96,37 @@ pub tells_one_more : (edits : List Edit) (left : List LeftState) (told more : Li
 tells_one_more edits left told more one new all last is = subst (AllTellLast edits (left ++ one ∷ [])) (sym is) (tells_more edits left told one new all last)
 
 -- what was told up to the end, and then the last
-watched_so : (edits : List Edit) (watch : WatchState) (l : LeftState) (new : NoticesState) → l.ended.questions ≡ watch.questions → ToldOf edits watch l.ended.told l.notices → TellsLast edits l new → IsWatched edits watch new
-watched_so edits watch l new questions told last =
+watched_so : (numbers : LogHeading) (edits : List Edit) (watch : WatchState) (l : LeftState) (new : NoticesState) → l.numbers ≡ numbers → l.ended.questions ≡ watch.questions → ToldOf numbers edits watch l.ended.told l.notices → TellsLast edits l new → IsWatched numbers edits watch new
+watched_so numbers edits watch l new same questions told last =
+    let wrote : WritesMore (told_text numbers last.told) l.notices new = subst (λ numbers. WritesMore (told_text numbers last.told) l.notices new) same last.written in
     let asked = subst (λ qs. AreNotesOf qs l.ended.told (map (watch_answer edits) qs) last.told.notes.items) questions last.notes in record {
       tolds = told.tolds ++ last.told ∷ [];
       told = told_last edits watch.questions 0 _ l.ended.told told.tolds last.told told.told (omega arith) last.edit asked;
-      written = subst (WroteOrPart new.failed watch.contents new.contents) (ap (λ text. all_told_text told.tolds ++ text) (sym (text_of_one last.told)) ∙ sym (text_of_both told.tolds (last.told ∷ [])))
-          (last.written watch.contents (all_told_text told.tolds) told.written);
+      written = subst (WroteOrPart new.failed watch.contents new.contents) (ap (λ text. all_told_text numbers told.tolds ++ text) (sym (text_of_one numbers last.told)) ∙ sym (text_of_both numbers told.tolds (last.told ∷ [])))
+          (wrote watch.contents (all_told_text numbers told.tolds) told.written);
     }
 
-watched_each : (seen edits : List Edit) (watches : List WatchState) (left : List LeftState) (news : List NoticesState) → IsPrefix seen edits → AreLeft seen watches left → AllTellLast edits left news → AreWatched edits watches news
-watched_each seen edits [] [] [] begun are last = tt
-watched_each seen edits [] [] (n ∷ news) begun are last = absurd last
-watched_each seen edits [] (l ∷ left) news begun are last = absurd are
-watched_each seen edits (w ∷ watches) [] news begun are last = absurd are
-watched_each seen edits (w ∷ watches) (l ∷ left) [] begun are last = absurd last
-watched_each seen edits (w ∷ watches) (l ∷ left) (n ∷ news) begun are last =
-    (watched_so edits w l n are.0 (are.1 edits begun) last.0, watched_each seen edits watches left news begun are.2 last.1)
+watched_each : (numbers : LogHeading) (seen edits : List Edit) (watches : List WatchState) (left : List LeftState) (news : List NoticesState) → IsPrefix seen edits → AreLeft numbers seen watches left → AllTellLast edits left news → AreWatched numbers edits watches news
+watched_each numbers seen edits [] [] [] begun are last = tt
+watched_each numbers seen edits [] [] (n ∷ news) begun are last = absurd last
+watched_each numbers seen edits [] (l ∷ left) news begun are last = absurd are
+watched_each numbers seen edits (w ∷ watches) [] news begun are last = absurd are
+watched_each numbers seen edits (w ∷ watches) (l ∷ left) [] begun are last = absurd last
+watched_each numbers seen edits (w ∷ watches) (l ∷ left) (n ∷ news) begun are last =
+    (watched_so numbers edits w l n are.0 are.1 (are.2 edits begun) last.0, watched_each numbers seen edits watches left news begun are.3 last.1)
 
 -- subscribers were served with the sessions, where the hub was closed
-pub served_watched : (share : ShareState) (watches : List WatchState) (left : List LeftState) (news : List NoticesState) (contents_old contents_new : Option (List ℕ)) → AreLeft share.seen watches left → ClosesTelling share left news contents_old contents_new
-    → ServedWatched watches news contents_old contents_new
-served_watched share watches left news contents_old contents_new are closed = record {
+pub served_watched : (numbers : LogHeading) (share : ShareState) (watches : List WatchState) (left : List LeftState) (news : List NoticesState) (contents_old contents_new : Option (List ℕ)) → AreLeft numbers share.seen watches left → ClosesTelling share left news contents_old contents_new
+    → ServedWatched numbers watches news contents_old contents_new
+served_watched numbers share watches left news contents_old contents_new are closed = record {
   edits = closed.journal;
   answers = closed.answers;
   written = closed.written;
-  watched = watched_each share.seen closed.journal watches left news closed.seen are closed.last;
+  watched = watched_each numbers share.seen closed.journal watches left news closed.seen are closed.last;
 }
 
 -- from their beginning to the last, subscribers were told of one list
-pub watched_of_one_list : (limits : Bounds) (old new : ShareState) (edits : List Edit) (watches : List WatchState) (watchers : List WatcherState) (left : List LeftState) (told : List NoticesState)
-    → AreWatchedFrom limits (map watcher_at watches) watchers → TakesWatchers old new watchers left → IsPrefix new.seen edits → AllTellLast edits left told → AreWatched edits watches told
-watched_of_one_list limits old new edits watches watchers left told are taken begun last =
-    watched_each new.seen edits watches left told begun (subst (AreLeft new.seen watches) (sym taken.left_are) (left_each limits new.seen watches watchers are taken.seen)) last
+pub watched_of_one_list : (limits : Bounds) (numbers : LogHeading) (old new : ShareState) (edits : List Edit) (watches : List WatchState) (watchers : List WatcherState) (left : List LeftState) (told : List NoticesState)
+    → AreWatchedFrom limits numbers (map watcher_at watches) watchers → TakesWatchers numbers old new watchers left → IsPrefix new.seen edits → AllTellLast edits left told → AreWatched numbers edits watches told
+watched_of_one_list limits numbers old new edits watches watchers left told are taken begun last =
+    watched_each numbers new.seen edits watches left told begun (subst (AreLeft numbers new.seen watches) (sym taken.left_are) (left_each limits numbers new.seen watches watchers are taken.seen)) last

@@ -1,4 +1,4 @@
--- Sessions as the plain interpreter of scripts answers them, where no query stands.
+-- Sessions as the plain interpreter of scripts answers them, where no query stands and each edit is told by its own number.
 use Rattle.std.specs.Prelude.{◌≡◌, ◌⊎◌, ℕ, ◌+◌, ◌-◌, None, List, [], length}
 use mathlib.Core.List.{IsPrefix}
 use Rattle.lv_geometry.specs.Bounds.{Bounds}

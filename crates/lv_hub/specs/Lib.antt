@@ -6,6 +6,7 @@ pub mod Growing
 pub mod Logging
 pub mod Notes
 pub mod Noticing
+pub mod Numbering
 pub mod PlainSession
 pub mod Replying
 pub mod Session

@@ -5,20 +5,22 @@ use Rattle.std.specs.Io.KnownBytes.{Appends}
 use Rattle.lv_geometry.specs.Bounds.{Bounds}
 use Rattle.lv_lines.specs.Output.{WritesFront}
 use Rattle.lv_lines.specs.Texts.{named_text}
+use Rattle.lv_transcript.specs.declared.log_heading.LogHeading.{LogHeading}
 use Rattle.lv_standing.specs.declared.notes.Note.{Note}
 use Rattle.lv_hub.specs.declared.told.Told.{Told}
 use Rattle.lv_hub.specs.Notes.{HasTold, SubscriberState}
+use Rattle.lv_hub.specs.Numbering.{told_number}
 
 -- the lines of some notes at an edit, and of what was told
 abbrev pub notes_at : ℕ → List Note → List ℕ
 notes_at edit notes = flat_map (λ note. named_text edit note.name note.value) notes
 
-abbrev pub told_text : Told → List ℕ
-told_text told = notes_at told.edit told.notes.items
+abbrev pub told_text : LogHeading → Told → List ℕ
+told_text numbers told = notes_at (told_number numbers told.edit) told.notes.items
 
 -- the lines of all that was told
-abbrev pub all_told_text : List Told → List ℕ
-all_told_text tolds = flat_map told_text tolds
+abbrev pub all_told_text : LogHeading → List Told → List ℕ
+all_told_text numbers tolds = flat_map (told_text numbers) tolds
 
 -- what writes the lines: what its writer has got, and whether a write has failed
 pub record NoticesState : Type 0 where
@@ -46,8 +48,9 @@ module _ (limits : Bounds) where
   AreTold old [] new = new ≡ old
   AreTold old (told ∷ tolds) new = (mid : SubscriberState) × HasTold limits old mid told × AreTold mid tolds new
 
+module _ (limits : Bounds) (numbers : LogHeading) where
   -- it was told some things, and their lines were written
   pub record Watches (old new : WatcherState) : Type 0 where
     pub tolds : List Told
-    pub told : AreTold old.subscriber tolds new.subscriber
-    pub written : WritesMore (all_told_text tolds) old.notices new.notices
+    pub told : AreTold limits old.subscriber tolds new.subscriber
+    pub written : WritesMore (all_told_text numbers tolds) old.notices new.notices

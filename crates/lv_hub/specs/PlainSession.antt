@@ -16,8 +16,10 @@ use Rattle.lv_lines.specs.declared.command.Command.TheVariants.{Reduce, Scan}
 use Rattle.lv_lines.specs.declared.lines.Line.{Line}
 use Rattle.lv_lines.specs.declared.lines.Line.TheVariants.{Nothing, Bad, Do}
 use Rattle.lv_lines.specs.Grammar.{line_of}
-use Rattle.lv_lines.specs.Texts.{answer_text, bad_text, receipt_text, refused_text, scan_text}
+use Rattle.lv_lines.specs.Texts.{answer_text, bad_text, numbered, receipt_text, refused_text, scan_text}
+use Rattle.lv_transcript.specs.declared.log_heading.LogHeading.{LogHeading}
 use Rattle.lv_hub.specs.Counting.{ShareState}
+use Rattle.lv_hub.specs.Numbering.{told_number}
 use Rattle.lv_script.specs.PlainScript.{scan_by}
 
 -- a line as a session reads it, by its bytes: it knows edits, reductions and scans, and any other command is bad
@@ -40,12 +42,12 @@ pub record Seen : Type 0 where
 abbrev pub seen_by : ShareState → Seen
 seen_by share = record { edits = share.seen; made = share.count }
 
--- what an edit, a reduction or a scan is answered after some edits, where nothing refuses it
-abbrev pub reply_after : List Edit → Command → List ℕ
-reply_after edits (command.Edit e) = receipt_text (receipt_of edits e)
-reply_after edits (Reduce kind lo hi) = answer_text (length edits) kind (plain_value kind (slice_of edits lo hi))
-reply_after edits (Scan inclusive kind lo hi) = scan_text (length edits) inclusive kind (scan_by (plain_value kind) inclusive (slice_of edits lo hi))
-reply_after edits _ = []
+-- what an edit, a reduction or a scan is answered after some edits, where nothing refuses it: it tells the number of its edit, or of the last one
+abbrev pub reply_after : LogHeading → List Edit → Command → List ℕ
+reply_after numbers edits (command.Edit e) = receipt_text (numbered (told_number numbers (length edits + 1)) (receipt_of edits e))
+reply_after numbers edits (Reduce kind lo hi) = answer_text (told_number numbers (length edits)) kind (plain_value kind (slice_of edits lo hi))
+reply_after numbers edits (Scan inclusive kind lo hi) = scan_text (told_number numbers (length edits)) inclusive kind (scan_by (plain_value kind) inclusive (slice_of edits lo hi))
+reply_after numbers edits _ = []
 
 module _ (limits : Bounds) where
   -- why it is refused there, want of memory apart, or nothing
@@ -54,12 +56,6 @@ module _ (limits : Bounds) where
   refusal_after edits (Reduce kind lo hi) = range_refusal edits lo hi
   refusal_after edits (Scan inclusive kind lo hi) = range_refusal edits lo hi
   refusal_after edits _ = None
-
-  -- what line n is answered there: nothing where it says nothing, its number where it says nothing known; a command by its refusal, or its reply
-  abbrev pub session_reply : List Edit → ℕ → Line Command → List ℕ
-  session_reply edits n Nothing = []
-  session_reply edits n Bad = bad_text n
-  session_reply edits n (Do c) = option_map_or refused_text (refusal_after edits c) (reply_after edits c)
 
   -- what a session has seen and made then: an edit that nothing refuses is one more, and its own
   abbrev pub seen_after : List Edit → Seen → Line Command → Seen
@@ -72,13 +68,20 @@ module _ (limits : Bounds) where
   FindsNoMemory edits (Do c) text = (refusal_after edits c ≡ None) × (text ≡ refused_text NoMemory)
   FindsNoMemory edits _ text = ⊥
 
+module _ (limits : Bounds) (numbers : LogHeading) where
+  -- what line n is answered there: nothing where it says nothing, its number where it says nothing known; a command by its refusal, or its reply
+  abbrev pub session_reply : List Edit → ℕ → Line Command → List ℕ
+  session_reply edits n Nothing = []
+  session_reply edits n Bad = bad_text n
+  session_reply edits n (Do c) = option_map_or refused_text (refusal_after limits edits c) (reply_after numbers edits c)
+
   -- line n of a session. The hub came to a list that begins with what the session has seen, and there the line has its reply; the session
   -- has then seen that list, with its own edit. Or memory was wanting, and nothing was made
   pub record PlainSessionStep (old : Seen) (n : ℕ) (line text : List ℕ) (new : Seen) : Type 0 where
     pub before : List Edit
     pub grown : IsPrefix old.edits before
-    pub answer : ((text ≡ session_reply before n (session_line_of line)) × (new ≡ seen_after before old (session_line_of line)))
-        ⊎ (FindsNoMemory before (session_line_of line) text × (new ≡ record old { edits = before }))
+    pub answer : ((text ≡ session_reply before n (session_line_of line)) × (new ≡ seen_after limits before old (session_line_of line)))
+        ⊎ (FindsNoMemory limits before (session_line_of line) text × (new ≡ record old { edits = before }))
 
   -- what line n was answered is true of a list of edits: it is the reply after the first so many of them, or `refused 6`
   pub record IsTrueReply (edits : List Edit) (n : ℕ) (line text : List ℕ) : Type 0 where

@@ -1,5 +1,5 @@
 -- What the code of sessions passes on: how a line was answered by what the hub told.
-use Rattle.std.specs.Prelude.{◌≡◌, ◌⊎◌, ℕ, ◌+◌, Bool, Result, Ok, Err, List, [], ◌∷◌, ◌++◌}
+use Rattle.std.specs.Prelude.{◌≡◌, ◌⊎◌, ℕ, ◌+◌, Bool, true, Result, Ok, Err, List, [], length}
 use Rattle.lv_geometry.specs.Bounds.{Bounds}
 use Rattle.lv_geometry.specs.declared.refusals.Refusal.{Refusal}
 use Rattle.lv_geometry.specs.declared.refusals.Refusal.TheVariants.{NoMemory}
@@ -14,12 +14,13 @@ use Rattle.lv_lines.specs.declared.command.Command.TheVariants as commands
 use Rattle.lv_lines.specs.declared.lines.Line.{Line}
 use Rattle.lv_lines.specs.declared.lines.Line.TheVariants.{Nothing, Bad, Do}
 use Rattle.lv_lines.specs.Grammar.{line_of}
-use Rattle.lv_lines.specs.Texts.{answer_text, bad_text, refused_text, scan_text}
+use Rattle.lv_lines.specs.Texts.{answer_text, bad_text, numbered, receipt_text, refused_text, scan_text}
 use Rattle.lv_transcript.specs.declared.claimed.Claimed.{Claimed}
+use Rattle.lv_transcript.specs.declared.log_heading.LogHeading.{LogHeading}
 use Rattle.lv_script.specs.PlainScript.{scan_by}
-use Rattle.lv_script.specs.Script.{edit_text}
 use Rattle.lv_standing.specs.declared.notes.Answered.{Answered}
-use Rattle.lv_hub.specs.Session.{SessionState}
+use Rattle.lv_hub.specs.Numbering.{told_number}
+use Rattle.lv_hub.specs.Session.{SessionState, listed_if}
 use Rattle.lv_hub.specs.Told.{EditTold, StretchTold, ValueTold}
 
 -- the state once the hub's edits were seen up to these
@@ -35,31 +36,36 @@ having_counted s (Err refusal) = s
 abbrev pub listed_of : Kind → ℕ → ℕ → Answered → Claimed
 listed_of kind lo hi answered = record { edit = answered.edit; kind = kind; lo = lo; hi = hi; value = answered.value }
 
--- the state with one reduction more
-abbrev pub with_listed : SessionState → Claimed → SessionState
-with_listed s claim = record s { answers = s.answers ++ claim ∷ [] }
+-- the state with one reduction more, where reductions are listed
+abbrev pub with_listed : Bool → SessionState → Claimed → SessionState
+with_listed listing s claim = record s { answers = listed_if listing s.answers claim }
 
--- a reduction was answered and listed; or it was refused, for its range or because the list had no room, and nothing changed
-abbrev pub ListsAnswer : SessionState → Kind → ℕ → ℕ → Result Answered Refusal → List ℕ → SessionState → Type 0
-ListsAnswer old kind lo hi (Ok answered) text new =
-    ((text ≡ answer_text answered.edit kind answered.value) × (new ≡ with_listed old (listed_of kind lo hi answered)))
-    ⊎ ((text ≡ refused_text NoMemory) × (new ≡ old))
-ListsAnswer old kind lo hi (Err refusal) text new = (text ≡ refused_text refusal) × (new ≡ old)
+-- the receipt of an edit, which tells this number of it, or its refusal
+abbrev pub edit_text_at : ℕ → Result Receipt Refusal → List ℕ
+edit_text_at number (Ok receipt) = receipt_text (numbered number receipt)
+edit_text_at number (Err refusal) = refused_text refusal
 
--- the values of a scan of elements that were copied, or its refusal
-abbrev pub scan_reply_text : Bool → Kind → Result (StretchState Six) Refusal → List ℕ
-scan_reply_text inclusive kind (Ok stretch) = scan_text stretch.edit inclusive kind (scan_by (plain_value kind) inclusive stretch.elements)
-scan_reply_text inclusive kind (Err refusal) = refused_text refusal
+-- the values of a scan of elements that were copied at an edit of this number, or its refusal
+abbrev pub scan_reply_text : ℕ → Bool → Kind → Result (StretchState Six) Refusal → List ℕ
+scan_reply_text number inclusive kind (Ok stretch) = scan_text number inclusive kind (scan_by (plain_value kind) inclusive stretch.elements)
+scan_reply_text number inclusive kind (Err refusal) = refused_text refusal
 
-module _ (limits : Bounds) where
+module _ (limits : Bounds) (numbers : LogHeading) (listing : Bool) where
+  -- a reduction was answered, and listed where reductions are; or it was refused, for its range or because the list had no room, and nothing changed
+  abbrev pub ListsAnswer : SessionState → Kind → ℕ → ℕ → Result Answered Refusal → List ℕ → SessionState → Type 0
+  ListsAnswer old kind lo hi (Ok answered) text new =
+      ((text ≡ answer_text (told_number numbers (length old.seen)) kind answered.value) × (new ≡ with_listed listing old (listed_of kind lo hi answered)))
+      ⊎ ((listing ≡ true) × (text ≡ refused_text NoMemory) × (new ≡ old))
+  ListsAnswer old kind lo hi (Err refusal) text new = (text ≡ refused_text refusal) × (new ≡ old)
+
   -- an edit is answered by its receipt or its refusal
   pub record TellsEdit (old : SessionState) (e : Edit) (text : List ℕ) (new : SessionState) : Type 0 where
     pub result : Result Receipt Refusal
     pub told : EditTold limits old.seen new.seen e result
-    pub text_is : text ≡ edit_text result
+    pub text_is : text ≡ edit_text_at (told_number numbers (length new.seen)) result
     pub state : new ≡ having_counted (up_to old new.seen) result
 
-  -- a reduction is answered by its value, and listed; or by its refusal
+  -- a reduction is answered by its value; or by its refusal
   pub record TellsReduction (old : SessionState) (kind : Kind) (lo hi : ℕ) (text : List ℕ) (new : SessionState) : Type 0 where
     pub result : Result Answered Refusal
     pub told : ValueTold limits old.seen new.seen kind lo hi result
@@ -70,7 +76,7 @@ module _ (limits : Bounds) where
     pub body : Six
     pub result : Result (StretchState Six) Refusal
     pub told : StretchTold body limits old.seen new.seen lo hi result
-    pub text_is : text ≡ scan_reply_text inclusive kind result
+    pub text_is : text ≡ scan_reply_text (told_number numbers (length new.seen)) inclusive kind result
     pub state : new ≡ up_to old new.seen
 
   -- what a command is answered: sessions know edits, reductions and scans, and any other is bad, by the line's number

@@ -1,5 +1,5 @@
 -- What each line of a session is answered, and what it leaves: the plain interpreter's reply, and which reductions are listed.
-use Rattle.std.specs.Prelude.{◌≡◌, ◌⊎◌, ℕ, List, ◌∷◌, [], ◌++◌, filter, length, nat_eq}
+use Rattle.std.specs.Prelude.{◌≡◌, ◌⊎◌, ℕ, Bool, true, false, List, ◌∷◌, [], ◌++◌, filter, length, nat_eq}
 use Rattle.lv_geometry.specs.Bounds.{Bounds}
 use Rattle.lv_geometry.specs.declared.refusals.Refusal.{Refusal}
 use Rattle.lv_bodies.specs.declared.kinds.Kind.{Kind}
@@ -13,7 +13,11 @@ use Rattle.lv_lines.specs.declared.lines.Line.{Line}
 use Rattle.lv_lines.specs.declared.lines.Line.TheVariants.{Do}
 use Rattle.lv_lines.specs.Texts.{answer_text, refused_text}
 use Rattle.lv_transcript.specs.declared.claimed.Claimed.{Claimed}
+use Rattle.lv_transcript.specs.declared.log_heading.LogHeading.{LogHeading}
+use Rattle.lv_hub.specs.declared.kept_answers.KeptAnswers.{KeptAnswers}
+use Rattle.lv_hub.specs.declared.kept_answers.KeptAnswers.TheVariants.{Listed}
 use Rattle.lv_hub.specs.Counting.{ShareState}
+use Rattle.lv_hub.specs.Numbering.{told_number}
 use Rattle.lv_hub.specs.PlainSession.{PlainSessionStep, Seen, session_line_of}
 use Rattle.lv_hub.specs.Told.{history_of}
 
@@ -36,16 +40,31 @@ kept_by s = record { edits = s.seen; made = s.count }
 abbrev pub KeepTies : List Claimed → List Claimed → Type 0
 KeepTies old new = (edit : ℕ) → filter (λ reduction. nat_eq reduction.edit edit) new ≡ filter (λ reduction. nat_eq reduction.edit edit) old
 
--- a reduction after some edits, as it is listed
+-- whether a session lists the reductions that it is answered, and at most how many
+abbrev pub are_listed : KeptAnswers → Bool
+are_listed (Listed most) = true
+are_listed _ = false
+
+abbrev pub most_listed : KeptAnswers → ℕ
+most_listed (Listed most) = most
+most_listed _ = 0
+
+-- a reduction goes behind the others where reductions are listed
+abbrev pub listed_if : Bool → List Claimed → Claimed → List Claimed
+listed_if true answers claim = answers ++ claim ∷ []
+listed_if false answers claim = answers
+
+-- a reduction after some edits, as it is listed, with the hub's own number of its edit
 abbrev pub claim_at : List Edit → Kind → ℕ → ℕ → Claimed
 claim_at edits kind lo hi = record { edit = length edits; kind = kind; lo = lo; hi = hi; value = plain_value kind (slice_of edits lo hi) }
 
--- after some edits a reduction was answered by its value, and listed behind the others; or it was refused. Nothing else is listed
-abbrev pub Lists : List Edit → Line Command → List ℕ → List Claimed → List Claimed → Type 0
-Lists edits (Do (Reduce kind lo hi)) text old new =
-    ((text ≡ answer_text (length edits) kind (plain_value kind (slice_of edits lo hi))) × (new ≡ old ++ claim_at edits kind lo hi ∷ []))
-    ⊎ ((refusal : Refusal) × (text ≡ refused_text refusal) × (new ≡ old))
-Lists edits _ text old new = new ≡ old
+module _ (numbers : LogHeading) (listing : Bool) where
+  -- after some edits a reduction was answered by its value, and listed behind the others where reductions are; or it was refused. Nothing else is listed
+  abbrev pub Lists : List Edit → Line Command → List ℕ → List Claimed → List Claimed → Type 0
+  Lists edits (Do (Reduce kind lo hi)) text old new =
+      ((text ≡ answer_text (told_number numbers (length edits)) kind (plain_value kind (slice_of edits lo hi))) × (new ≡ listed_if listing old (claim_at edits kind lo hi)))
+      ⊎ ((refusal : Refusal) × (text ≡ refused_text refusal) × (new ≡ old))
+  Lists edits _ text old new = new ≡ old
 
 module _ (limits : Bounds) where
   -- an edit, a reduction or a scan was answered after edits that are legal within the limits; any other line changed nothing
@@ -53,8 +72,9 @@ module _ (limits : Bounds) where
   IsWithin old before (Do c) new = IsLegalInLimits (history_of limits before)
   IsWithin old before _ new = new ≡ old
 
+module _ (limits : Bounds) (numbers : LogHeading) (listing : Bool) where
   -- one line of a session, by its bytes and its number: the interpreter's reply, and what it leaves
   pub record SessionStep (old : SessionState) (n : ℕ) (line text : List ℕ) (new : SessionState) : Type 0 where
-    pub plain : PlainSessionStep limits (kept_by old) n line text (kept_by new)
-    pub within : IsWithin old plain.before (session_line_of line) new
-    pub lists : Lists plain.before (session_line_of line) text old.answers new.answers
+    pub plain : PlainSessionStep limits numbers (kept_by old) n line text (kept_by new)
+    pub within : IsWithin limits old plain.before (session_line_of line) new
+    pub lists : Lists numbers listing plain.before (session_line_of line) text old.answers new.answers

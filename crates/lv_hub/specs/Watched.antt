@@ -4,6 +4,7 @@ use Rattle.std.specs.Io.KnownBytes.{Appends}
 use Rattle.lv_bodies.specs.declared.kinds.Shown.{Shown}
 use Rattle.lv_edits.specs.declared.edit.Edit.{Edit}
 use Rattle.lv_transcript.specs.declared.claimed.Claimed.{Claimed}
+use Rattle.lv_transcript.specs.declared.log_heading.LogHeading.{LogHeading}
 use Rattle.lv_transcript.specs.Transcript.{transcript_text}
 use Rattle.lv_standing.specs.declared.queries.Query.{Query}
 use Rattle.lv_hub.specs.declared.told.Told.{Told}
@@ -29,26 +30,28 @@ AreToldOf edits questions since before (told ∷ tolds) after =
     × AreNotesOf questions before (answers_at edits told.edit questions) told.notes.items
     × AreToldOf edits questions told.edit (answers_at edits told.edit questions) tolds after
 
--- so it was of a list of edits from the start, where each question counts as told its answer of no elements; and the lines of all that
--- were written, or a write has failed after no more than a front of them
-pub record ToldOf (edits : List Edit) (old : WatchState) (after : List Shown) (new : NoticesState) : Type 0 where
-  pub tolds : List Told
-  pub told : AreToldOf edits old.questions 0 (map (watch_answer []) old.questions) tolds after
-  pub written : WroteOrPart new.failed old.contents new.contents (all_told_text tolds)
+-- of a hub whose edits are told by these numbers
+module _ (numbers : LogHeading) where
+  -- so it was of a list of edits from the start, where each question counts as told its answer of no elements; and the lines of all that
+  -- were written, or a write has failed after no more than a front of them
+  pub record ToldOf (edits : List Edit) (old : WatchState) (after : List Shown) (new : NoticesState) : Type 0 where
+    pub tolds : List Told
+    pub told : AreToldOf edits old.questions 0 (map (watch_answer []) old.questions) tolds after
+    pub written : WroteOrPart new.failed old.contents new.contents (all_told_text numbers tolds)
 
--- and at the end each question's answer after all edits is as told
-abbrev pub IsWatched : List Edit → WatchState → NoticesState → Type 0
-IsWatched edits old new = ToldOf edits old (map (watch_answer edits) old.questions) new
+  -- and at the end each question's answer after all edits is as told
+  abbrev pub IsWatched : List Edit → WatchState → NoticesState → Type 0
+  IsWatched edits old new = ToldOf edits old (map (watch_answer edits) old.questions) new
 
--- so it was of each of several
-abbrev pub AreWatched : List Edit → List WatchState → List NoticesState → Type 0
-AreWatched edits [] [] = ⊤
-AreWatched edits (old ∷ olds) (new ∷ news) = IsWatched edits old new × AreWatched edits olds news
-AreWatched edits _ _ = ⊥
+  -- so it was of each of several
+  abbrev pub AreWatched : List Edit → List WatchState → List NoticesState → Type 0
+  AreWatched edits [] [] = ⊤
+  AreWatched edits (old ∷ olds) (new ∷ news) = IsWatched edits old new × AreWatched edits olds news
+  AreWatched edits _ _ = ⊥
 
--- sessions were served beside subscribers: what was written is the transcript of the list of edits that the subscribers were told of
-pub record ServedWatched (old : List WatchState) (new : List NoticesState) (contents_old contents_new : Option (List ℕ)) : Type 0 where
-  pub edits : List Edit
-  pub answers : List Claimed
-  pub written : Appends contents_old contents_new (transcript_text edits answers)
-  pub watched : AreWatched edits old new
+  -- sessions were served beside subscribers: what was written is the transcript of the list of edits that the subscribers were told of
+  pub record ServedWatched (old : List WatchState) (new : List NoticesState) (contents_old contents_new : Option (List ℕ)) : Type 0 where
+    pub edits : List Edit
+    pub answers : List Claimed
+    pub written : Appends contents_old contents_new (transcript_text edits answers)
+    pub watched : AreWatched edits old new

@@ -5,6 +5,7 @@ use mathlib.Core.List.{IsPrefix}
 use Rattle.lv_geometry.specs.Bounds.{Bounds}
 use Rattle.lv_edits.specs.declared.edit.Edit.{Edit}
 use Rattle.lv_transcript.specs.declared.claimed.Claimed.{Claimed}
+use Rattle.lv_transcript.specs.declared.log_heading.LogHeading.{LogHeading}
 use Rattle.lv_transcript.specs.Transcript.{transcript_text}
 use Rattle.lv_hub.specs.declared.told.Told.{Told}
 use Rattle.lv_hub.specs.Counting.{ShareState}
@@ -20,41 +21,43 @@ watcher_at watch = record {
   notices = record { contents = watch.contents; failed = false };
 }
 
--- each of several was told of a hub with these limits
-pub record AreWatchedFrom (limits : Bounds) (old new : List WatcherState) : Type 0 where
+-- each of several was told of a hub with these limits, whose edits are told by these numbers
+pub record AreWatchedFrom (limits : Bounds) (numbers : LogHeading) (old new : List WatcherState) : Type 0 where
   pub len : length new ≡ length old
-  pub each : (i : ℕ) (o : WatcherState) (n : WatcherState) → i < length old → Watches limits (slice_index_or old i o) (slice_index_or new i n)
+  pub each : (i : ℕ) (o : WatcherState) (n : WatcherState) → i < length old → Watches limits numbers (slice_index_or old i o) (slice_index_or new i n)
 
--- one that has ended, and what writes its lines
+-- one that has ended, what writes its lines, and the numbers that they tell
 pub record LeftState : Type 0 where
+  pub numbers : LogHeading
   pub ended : EndedState
   pub notices : NoticesState
 
 -- what a subscriber leaves
-abbrev pub left_by : WatcherState → LeftState
-left_by w = record { ended = record { questions = w.subscriber.questions; told = w.subscriber.told }; notices = w.notices }
+abbrev pub left_by : LogHeading → WatcherState → LeftState
+left_by numbers w = record { numbers = numbers; ended = record { questions = w.subscriber.questions; told = w.subscriber.told }; notices = w.notices }
 
 -- a share took those of subscribers in. It has seen what each of them had, and counts what it did
-pub record TakesWatchers (old new : ShareState) (watchers : List WatcherState) (left : List LeftState) : Type 0 where
+pub record TakesWatchers (numbers : LogHeading) (old new : ShareState) (watchers : List WatcherState) (left : List LeftState) : Type 0 where
   pub parts : new.parts ≡ old.parts + length watchers
   pub count : new.count ≡ old.count
   pub more : IsPrefix old.seen new.seen
   pub seen : All (λ w. IsPrefix w.subscriber.share.seen new.seen) watchers
-  pub left_are : left ≡ map left_by watchers
+  pub left_are : left ≡ map (left_by numbers) watchers
 
 -- what each has left was told of every list of edits that goes on from what was seen
-abbrev pub AreLeft : List Edit → List WatchState → List LeftState → Type 0
-AreLeft seen [] [] = ⊤
-AreLeft seen (watch ∷ watches) (l ∷ left) =
-    (l.ended.questions ≡ watch.questions) × ((edits : List Edit) → IsPrefix seen edits → ToldOf edits watch l.ended.told l.notices) × AreLeft seen watches left
-AreLeft seen _ _ = ⊥
+abbrev pub AreLeft : LogHeading → List Edit → List WatchState → List LeftState → Type 0
+AreLeft numbers seen [] [] = ⊤
+AreLeft numbers seen (watch ∷ watches) (l ∷ left) =
+    (l.numbers ≡ numbers) × (l.ended.questions ≡ watch.questions)
+    × ((edits : List Edit) → IsPrefix seen edits → ToldOf numbers edits watch l.ended.told l.notices) × AreLeft numbers seen watches left
+AreLeft numbers seen _ _ = ⊥
 
 -- one tells what there is to tell at the end of a list of edits, unless a write has failed
 pub record TellsLast (edits : List Edit) (old : LeftState) (new : NoticesState) : Type 0 where
   pub told : Told
   pub edit : told.edit ≡ length edits
   pub notes : AreNotesOf old.ended.questions old.ended.told (map (watch_answer edits) old.ended.questions) told.notes.items
-  pub written : WritesMore (told_text told) old.notices new
+  pub written : WritesMore (told_text old.numbers told) old.notices new
 
 -- so does each of several
 abbrev pub AllTellLast : List Edit → List LeftState → List NoticesState → Type 0

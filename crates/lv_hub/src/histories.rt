@@ -1,5 +1,5 @@
 //! The history of a hub: its edits in one list, to which only its head adds.
-ghost use Rattle.std.specs.Prelude.{◌≡◌, ◌<◌, ◌^◌, ◌++◌, ◌∷◌, ◌⊎◌, [], length};
+ghost use Rattle.std.specs.Prelude.{◌≡◌, ◌<◌, ◌≤◌, ◌^◌, ◌++◌, ◌∷◌, ◌⊎◌, [], length};
 ghost use mathlib.Core.List.{IsPrefix};
 ghost use Rattle.logbook.specs.Pages.{may_write};
 ghost use Rattle.lv_hub.specs.Growing.{IsUnspent, head_of};
@@ -163,7 +163,7 @@ pub struct Head<N: Naming> {
 }
 
 impl<N: Naming> Model for Head<N> {
-    ghost use Rattle.std.specs.Prelude.{◌≡◌, List, length};
+    ghost use Rattle.std.specs.Prelude.{◌≡◌, ◌≤◌, ◌^◌, List, length};
     ghost use Rattle.logbook.specs.Pages.{may_write};
     ghost use Rattle.lv_edits.specs.declared.edit.Edit.{Edit};
     ghost use Rattle.lv_hub.specs.Growing.{edits_by, head_of, permit_after};
@@ -172,7 +172,7 @@ impl<N: Naming> Model for Head<N> {
 
     ghost view = { λ h. edits_by N.history.permit h.seen.log };
 
-    ghost invariant = { λ h. (h.edits ≡ length (edits_by N.history.permit h.seen.log)) × (h.word ≡ head_of N.history.book) × (h.pen.book ≡ N.history.book) × (h.seen.book ≡ N.history.book) × (h.pen.nib.right ≡ may_write) × (h.pen.nib.key ≡ permit_after N.history.permit h.seen.log) };
+    ghost invariant = { λ h. (h.edits ≡ length (edits_by N.history.permit h.seen.log)) × (h.word ≡ head_of N.history.book) × (h.pen.book ≡ N.history.book) × (h.seen.book ≡ N.history.book) × (h.pen.nib.right ≡ may_write) × (h.pen.nib.key ≡ permit_after N.history.permit h.seen.log) × (h.edits ≤ 2 ^ 62) };
 }
 
 /// A beginning of a history that was seen. Contracts see it as its edits.
@@ -184,7 +184,7 @@ pub struct HistoryPrefix<N: Naming> {
 }
 
 impl<N: Naming> Model for HistoryPrefix<N> {
-    ghost use Rattle.std.specs.Prelude.{◌≡◌, List, length};
+    ghost use Rattle.std.specs.Prelude.{◌≡◌, ◌≤◌, ◌^◌, List, length};
     ghost use Rattle.lv_edits.specs.declared.edit.Edit.{Edit};
     ghost use Rattle.lv_hub.specs.Growing.{edits_by};
 
@@ -192,7 +192,7 @@ impl<N: Naming> Model for HistoryPrefix<N> {
 
     ghost view = { λ f. edits_by N.history.permit f.seen.log };
 
-    ghost invariant = { λ f. (f.edits ≡ length (edits_by N.history.permit f.seen.log)) × (f.seen.book ≡ N.history.book) };
+    ghost invariant = { λ f. (f.edits ≡ length (edits_by N.history.permit f.seen.log)) × (f.seen.book ≡ N.history.book) × (f.edits ≤ 2 ^ 62) };
 }
 
 impl<N: Naming> Head<N> {
@@ -245,7 +245,8 @@ impl<N: Naming> Head<N> {
 impl<N: Naming> HistoryPrefix<N> {
     /// How many edits it has seen.
     pub fn count(&self) -> u64
-        ensures { result ≡ length self.now }
+        ensures count { result ≡ length self.now }
+        ensures few { result ≤ 2 ^ 62 }
     {
         self.edits
     }

@@ -4,31 +4,33 @@ ghost use mathlib.Core.List.{IsPrefix};
 ghost use Rattle.lv_edits.specs.declared.edit.Edit.{Edit};
 ghost use Rattle.lv_geometry.specs.Bounds.{Bounds};
 ghost use Rattle.lv_lines.specs.Replies.{Answered};
+ghost use Rattle.lv_transcript.specs.declared.log_heading.LogHeading.{LogHeading};
 ghost use Rattle.lv_hub.specs.AsScripts.{ScriptedStep};
 ghost use Rattle.lv_hub.specs.Counting.{ShareState};
 ghost use Rattle.lv_hub.specs.Noticing.{NoticesState, WatcherState};
+ghost use Rattle.lv_hub.specs.Numbering.{from_the_first};
 ghost use Rattle.lv_hub.specs.PlainSession.{PlainSessionStep, Seen, TrueReply};
 ghost use Rattle.lv_hub.specs.Watched.{AreWatched, WatchState};
 ghost use Rattle.lv_hub.specs.Watchers.{AllTellLast, AreWatchedFrom, LeftState, TakesWatchers, watcher_at};
 
 /// Sessions have one list of edits: what a session is answered is true of each list that goes on from what it has seen, so of
 /// all that the hub accepts. Each reply is the plain interpreter's after the first so many of them, `refused 6` apart.
-/// That interpreter is the one of scripts, where no query stands.
+/// That interpreter is the one of scripts, where no query stands, but for the numbers that it tells.
 pub fn replies_are_true_of_one_list()
-    ensures replies { (limits : Bounds) (edits : List Edit) (old new : Seen) (lines : List (List ℕ)) (text : List ℕ) →
-        Answered (PlainSessionStep limits) old 1 lines text new → IsPrefix new.edits edits → Answered (TrueReply limits edits) tt 1 lines text tt }
+    ensures replies { (limits : Bounds) (numbers : LogHeading) (edits : List Edit) (old new : Seen) (lines : List (List ℕ)) (text : List ℕ) →
+        Answered (PlainSessionStep limits numbers) old 1 lines text new → IsPrefix new.edits edits → Answered (TrueReply limits numbers edits) tt 1 lines text tt }
     // A session never goes back.
-    ensures forward { (limits : Bounds) (old new : Seen) (lines : List (List ℕ)) (text : List ℕ) →
-        Answered (PlainSessionStep limits) old 1 lines text new → IsPrefix old.edits new.edits }
-    // A line is answered so exactly where the interpreter of scripts answers it so.
+    ensures forward { (limits : Bounds) (numbers : LogHeading) (old new : Seen) (lines : List (List ℕ)) (text : List ℕ) →
+        Answered (PlainSessionStep limits numbers) old 1 lines text new → IsPrefix old.edits new.edits }
+    // Where each edit is told by its own number, a line is answered so exactly where the interpreter of scripts answers it so.
     ensures scripted { (limits : Bounds) (old : Seen) (n : ℕ) (line text : List ℕ) (new : Seen) →
-        PlainSessionStep limits old n line text new ↔ ScriptedStep limits old n line text new }
+        PlainSessionStep limits from_the_first old n line text new ↔ ScriptedStep limits old n line text new }
 {}
 
 /// Subscribers that began with `subscribe_all`, ran, were taken back by `leave_all` and told the last, have lines of one list of edits:
 /// at edits that don't fall, each the plain value of its question after the first so many of them. At the end each question's answer
 /// is as told. All those lines were written, or a write has failed after no more than a front of them.
 pub fn lines_are_plain_answers_of_one_list()
-    ensures { (limits : Bounds) (old new : ShareState) (edits : List Edit) (watches : List WatchState) (watchers : List WatcherState) (left : List LeftState) (told : List NoticesState) →
-        AreWatchedFrom limits (map watcher_at watches) watchers → TakesWatchers old new watchers left → IsPrefix new.seen edits → AllTellLast edits left told → AreWatched edits watches told }
+    ensures { (limits : Bounds) (numbers : LogHeading) (old new : ShareState) (edits : List Edit) (watches : List WatchState) (watchers : List WatcherState) (left : List LeftState) (told : List NoticesState) →
+        AreWatchedFrom limits numbers (map watcher_at watches) watchers → TakesWatchers numbers old new watchers left → IsPrefix new.seen edits → AllTellLast edits left told → AreWatched numbers edits watches told }
 {}

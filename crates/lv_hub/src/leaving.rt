@@ -1,6 +1,6 @@
 //! Subscribers that have ended, and what they tell last.
 
-ghost use Rattle.std.specs.Prelude.{◌≡◌, ◌≤◌, IfOk, [], map, vec_capacity, vec_len};
+ghost use Rattle.std.specs.Prelude.{◌≡◌, ◌≤◌, ◌^◌, IfOk, [], map, vec_capacity, vec_len};
 ghost use Rattle.lv_edits.specs.Kept.{IsLegalInLimits};
 ghost use Rattle.lv_live.specs.State.{SameLive};
 ghost use Rattle.lv_hub.specs.Watchers.{AllTellLast, TakesWatchers, TellsLast};
@@ -12,6 +12,7 @@ use crate::shares::Share;
 use crate::watchers::Watcher;
 use lv_bodies::Six;
 use lv_live::Live;
+use lv_transcript::LogHeading;
 use std::alloc::{AllocError, Global};
 use std::io::Write;
 use std::marker::Model;
@@ -20,16 +21,21 @@ use std::marker::Model;
 #[derive(Drop)]
 pub struct Left<F: Write + Drop> {
     number: usize,
+    // The numbers that its lines tell.
+    numbers: LogHeading,
     ended: Ended,
     notices: Notices<F>,
 }
 
 impl<F: Write + Drop> Model for Left<F> {
+    ghost use Rattle.std.specs.Prelude.{◌≤◌, ◌^◌};
     ghost use Rattle.lv_hub.specs.Watchers.{LeftState};
 
     ghost Value = { LeftState };
 
-    ghost view = { λ l. record { ended = l.ended; notices = l.notices } };
+    ghost view = { λ l. record { numbers = l.numbers; ended = l.ended; notices = l.notices } };
+
+    ghost invariant = { λ l. l.numbers.base ≤ 2 ^ 62 };
 }
 
 /// A subscriber whose last notes were told, as far as they could be written.
@@ -43,11 +49,13 @@ pub struct Watched<F: Write + Drop> {
 
 impl<F: Write + Drop> Left<F> {
     /// What a subscriber leaves.
-    pub fn new(number: usize, ended: Ended, notices: Notices<F>) -> Left<F>
-        ensures { result ≡ record { ended = ended; notices = notices } }
+    pub fn new(number: usize, numbers: LogHeading, ended: Ended, notices: Notices<F>) -> Left<F>
+        requires { numbers.base ≤ 2 ^ 62 }
+        ensures { result ≡ record { numbers = numbers; ended = ended; notices = notices } }
     {
         Left {
             number,
+            numbers,
             ended,
             notices,
         }
@@ -61,10 +69,11 @@ impl<F: Write + Drop> Left<F> {
     {
         let Left {
             number,
+            numbers,
             ended,
             mut notices,
         } = self;
-        notices.tell(&ended.tell(live), is_recorded);
+        notices.tell(numbers, &ended.tell(live), is_recorded);
         Watched { number, notices }
     }
 }
@@ -113,7 +122,7 @@ pub fn leave_all<N: WithBody<Six>, F: Write + Drop>(
 ) -> Leaving<F>
     requires none { room.left.items ≡ [] }
     requires room { vec_len watchers ≤ vec_capacity room.left }
-    ensures left { TakesWatchers share.old share.new watchers.items result.left.items }
+    ensures left { TakesWatchers N.numbers share.old share.new watchers.items result.left.items }
     ensures room { result.watched ≡ room.watched }
 {
     let Leaving { mut left, watched } = room;

@@ -1,24 +1,35 @@
-//! Which hub it is: its ledger, its limits, its history and its body.
-ghost use Rattle.std.specs.Prelude.{None, Option};
+//! Which hub it is: its ledger, its limits, its history, the numbers that its edits are told by, and its body.
+ghost use Rattle.std.specs.Prelude.{Bool, None, Option, true};
 ghost use Rattle.lv_geometry.specs.Bounds.{Bounds};
+ghost use Rattle.lv_transcript.specs.declared.log_heading.LogHeading.{LogHeading};
 ghost use Rattle.lv_hub.specs.Growing.{Beginning};
+ghost use Rattle.lv_hub.specs.Numbering.{from_the_first};
 
 use std::marker::Brand;
 use std::sync::ledger::Ledger;
 
-/// Which hub it is: the ledger that counts its edits, its limits, and the history of its edits. A program takes `Brand`, and says at
+/// Which hub it is: the ledger that counts its edits, its limits, the history of its edits, the numbers that they are told by, and whether
+/// its sessions list what they are answered. A program takes `Brand`, and says at
 /// the call for which hub it stands.
 pub trait Naming: Ledger {
     // The limits of the hub's vector.
     ghost limits: { Bounds };
     // The history of the hub's edits.
     ghost history: { Beginning };
+    // The numbers that its edits are told by.
+    ghost numbers: { LogHeading };
+    // Whether its sessions list the reductions that they are answered, for a transcript.
+    ghost lists: { Bool };
 }
 
 impl Naming for Brand {
     ghost limits = { record { buckets = 1; edits = 1 } };
 
     ghost history = { record { book = record { number = 0; log_name = 0; cells_name = 0 }; permit = 0 } };
+
+    ghost numbers = { from_the_first };
+
+    ghost lists = { true };
 }
 
 /// The same, with the body of the hub's vector.

@@ -1,13 +1,15 @@
 //! The lines of what a subscriber is told.
 
-ghost use Rattle.std.specs.Prelude.{◌≡◌, [], false, true, IfErr, IfOk, OnOk, vec_capacity};
+ghost use Rattle.std.specs.Prelude.{◌≡◌, ◌≤◌, ◌^◌, [], false, true, IfErr, IfOk, OnOk, vec_capacity};
 ghost use Rattle.lv_lines.specs.Output.{Puts, PutsFront, SamePlaces};
 ghost use Rattle.lv_lines.specs.Texts.{named_text};
 ghost use Rattle.lv_hub.specs.Noticing.{WritesMore, notes_at, told_text};
 
+use crate::numbering::told_number;
 use crate::told::Told;
 use lv_lines::{Fault, HELD, LINE, ReplyBuffer, put_named};
 use lv_standing::Note;
+use lv_transcript::LogHeading;
 use std::alloc::{AllocError, Global};
 use std::io::Write;
 use std::marker::Model;
@@ -45,9 +47,11 @@ impl<F: Write + Drop> Notices<F> {
         })
     }
 
-    /// Writes the lines of what was told, unless a write has failed. Where it isn't recorded that it is so, it counts as such.
-    pub fn tell(&mut self, told: &Told, is_recorded: bool)
-        ensures { WritesMore (told_text told.now) self.old self.new }
+    /// Writes the lines of what was told, its edit by its number among these, unless a write has failed. Where it isn't recorded that it is
+    /// so, it counts as such.
+    pub fn tell(&mut self, numbers: LogHeading, told: &Told, is_recorded: bool)
+        requires { numbers.base ≤ 2 ^ 62 }
+        ensures { WritesMore (told_text numbers told.now) self.old self.new }
     {
         if self.failed {
             return;
@@ -60,7 +64,7 @@ impl<F: Write + Drop> Notices<F> {
             writer: &mut self.writer,
             held: &mut self.held,
         };
-        match write_told(told, &mut buffer) {
+        match write_told(numbers, told, &mut buffer) {
             Ok(()) => {}
             Err(_) => fail(&mut self.held, &mut self.failed),
         }
@@ -85,18 +89,24 @@ fn fail(held: &mut Vec<u8>, failed: &mut bool)
 }
 
 // Writes the lines of what was told.
-fn write_told<W: Write>(told: &Told, buffer: &mut ReplyBuffer<'_, W>) -> Result<(), Fault>
+fn write_told<W: Write>(
+    numbers: LogHeading,
+    told: &Told,
+    buffer: &mut ReplyBuffer<'_, W>,
+) -> Result<(), Fault>
+    requires { numbers.base ≤ 2 ^ 62 }
     ensures places { SamePlaces buffer.old buffer.new }
-    ensures ok { OnOk result ((buffer.new.held.now.items ≡ []) × Puts W.contents buffer.old buffer.new (told_text told.now)) }
-    ensures fault { IfErr result (λ fault. PutsFront W.contents buffer.old buffer.new (told_text told.now)) }
+    ensures ok { OnOk result ((buffer.new.held.now.items ≡ []) × Puts W.contents buffer.old buffer.new (told_text numbers told.now)) }
+    ensures fault { IfErr result (λ fault. PutsFront W.contents buffer.old buffer.new (told_text numbers told.now)) }
 {
-    put_all(told.edit, &told.notes, buffer)?;
+    let edit = told_number(numbers, told.edit.into());
+    put_all(edit, &told.notes, buffer)?;
     buffer.send()
 }
 
 // Puts the lines of notes at an edit.
 fn put_all<W: Write>(
-    edit: u32,
+    edit: u64,
     notes: &[Note],
     buffer: &mut ReplyBuffer<'_, W>,
 ) -> Result<(), Fault>
@@ -111,12 +121,12 @@ fn put_all<W: Write>(
 }
 
 // Puts the line of a note at an edit.
-fn put_one<W: Write>(edit: u32, note: &Note, buffer: &mut ReplyBuffer<'_, W>) -> Result<(), Fault>
+fn put_one<W: Write>(edit: u64, note: &Note, buffer: &mut ReplyBuffer<'_, W>) -> Result<(), Fault>
     ensures places { SamePlaces buffer.old buffer.new }
     ensures ok { OnOk result (Puts W.contents buffer.old buffer.new (named_text edit note.now.name note.now.value)) }
     ensures fault { IfErr result (λ fault. PutsFront W.contents buffer.old buffer.new []) }
 {
     buffer.make_room(LINE)?;
-    put_named(buffer.held, edit.into(), note.name, note.value);
+    put_named(buffer.held, edit, note.name, note.value);
     Ok(())
 }

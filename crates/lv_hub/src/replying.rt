@@ -1,16 +1,19 @@
 //! How a line of a session is answered.
-ghost use Rattle.std.specs.Prelude.{◌≡◌, ◌≤◌, ◌++◌, ◌∷◌, [], ℕ, All, List, OnOk, IfErr, vec_len};
+ghost use Rattle.std.specs.Prelude.{◌≡◌, ◌≤◌, ◌^◌, ◌++◌, ℕ, All, List, OnOk, IfErr, length, true, vec_len};
 ghost use Rattle.lv_geometry.specs.declared.refusals.Refusal.{Refusal};
 ghost use Rattle.lv_lines.specs.Output.{HasRoom, KeepsRoom, Puts, PutsFront, SamePlaces};
 ghost use Rattle.lv_transcript.specs.declared.claimed.Claimed.{Claimed};
 ghost use Rattle.lv_transcript.specs.Transcript.{IsTrueAnswer};
 ghost use Rattle.lv_hub.specs.Counting.{Counts, having_seen};
+ghost use Rattle.lv_hub.specs.Numbering.{told_number};
 ghost use Rattle.lv_hub.specs.Replying.{SessionCommandAnswer, SessionLineAnswer, TellsEdit, TellsReduction, TellsScan};
-ghost use Rattle.lv_hub.specs.Session.{session_at};
+ghost use Rattle.lv_hub.specs.Session.{are_listed, listed_if, most_listed, session_at};
 ghost use Rattle.lv_hub.specs.Told.{EditTold, ValueTold};
 
 use crate::hubs::Hub;
+use crate::kept_answers::KeptAnswers;
 use crate::naming::WithBody;
+use crate::numbering::told_number;
 use crate::session_logs::SessionLog;
 use crate::shares::Share;
 use lv_bodies::{Kind, Six};
@@ -18,21 +21,26 @@ use lv_edits::{Edit, Receipt};
 use lv_geometry::Refusal;
 use lv_script::{
     Asked, Claimed, Command, Fault, LINE, Line, ReplyBuffer, Slice, put_answer, put_bad,
-    put_receipt, put_refusal, put_running_scan,
+    put_receipt_at, put_refusal, put_running_scan,
 };
 use lv_standing::Answered;
+use lv_transcript::LogHeading;
 use std::alloc::Global;
 use std::io::Write;
 use std::sync::Wait;
 
-/// Where a session is held: a hub, the handle by which it is waited for, what memory is taken from, and at most how many reductions
-/// are listed. Past that a reduction is refused as where its entry finds no room.
+/// Where a session is held: a hub, the handle by which it is waited for, what memory is taken from, the numbers that its replies tell, and
+/// what becomes of the reductions that it is answered.
 #[derive(Drop)]
 pub struct SessionPlace<'a, N: WithBody<Six>, T> {
     pub rt: &'a T,
     pub hub: &'a Hub<Six, N>,
     pub alloc: Global,
-    pub most: usize,
+    pub numbers: LogHeading,
+    pub keeps: KeptAnswers,
+    ghost told_by: { numbers ≡ N.numbers },
+    ghost low: { numbers.base ≤ 2 ^ 62 },
+    ghost lists: { are_listed keeps ≡ N.lists },
 }
 
 /// Answers a line of a session, on a hub: its share counts what is accepted, and `answers` lists the reductions, which stay true.
@@ -49,15 +57,15 @@ pub fn answer_line<N: WithBody<Six>, T: Wait, L: SessionLog<N>, W: Write>(
     requires all_true { All (IsTrueAnswer share.old.seen) answers.old.items }
     ensures places { SamePlaces buffer.old buffer.new }
     ensures ok { OnOk result ((reply : List ℕ)
-        × SessionLineAnswer N.limits (session_at share.old answers.old.items) number line reply (session_at share.new answers.new.items)
+        × SessionLineAnswer N.limits N.numbers N.lists (session_at share.old answers.old.items) number line reply (session_at share.new answers.new.items)
         × Puts W.contents buffer.old buffer.new reply) }
     ensures fault { IfErr result (λ fault. (fault ≡ Fault.WriteFault) × (reply : List ℕ)
-        × SessionLineAnswer N.limits (session_at share.old answers.old.items) number line reply (session_at share.new answers.new.items)
+        × SessionLineAnswer N.limits N.numbers N.lists (session_at share.old answers.old.items) number line reply (session_at share.new answers.new.items)
         × PutsFront W.contents buffer.old buffer.new reply) }
     ensures parts { share.new.parts ≡ share.old.parts }
     ensures more { share.old.count ≤ share.new.count }
     ensures all_true { All (IsTrueAnswer share.new.seen) answers.new.items }
-    ensures few { vec_len answers.old ≤ place.now.most → vec_len answers.new ≤ place.now.most }
+    ensures few { vec_len answers.old ≤ most_listed place.now.keeps → vec_len answers.new ≤ most_listed place.now.keeps }
 {
     match line {
         Line::Nothing => {}
@@ -83,14 +91,14 @@ fn answer<N: WithBody<Six>, T: Wait, L: SessionLog<N>, W: Write>(
     requires { HasRoom buffer.old.held.now LINE }
     ensures places { SamePlaces buffer.old buffer.new }
     ensures ok { OnOk result ((reply : List ℕ)
-        × SessionCommandAnswer N.limits (session_at share.old answers.old.items) number command reply (session_at share.new answers.new.items)
+        × SessionCommandAnswer N.limits N.numbers N.lists (session_at share.old answers.old.items) number command reply (session_at share.new answers.new.items)
         × Puts W.contents buffer.old buffer.new reply) }
     ensures fault { IfErr result (λ fault. (fault ≡ Fault.WriteFault) × (reply : List ℕ)
-        × SessionCommandAnswer N.limits (session_at share.old answers.old.items) number command reply (session_at share.new answers.new.items)
+        × SessionCommandAnswer N.limits N.numbers N.lists (session_at share.old answers.old.items) number command reply (session_at share.new answers.new.items)
         × PutsFront W.contents buffer.old buffer.new reply) }
     ensures parts { share.new.parts ≡ share.old.parts }
     ensures more { share.old.count ≤ share.new.count }
-    ensures few { vec_len answers.old ≤ place.now.most → vec_len answers.new ≤ place.now.most }
+    ensures few { vec_len answers.old ≤ most_listed place.now.keeps → vec_len answers.new ≤ most_listed place.now.keeps }
 {
     match command {
         Command::Edit(edit) => {
@@ -134,16 +142,24 @@ fn put_edit<N: WithBody<Six>, T: Wait, L: SessionLog<N>>(
 )
     requires { HasRoom held.old LINE }
     ensures answer { (reply : List ℕ)
-        × ((answers : List Claimed) → TellsEdit N.limits (session_at share.old answers) edit reply (session_at share.new answers))
+        × ((answers : List Claimed) → TellsEdit N.limits N.numbers N.lists (session_at share.old answers) edit reply (session_at share.new answers))
         × (held.new.items ≡ held.old.items ++ reply) }
     ensures parts { share.new.parts ≡ share.old.parts }
     ensures more { share.old.count ≤ share.new.count }
     ensures room { KeepsRoom held.old held.new }
 {
     match edit_with_place(place, log, share, edit) {
-        Ok(receipt) => put_receipt(held, receipt),
+        Ok(receipt) => put_receipt_at(held, last_number(place, share), receipt),
         Err(refusal) => put_refusal(held, refusal),
     }
+}
+
+// The number that is told of the last edit that a share has seen.
+#[inline(always)]
+fn last_number<N: WithBody<Six>, T: Wait>(place: &SessionPlace<'_, N, T>, share: &Share<N>) -> u64
+    ensures { result ≡ told_number N.numbers (length share.now.seen) }
+{
+    told_number(place.numbers, share.seen())
 }
 
 // Makes an edit once the log has room for it: until then it is recorded. If that fails, no reply goes out any more.
@@ -167,7 +183,7 @@ fn edit_with_place<N: WithBody<Six>, T: Wait, L: SessionLog<N>>(
     place.hub.edit(place.rt, share, edit)
 }
 
-// Reduces a range, and lists the answer.
+// Reduces a range, and lists the answer where answers are listed.
 fn put_reduction<N: WithBody<Six>, T: Wait, L: SessionLog<N>>(
     place: &SessionPlace<'_, N, T>,
     log: &L,
@@ -180,14 +196,14 @@ fn put_reduction<N: WithBody<Six>, T: Wait, L: SessionLog<N>>(
 )
     requires { HasRoom held.old LINE }
     ensures answer { (reply : List ℕ)
-        × TellsReduction N.limits (session_at share.old answers.old.items) kind lo hi reply (session_at share.new answers.new.items)
+        × TellsReduction N.limits N.numbers N.lists (session_at share.old answers.old.items) kind lo hi reply (session_at share.new answers.new.items)
         × (held.new.items ≡ held.old.items ++ reply) }
     ensures share { share.new ≡ having_seen share.old share.new.seen }
     ensures room { KeepsRoom held.old held.new }
-    ensures few { vec_len answers.old ≤ place.now.most → vec_len answers.new ≤ place.now.most }
+    ensures few { vec_len answers.old ≤ most_listed place.now.keeps → vec_len answers.new ≤ most_listed place.now.keeps }
 {
-    let is_listed = make_place(answers, place.most);
-    match value_with_place(place, log, share, is_listed, kind, lo, hi) {
+    let is_kept = make_place(answers, place.keeps);
+    match value_with_place(place, log, share, is_kept, kind, lo, hi) {
         Ok(Answered { edit, value }) => {
             let reduction = Claimed {
                 edit,
@@ -196,8 +212,8 @@ fn put_reduction<N: WithBody<Six>, T: Wait, L: SessionLog<N>>(
                 hi,
                 value,
             };
-            match list(answers, place.most, reduction) {
-                Ok(()) => put_answer(held, edit.into(), kind, value),
+            match list(answers, place.keeps, reduction) {
+                Ok(()) => put_answer(held, last_number(place, share), kind, value),
                 Err(refusal) => put_refusal(held, refusal),
             }
         }
@@ -205,21 +221,25 @@ fn put_reduction<N: WithBody<Six>, T: Wait, L: SessionLog<N>>(
     }
 }
 
-// Makes room for one reduction more, if fewer than so many are listed, and says whether there is.
-fn make_place(answers: &mut Vec<Claimed>, most: usize) -> bool
+// Whether a reduction that is answered now is kept. Where reductions are listed it makes room for one more first, if fewer than so many are.
+fn make_place(answers: &mut Vec<Claimed>, keeps: KeptAnswers) -> bool
     ensures items { answers.new.items ≡ answers.old.items }
     ensures len { vec_len answers.new ≡ vec_len answers.old }
 {
-    answers.len() < most && answers.reserve(1).is_ok()
+    match keeps {
+        KeptAnswers::Listed(most) => answers.len() < most && answers.reserve(1).is_ok(),
+        KeptAnswers::Logged => true,
+        KeptAnswers::Nothing => false,
+    }
 }
 
-// The value of a kind over a range. If it is to be listed, it is asked once the log has room for the answer: until then that is recorded. If
+// The value of a kind over a range. If it is to be kept, it is asked once the log has room for the answer: until then that is recorded. If
 // that fails, no reply goes out any more.
 fn value_with_place<N: WithBody<Six>, T: Wait, L: SessionLog<N>>(
     place: &SessionPlace<'_, N, T>,
     log: &L,
     share: &mut Share<N>,
-    is_listed: bool,
+    is_kept: bool,
     kind: Kind,
     lo: u32,
     hi: u32,
@@ -227,7 +247,7 @@ fn value_with_place<N: WithBody<Six>, T: Wait, L: SessionLog<N>>(
     ensures told { ValueTold N.limits share.old.seen share.new.seen kind lo hi result }
     ensures share { share.new ≡ having_seen share.old share.new.seen }
 {
-    if !is_listed {
+    if !is_kept {
         return place.hub.value(place.rt, share, kind, lo, hi);
     }
     for _ in 0..u64::MAX {
@@ -241,12 +261,15 @@ fn value_with_place<N: WithBody<Six>, T: Wait, L: SessionLog<N>>(
     place.hub.value(place.rt, share, kind, lo, hi)
 }
 
-// Lists a reduction behind others, where it finds room and fewer than so many are listed.
-fn list(answers: &mut Vec<Claimed>, most: usize, reduction: Claimed) -> Result<(), Refusal>
-    ensures listed { OnOk result (answers.new.items ≡ answers.old.items ++ reduction ∷ []) }
-    ensures unchanged { IfErr result (λ refusal. (refusal ≡ Refusal.NoMemory) × (answers.new.items ≡ answers.old.items)) }
-    ensures few { vec_len answers.old ≤ most → vec_len answers.new ≤ most }
+// Lists a reduction behind others where reductions are listed: it finds room, and fewer than so many are listed.
+fn list(answers: &mut Vec<Claimed>, keeps: KeptAnswers, reduction: Claimed) -> Result<(), Refusal>
+    ensures listed { OnOk result (answers.new.items ≡ listed_if (are_listed keeps) answers.old.items reduction) }
+    ensures unchanged { IfErr result (λ refusal. (are_listed keeps ≡ true) × (refusal ≡ Refusal.NoMemory) × (answers.new.items ≡ answers.old.items)) }
+    ensures few { vec_len answers.old ≤ most_listed keeps → vec_len answers.new ≤ most_listed keeps }
 {
+    let KeptAnswers::Listed(most) = keeps else {
+        return Ok(());
+    };
     if most <= answers.len() {
         return Err(Refusal::NoMemory);
     }
@@ -266,10 +289,10 @@ fn put_scanned<N: WithBody<Six>, T: Wait, W: Write>(
     requires { HasRoom buffer.old.held.now LINE }
     ensures places { SamePlaces buffer.old buffer.new }
     ensures ok { OnOk result ((reply : List ℕ)
-        × ((answers : List Claimed) → TellsScan N.limits (session_at share.old answers) asked.now.inclusive asked.now.kind asked.now.lo asked.now.hi reply (session_at share.new answers))
+        × ((answers : List Claimed) → TellsScan N.limits N.numbers N.lists (session_at share.old answers) asked.now.inclusive asked.now.kind asked.now.lo asked.now.hi reply (session_at share.new answers))
         × Puts W.contents buffer.old buffer.new reply) }
     ensures fault { IfErr result (λ fault. (fault ≡ Fault.WriteFault) × (reply : List ℕ)
-        × ((answers : List Claimed) → TellsScan N.limits (session_at share.old answers) asked.now.inclusive asked.now.kind asked.now.lo asked.now.hi reply (session_at share.new answers))
+        × ((answers : List Claimed) → TellsScan N.limits N.numbers N.lists (session_at share.old answers) asked.now.inclusive asked.now.kind asked.now.lo asked.now.hi reply (session_at share.new answers))
         × PutsFront W.contents buffer.old buffer.new reply) }
     ensures share { share.new ≡ having_seen share.old share.new.seen }
 {
@@ -279,7 +302,7 @@ fn put_scanned<N: WithBody<Six>, T: Wait, W: Write>(
     match copied {
         Ok(stretch) => put_running_scan(
             buffer,
-            stretch.edit().into(),
+            last_number(place, share),
             asked.inclusive,
             asked.kind,
             &Slice {

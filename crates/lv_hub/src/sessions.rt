@@ -8,7 +8,7 @@ ghost use Rattle.std.specs.List.Sorted.{IsPermutation};
 ghost use Rattle.lv_hub.specs.Counting.{ShareState};
 ghost use Rattle.lv_hub.specs.PlainSession.{PlainSessionStep, seen_by};
 ghost use Rattle.lv_hub.specs.Replying.{TellsLine};
-ghost use Rattle.lv_hub.specs.Session.{KeepTies, SessionState, SessionStep, session_at};
+ghost use Rattle.lv_hub.specs.Session.{KeepTies, SessionState, SessionStep, most_listed, session_at};
 
 use crate::naming::WithBody;
 use crate::replying::{SessionPlace, answer_line};
@@ -23,8 +23,8 @@ use std::mem;
 use std::sync::Wait;
 
 /// Answers the lines of a session on a hub: pushes, pops, writes, reserves, swaps, truncates, reductions and scans, as a script's; every
-/// other line that says something is bad. Lists each reduction that was answered, in order, at most as many as the place says; one whose
-/// entry finds no room is refused with `NoMemory`. What the session does is recorded by the log before a reply to it goes out; where that
+/// other line that says something is bad. Their numbers are those of the place. Where it lists reductions, it does so with each that was
+/// answered, in order, at most as many as the place says; one whose entry finds no room is refused with `NoMemory`. What the session does is recorded by the log before a reply to it goes out; where that
 /// fails, the fault is `WriteFault`, and nothing more goes out.
 ///
 /// The share counts the edits that were accepted, and sees the hub's edits up to each answer. Ends with the faults of a script; edits
@@ -37,13 +37,13 @@ pub fn run_session<N: WithBody<Six>, T: Wait, L: SessionLog<N>, R: Read, W: Writ
     writer: &mut W,
 ) -> Result<Vec<Claimed>, Fault>
     ensures lines_served { (last : SessionState)
-        × LinesServed (SessionStep N.limits) (session_at share.old []) last
+        × LinesServed (SessionStep N.limits N.numbers N.lists) (session_at share.old []) last
         (R.remaining reader.old) (R.remaining reader.new) (W.contents writer.old) (W.contents writer.new) result
         × (share.new.count ≡ last.count)
         × (share.new.seen ≡ last.seen)
         × IfOk result (λ answers. answers.items ≡ last.answers) }
     // Line by line the replies are those of the plain interpreter, each at some edits of the hub's.
-    ensures plain { LinesServed (PlainSessionStep N.limits) (seen_by share.old) (seen_by share.new)
+    ensures plain { LinesServed (PlainSessionStep N.limits N.numbers) (seen_by share.old) (seen_by share.new)
         (R.remaining reader.old) (R.remaining reader.new) (W.contents writer.old) (W.contents writer.new) result }
     ensures parts { share.new.parts ≡ share.old.parts }
     ensures more { share.old.count ≤ share.new.count }
@@ -51,7 +51,7 @@ pub fn run_session<N: WithBody<Six>, T: Wait, L: SessionLog<N>, R: Read, W: Writ
     // Each reduction is true of the edits that were seen.
     ensures all_true { IfOk result (λ answers. All (IsTrueAnswer share.new.seen) answers.items) }
     ensures order { IfOk result (λ answers. AreInOrder answers.items) }
-    ensures few { IfOk result (λ answers. vec_len answers ≤ place.entry.most) }
+    ensures few { IfOk result (λ answers. vec_len answers ≤ most_listed place.entry.keeps) }
 {
     let Share {
         token,
@@ -103,12 +103,12 @@ fn hold<K: SessionStart, N: WithBody<Six>, T: Wait, L: SessionLog<N>, R: Read, W
     writer: &mut W,
 ) -> (Share<N>, Vec<Claimed>, Result<(), Fault>)
     requires lent { share ≡ K.holding }
-    requires most { place.most ≡ K.most }
-    ensures lines_served { LinesServed (TellsLine N.limits) (session_at share []) (session_at result.0 result.1.items)
+    requires most { most_listed place.keeps ≡ K.most }
+    ensures lines_served { LinesServed (TellsLine N.limits N.numbers N.lists) (session_at share []) (session_at result.0 result.1.items)
         (R.remaining reader.old) (R.remaining reader.new) (W.contents writer.old) (W.contents writer.new) result.2 }
     ensures parts { result.0.parts ≡ share.parts }
     ensures more { share.count ≤ result.0.count }
-    ensures few { vec_len result.1 ≤ place.entry.most }
+    ensures few { vec_len result.1 ≤ most_listed place.entry.keeps }
 {
     let alloc = place.alloc;
     let mut session: Session<'_, N, T, L, K> = Session {
@@ -137,13 +137,13 @@ impl<'a, N: WithBody<Six>, T: Wait, L: SessionLog<N>, K: SessionStart> Model
     for Session<'a, N, T, L, K> {
     ghost use Rattle.std.specs.Prelude.{◌≡◌, ◌≤◌, All, vec_len};
     ghost use Rattle.lv_transcript.specs.Transcript.{IsTrueAnswer};
-    ghost use Rattle.lv_hub.specs.Session.{SessionState, session_at};
+    ghost use Rattle.lv_hub.specs.Session.{SessionState, most_listed, session_at};
 
     ghost Value = { SessionState };
 
     ghost view = { λ s. session_at s.share s.answers.items };
 
-    ghost invariant = { λ s. (s.share.parts ≡ K.holding.parts) × (K.holding.count ≤ s.share.count) × All (IsTrueAnswer s.share.seen) s.answers.items × (s.place.most ≡ K.most) × (vec_len s.answers ≤ K.most) };
+    ghost invariant = { λ s. (s.share.parts ≡ K.holding.parts) × (K.holding.count ≤ s.share.count) × All (IsTrueAnswer s.share.seen) s.answers.items × (most_listed s.place.keeps ≡ K.most) × (vec_len s.answers ≤ K.most) };
 }
 
 impl<'a, N: WithBody<Six>, T: Wait, L: SessionLog<N>, K: SessionStart, W: Write> LineHandler<W>
@@ -152,7 +152,7 @@ impl<'a, N: WithBody<Six>, T: Wait, L: SessionLog<N>, K: SessionStart, W: Write>
 
     ghost state = { λ s. s };
 
-    ghost step = { TellsLine N.limits };
+    ghost step = { TellsLine N.limits N.numbers N.lists };
 
     fn handle(
         &mut self,

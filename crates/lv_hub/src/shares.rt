@@ -118,7 +118,8 @@ impl<N: Naming> Share<N> {
 
     // How many edits it has seen.
     pub(crate) fn seen(&self) -> u64
-        ensures { result ≡ length self.now.seen }
+        ensures count { result ≡ length self.now.seen }
+        ensures few { result ≤ 2 ^ 62 }
     {
         self.prefix.count()
     }

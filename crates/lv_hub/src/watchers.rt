@@ -1,6 +1,6 @@
 //! Subscribers beside sessions: what each is told goes to its file.
 
-ghost use Rattle.std.specs.Prelude.{◌≡◌, ◌+◌, ◌≤◌, IfErr, IfOk, None, OnOk, [], map, vec_len};
+ghost use Rattle.std.specs.Prelude.{◌≡◌, ◌+◌, ◌≤◌, ◌^◌, IfErr, IfOk, None, OnOk, [], map, vec_len};
 ghost use Rattle.lv_hub.specs.Asking.{IsRefusedFor, refusal_behind, refusal_of_all};
 ghost use Rattle.lv_hub.specs.Noticing.{Watches};
 ghost use Rattle.lv_standing.specs.Queries.{watch_answer};
@@ -17,6 +17,7 @@ use crate::subscribers::Subscriber;
 use lv_bodies::Six;
 use lv_geometry::Refusal;
 use lv_standing::Query;
+use lv_transcript::LogHeading;
 use std::alloc::Global;
 use std::io::Write;
 use std::marker::Model;
@@ -39,17 +40,19 @@ pub struct Watcher<N: WithBody<Six>, F: Write + Drop> {
     number: usize,
     subscriber: Subscriber<N>,
     notices: Notices<F>,
+    // The numbers that its lines tell.
+    numbers: LogHeading,
 }
 
 impl<N: WithBody<Six>, F: Write + Drop> Model for Watcher<N, F> {
-    ghost use Rattle.std.specs.Prelude.{◌≡◌};
+    ghost use Rattle.std.specs.Prelude.{◌≡◌, ◌≤◌, ◌^◌};
     ghost use Rattle.lv_hub.specs.Noticing.{WatcherState};
 
     ghost Value = { WatcherState };
 
     ghost view = { λ w. record { subscriber = w.subscriber; notices = w.notices } };
 
-    ghost invariant = { λ w. (w.subscriber.share.parts ≡ 1) × (w.subscriber.share.count ≡ 0) };
+    ghost invariant = { λ w. (w.subscriber.share.parts ≡ 1) × (w.subscriber.share.count ≡ 0) × (w.numbers ≡ N.numbers) × (w.numbers.base ≤ 2 ^ 62) };
 }
 
 impl<N: WithBody<Six>, F: Write + Drop> Watcher<N, F> {
@@ -62,7 +65,7 @@ impl<N: WithBody<Six>, F: Write + Drop> Watcher<N, F> {
         hub: &Hub<Six, N>,
         log: &L,
     )
-        ensures { Watches N.limits self.old self.new }
+        ensures { Watches N.limits N.numbers self.old self.new }
     {
         self.turns(rt, alloc, hub, log);
         self.look(rt, alloc, hub, log);
@@ -77,7 +80,7 @@ impl<N: WithBody<Six>, F: Write + Drop> Watcher<N, F> {
         hub: &Hub<Six, N>,
         log: &L,
     )
-        ensures { Watches N.limits self.old self.new }
+        ensures { Watches N.limits N.numbers self.old self.new }
     {
         for _ in 0..u64::MAX {
             if !self.turn(rt, alloc, hub, log) {
@@ -94,11 +97,12 @@ impl<N: WithBody<Six>, F: Write + Drop> Watcher<N, F> {
         hub: &Hub<Six, N>,
         log: &L,
     ) -> bool
-        ensures { Watches N.limits self.old self.new }
+        ensures { Watches N.limits N.numbers self.old self.new }
     {
         match self.subscriber.next(rt, alloc, hub) {
             Ok(Some(told)) => {
-                self.notices.tell(&told, log.record(rt, hub).is_ok());
+                let is_recorded = log.record(rt, hub).is_ok();
+                self.notices.tell(self.numbers, &told, is_recorded);
                 !self.notices.has_failed()
             }
             Ok(None) => false,
@@ -108,13 +112,16 @@ impl<N: WithBody<Six>, F: Write + Drop> Watcher<N, F> {
 
     // Tells what there is to tell, unless a write has failed.
     fn look<L: SessionLog<N>, R: Wait>(&mut self, rt: &R, alloc: Global, hub: &Hub<Six, N>, log: &L)
-        ensures { Watches N.limits self.old self.new }
+        ensures { Watches N.limits N.numbers self.old self.new }
     {
         if self.notices.has_failed() {
             return;
         }
         match self.subscriber.look(rt, alloc, hub) {
-            Ok(Some(told)) => self.notices.tell(&told, log.record(rt, hub).is_ok()),
+            Ok(Some(told)) => {
+                let is_recorded = log.record(rt, hub).is_ok();
+                self.notices.tell(self.numbers, &told, is_recorded);
+            }
             Ok(None) | Err(_) => {}
         }
     }
@@ -124,15 +131,16 @@ impl<N: WithBody<Six>, F: Write + Drop> Watcher<N, F> {
         ensures share { result.0 ≡ self.subscriber.share }
         ensures part { result.0.parts ≡ 1 }
         ensures count { result.0.count ≡ 0 }
-        ensures left { result.1 ≡ left_by self }
+        ensures left { result.1 ≡ left_by N.numbers self }
     {
         let Watcher {
             number,
             subscriber,
             notices,
+            numbers,
         } = self;
         let (share, ended) = subscriber.end();
-        (share, Left::new(number, ended, notices))
+        (share, Left::new(number, numbers, ended, notices))
     }
 }
 
@@ -140,9 +148,12 @@ impl<N: WithBody<Six>, F: Write + Drop> Watcher<N, F> {
 #[tactic(auto, using(crate::proofs::Noticed::subscribed))]
 fn subscribe<N: WithBody<Six>, F: Write + Drop>(
     alloc: Global,
+    numbers: LogHeading,
     share: Share<N>,
     watch: Watch<F>,
 ) -> Result<Watcher<N, F>, Refusal>
+    requires numbers { numbers ≡ N.numbers }
+    requires base { numbers.base ≤ 2 ^ 62 }
     requires parts { share.parts ≡ 1 }
     requires count { share.count ≡ 0 }
     requires seen { share.seen ≡ [] }
@@ -164,6 +175,7 @@ fn subscribe<N: WithBody<Six>, F: Write + Drop>(
         number,
         subscriber,
         notices,
+        numbers,
     })
 }
 
@@ -184,14 +196,17 @@ fn ask_all<N: WithBody<Six>>(
     Ok(())
 }
 
-/// Gives each subscriber a part of the hub that has seen what a prefix has, which is no edit. The first question that is refused, as
+/// Gives each subscriber a part of the hub that has seen what a prefix has, which is no edit. Its lines tell edits by these numbers. The first question that is refused, as
 /// `Subscriber::watch` does, is the refusal; or else `NoMemory`.
 pub fn subscribe_all<N: WithBody<Six>, F: Write + Drop>(
     alloc: Global,
+    numbers: LogHeading,
     share: &mut Share<N>,
     start: &HistoryPrefix<N>,
     watches: Vec<Watch<F>>,
 ) -> Result<Vec<Watcher<N, F>>, Refusal>
+    requires numbers { numbers ≡ N.numbers }
+    requires base { numbers.base ≤ 2 ^ 62 }
     requires parts { vec_len watches + 1 ≤ share.old.parts }
     requires unseen { start.now ≡ [] }
     ensures parts { IfOk result (λ watchers. share.new.parts + vec_len watches ≡ share.old.parts) }
@@ -204,7 +219,7 @@ pub fn subscribe_all<N: WithBody<Six>, F: Write + Drop>(
 {
     let mut watchers = Vec::new(alloc);
     for watch in watches {
-        let watcher = subscribe(alloc, share.split_at(start), watch)?;
+        let watcher = subscribe(alloc, numbers, share.split_at(start), watch)?;
         if watchers.push(watcher).is_err() {
             return Err(Refusal::NoMemory);
         }

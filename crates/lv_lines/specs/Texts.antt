@@ -46,6 +46,15 @@ receipt_text (Reserved edit capacity) = reply_line (codes "edit " ++ decimal edi
 receipt_text (Swapped edit first second) = reply_line (codes "edit " ++ decimal edit ++ codes " now " ++ signed_decimal first ++ codes " " ++ signed_decimal second)
 receipt_text (Truncated edit dropped) = reply_line (codes "edit " ++ decimal edit ++ codes " dropped " ++ decimal dropped)
 
+-- the same receipt with this number as its edit's
+abbrev pub numbered : ℕ → Receipt → Receipt
+numbered n (Pushed edit index) = Pushed n index
+numbered n (Popped edit value) = Popped n value
+numbered n (Written edit before) = Written n before
+numbered n (Reserved edit capacity) = Reserved n capacity
+numbered n (Swapped edit first second) = Swapped n first second
+numbered n (Truncated edit dropped) = Truncated n dropped
+
 -- an element that was asked for
 abbrev pub value_text : ℤ → List ℕ
 value_text x = reply_line (codes "value " ++ signed_decimal x)

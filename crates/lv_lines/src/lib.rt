@@ -26,7 +26,7 @@ mod words;
 
 pub use command::Command;
 pub use fault::Fault;
-pub use line_handler::LineHandler;
+pub use line_handler::{LineHandler, make_room};
 pub use line_loop::{MOST_NUMBERED, MOST_READ, serve_lines, serve_lines_within};
 pub use lines::{Line, LineGrammar, read_line, read_line_by};
 pub use named_replies::{put_named, put_note, put_unwatched, put_watching};
@@ -35,8 +35,8 @@ pub use output::{HELD, put, put_element, put_name, put_number, put_wide, write_w
 pub use printing::{COMMAND, print_command, put_command};
 pub use replies::{
     LINE, command_of, put_answer, put_bad, put_capacity, put_counted, put_found, put_receipt,
-    put_refusal, put_refused, put_scan_head, put_settled, put_shown, put_size, put_swapped,
-    put_value, put_valued,
+    put_receipt_at, put_refusal, put_refused, put_scan_head, put_settled, put_shown, put_size,
+    put_swapped, put_value, put_valued,
 };
 pub use reply_buffer::ReplyBuffer;
 pub use script_grammar::ScriptGrammar;

@@ -1,9 +1,12 @@
 //! Who answers lines.
-ghost use Rattle.std.specs.Prelude.{◌≡◌, ℕ, ◌≤◌, List, length, OnOk, IfErr};
-ghost use Rattle.lv_lines.specs.Output.{Puts, PutsFront, SamePlaces};
+ghost use Rattle.std.specs.Prelude.{◌≡◌, ℕ, ◌≤◌, List, [], length, OnOk, IfErr};
+ghost use Rattle.std.specs.Io.KnownBytes.{Appends};
+ghost use Rattle.lv_lines.specs.declared.output.TheConstants.{HELD};
+ghost use Rattle.lv_lines.specs.Output.{HasRoom, Puts, PutsFront, SamePlaces};
 ghost use Rattle.lv_lines.specs.Replies.{Replies, FailsToReply};
 
 use crate::fault::Fault;
+use crate::output::HELD;
 use crate::reply_buffer::ReplyBuffer;
 use std::io::Write;
 
@@ -31,4 +34,44 @@ pub trait LineHandler<W: Write> {
         ensures ok { OnOk result (Replies step (state self.old) number line.now (state self.new) (Puts W.contents buffer.old buffer.new)) }
         ensures fault { IfErr result (λ fault. (fault ≡ Fault.WriteFault)
             × FailsToReply step (state self.old) number line.now (state self.new) (PutsFront W.contents buffer.old buffer.new)) };
+
+    /// Does what has to be done before replies go out: nothing, unless it says otherwise. It has no other fault than `WriteFault`, after
+    /// which no reply goes out.
+    fn before_send(&self) -> Result<(), Fault>
+        ensures { IfErr result (λ fault. fault ≡ Fault.WriteFault) }
+    {
+        Ok(())
+    }
+}
+
+/// Sends replies, once what answers has done what it has to before. A fault is `WriteFault`; what is held then stays.
+pub(crate) fn send<A: LineHandler<W>, W: Write>(
+    handler: &A,
+    buffer: &mut ReplyBuffer<'_, W>,
+) -> Result<(), Fault>
+    ensures places { SamePlaces buffer.old buffer.new }
+    ensures ok { OnOk result ((buffer.new.held.now.items ≡ [])
+        × Appends (W.contents buffer.old.writer.now) (W.contents buffer.new.writer.now) buffer.old.held.now.items) }
+    ensures fault { IfErr result (λ fault. (fault ≡ Fault.WriteFault) × PutsFront W.contents buffer.old buffer.new []) }
+{
+    handler.before_send()?;
+    buffer.send()
+}
+
+/// Sends replies in the same way, if less than `room` bytes are free.
+pub fn make_room<A: LineHandler<W>, W: Write>(
+    handler: &A,
+    buffer: &mut ReplyBuffer<'_, W>,
+    room: usize,
+) -> Result<(), Fault>
+    requires { room ≤ HELD }
+    ensures places { SamePlaces buffer.old buffer.new }
+    ensures ok { OnOk result (Puts W.contents buffer.old buffer.new []) }
+    ensures room { OnOk result (HasRoom buffer.new.held.now room) }
+    ensures fault { IfErr result (λ fault. (fault ≡ Fault.WriteFault) × PutsFront W.contents buffer.old buffer.new []) }
+{
+    if buffer.held.capacity() - buffer.held.len() < room {
+        handler.before_send()?;
+    }
+    buffer.make_room(room)
 }

@@ -4,7 +4,7 @@ ghost use Rattle.std.specs.Io.KnownBytes.{Keeps, Consumes, IsAtEnd};
 ghost use Rattle.lv_lines.specs.Replies.{LinesServed, LinesServedWithin};
 
 use crate::fault::Fault;
-use crate::line_handler::LineHandler;
+use crate::line_handler::{LineHandler, send};
 use crate::line_reader::LineReader;
 use crate::output::HELD;
 use crate::reply_buffer::ReplyBuffer;
@@ -86,17 +86,17 @@ fn read_lines<A: LineHandler<W>, R: Read, W: Write>(
     let mut line_reader = LineReader::new();
     let mut left = most + 1;
     'reading: loop {
-        buffer.send()?;
+        send(handler, &mut buffer)?;
         if left == 0 {
             return Err(Fault::TooLong);
         }
         let count = read_front(reader, chunk, left)?;
         if count == 0 {
             if line_reader.kept.is_empty() {
-                return buffer.send();
+                return send(handler, &mut buffer);
             }
             line_reader.end_line(handler, &[], &mut buffer)?;
-            return buffer.send();
+            return send(handler, &mut buffer);
         }
         line_reader.push_bytes(handler, &chunk[..count], &mut buffer)?;
         left -= count;

@@ -5,7 +5,7 @@ ghost use Rattle.lv_edits.specs.declared.receipt.Receipt.TheVariants as receipt;
 ghost use Rattle.lv_lines.specs.Output.{HasRoom, KeepsRoom};
 ghost use Rattle.lv_lines.specs.Grammar.{command_of};
 ghost use Rattle.lv_lines.specs.Words.{spaced};
-ghost use Rattle.lv_lines.specs.Texts.{answer_text, bad_text, capacity_text, receipt_text, refused_by, refused_text, reply_line, scan_head, settled_text, size_text, shown_text, element_text, unasked_text, value_text};
+ghost use Rattle.lv_lines.specs.Texts.{answer_text, bad_text, capacity_text, numbered, receipt_text, refused_by, refused_text, reply_line, scan_head, settled_text, size_text, shown_text, element_text, unasked_text, value_text};
 
 use crate::backward_line::BackwardLine;
 use crate::lines::Line;
@@ -25,20 +25,46 @@ pub fn put_receipt(held: &mut Vec<u8>, receipt: Receipt)
     ensures len { vec_len held.new ≤ vec_len held.old + LINE }
     ensures room { KeepsRoom held.old held.new }
 {
+    put_receipt_at(held, edit_of(receipt), receipt);
+}
+
+// The number of the edit that a receipt is of.
+#[inline(always)]
+fn edit_of(receipt: Receipt) -> u64
+    ensures { numbered result receipt ≡ receipt }
+{
     match receipt {
-        Receipt::Pushed { edit, index } => put_counted(held, edit.into(), b" at ", index.into()),
-        Receipt::Popped { edit, value } => put_valued(held, edit.into(), b" value ", value),
-        Receipt::Written { edit, before } => put_valued(held, edit.into(), b" was ", before),
-        Receipt::Reserved { edit, capacity } => {
-            put_counted(held, edit.into(), b" capacity ", capacity.into());
+        Receipt::Pushed { edit, .. } => edit.into(),
+        Receipt::Popped { edit, .. } => edit.into(),
+        Receipt::Written { edit, .. } => edit.into(),
+        Receipt::Reserved { edit, .. } => edit.into(),
+        Receipt::Swapped { edit, .. } => edit.into(),
+        Receipt::Truncated { edit, .. } => edit.into(),
+    }
+}
+
+/// What an accepted edit answers where its number is told as another than its own.
+#[inline(always)]
+pub fn put_receipt_at(held: &mut Vec<u8>, number: u64, receipt: Receipt)
+    requires { HasRoom held.old LINE }
+    ensures text { held.new.items ≡ held.old.items ++ receipt_text (numbered number receipt) }
+    ensures len { vec_len held.new ≤ vec_len held.old + LINE }
+    ensures room { KeepsRoom held.old held.new }
+{
+    match receipt {
+        Receipt::Pushed { edit: _, index } => put_counted(held, number, b" at ", index.into()),
+        Receipt::Popped { edit: _, value } => put_valued(held, number, b" value ", value),
+        Receipt::Written { edit: _, before } => put_valued(held, number, b" was ", before),
+        Receipt::Reserved { edit: _, capacity } => {
+            put_counted(held, number, b" capacity ", capacity.into());
         }
         Receipt::Swapped {
-            edit,
+            edit: _,
             first,
             second,
-        } => put_swapped(held, edit.into(), first, second),
-        Receipt::Truncated { edit, dropped } => {
-            put_counted(held, edit.into(), b" dropped ", dropped.into());
+        } => put_swapped(held, number, first, second),
+        Receipt::Truncated { edit: _, dropped } => {
+            put_counted(held, number, b" dropped ", dropped.into());
         }
     }
 }

@@ -1,5 +1,5 @@
 -- What is so of subscribers beside sessions, from their beginning to the transcript.
-use Rattle.std.proofs.Common.{◌≡◌, ℕ, suc, Option, Result, Ok, Err, IfOk, List, [], ◌∷◌, length, map, refl, sym, ap, subst, ◌∙◌}
+use Rattle.std.proofs.Common.{◌≡◌, ℕ, Bool, suc, Option, Result, Ok, Err, IfOk, List, [], ◌∷◌, length, map, refl, sym, ap, subst, ◌∙◌}
 use Rattle.std.specs.Io.KnownBytes.{Appends}
 use Rattle.std.proofs.lemmas.List.Elements.{All-weaker}
 use mathlib.Core.List.{IsPrefix}
@@ -7,6 +7,7 @@ use Rattle.lv_geometry.specs.Bounds.{Bounds}
 use Rattle.lv_edits.specs.declared.edit.Edit.{Edit}
 use Rattle.lv_lines.specs.declared.fault.Fault.{Fault}
 use Rattle.lv_transcript.specs.declared.claimed.Claimed.{Claimed}
+use Rattle.lv_transcript.specs.declared.log_heading.LogHeading.{LogHeading}
 use Rattle.lv_hub.proofs.TruthLaws.{all_true_of_more}
 use Rattle.lv_hub.specs.Counting.{ShareState}
 use Rattle.lv_hub.specs.Noticing.{NoticesState, WatcherState}
@@ -17,9 +18,9 @@ use Rattle.lv_server.specs.Writing.{Writes}
 use Rattle.lv_server.proofs.ServedLaws.{begins}
 
 -- sessions were held, by a share that has seen more
-pub held_more : (limits : Bounds) (begun : List Edit) (share more : ShareState) (olds news : List Sides) (answers : List Claimed) → AreAllHeld limits begun share olds news answers → more.count ≡ share.count → IsPrefix share.seen more.seen
-    → AreAllHeld limits begun more olds news answers
-held_more limits begun share more olds news answers held count seen = record {
+pub held_more : (limits : Bounds) (numbers : LogHeading) (listing : Bool) (begun : List Edit) (share more : ShareState) (olds news : List Sides) (answers : List Claimed) → AreAllHeld limits numbers listing begun share olds news answers → more.count ≡ share.count → IsPrefix share.seen more.seen
+    → AreAllHeld limits numbers listing begun more olds news answers
+held_more limits numbers listing begun share more olds news answers held count seen = record {
   states = held.states;
   held = held.held;
   count = count ∙ held.count;
@@ -29,14 +30,14 @@ held_more limits begun share more olds news answers held count seen = record {
   all_true = all_true_of_more share.seen more.seen answers seen held.all_true;
 }
 
-left_as_many : (watchers : List WatcherState) → length (map left_by watchers) ≡ length watchers
-left_as_many [] = refl
-left_as_many (w ∷ watchers) = ap suc (left_as_many watchers)
+left_as_many : (numbers : LogHeading) (watchers : List WatcherState) → length (map (left_by numbers) watchers) ≡ length watchers
+left_as_many numbers [] = refl
+left_as_many numbers (w ∷ watchers) = ap suc (left_as_many numbers watchers)
 
 -- as many were taken back as began
-pub taken_as_many : (limits : Bounds) (old new : ShareState) (begun watchers : List WatcherState) (left : List LeftState) → AreWatchedFrom limits begun watchers → TakesWatchers old new watchers left
+pub taken_as_many : (limits : Bounds) (numbers : LogHeading) (old new : ShareState) (begun watchers : List WatcherState) (left : List LeftState) → AreWatchedFrom limits numbers begun watchers → TakesWatchers numbers old new watchers left
     → length left ≡ length begun
-taken_as_many limits old new begun watchers left are t = ap length t.left_are ∙ left_as_many watchers ∙ are.len
+taken_as_many limits numbers old new begun watchers left are t = ap length t.left_are ∙ left_as_many numbers watchers ∙ are.len
 
 -- what was told last is of the journal whose transcript was written, where nothing failed
 pub closes_telling : {F : Type 0} (share : ShareState) (seen history journal : List Edit) (listed : List Claimed) (left : List LeftState) (told : List NoticesState) (old new : Option (List ℕ))

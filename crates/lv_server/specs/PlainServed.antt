@@ -10,12 +10,13 @@ use Rattle.lv_edits.specs.Kept.{IsLegalInLimits}
 use Rattle.lv_lines.specs.Input.{lines_of}
 use Rattle.lv_lines.specs.Replies.{Answered}
 use Rattle.lv_transcript.specs.declared.claimed.Claimed.{Claimed}
+use Rattle.lv_transcript.specs.declared.log_heading.LogHeading.{LogHeading}
 use Rattle.lv_transcript.specs.Transcript.{IsTrueAnswer, transcript_text}
 use Rattle.lv_hub.specs.PlainSession.{PlainSessionStep, Seen}
 use Rattle.lv_server.specs.Served.{Sides}
 
--- of a server that began with these edits
-module _ (limits : Bounds) (begun : List Edit) where
+-- of a server that began with these edits, and tells edits by these numbers
+module _ (limits : Bounds) (numbers : LogHeading) (begun : List Edit) where
   -- a session, which had seen these edits and made none, was held to the end of its lines, of which at most 2 ^ 30 bytes were read: each was
   -- answered in turn, by its first 121 bytes, and all replies were written. These are the edits that it had seen then
   pub record IsHeldPlainly (old new : Sides) (seen : Seen) : Type 0 where
@@ -24,7 +25,7 @@ module _ (limits : Bounds) (begun : List Edit) where
     pub at_end : IsAtEnd new.lines
     pub few : length input ≤ 2 ^ 30
     pub text : List ℕ
-    pub answered : Answered (PlainSessionStep limits) record { edits = begun; made = 0 } 1 (map (take 121) (lines_of input)) text seen
+    pub answered : Answered (PlainSessionStep limits numbers) record { edits = begun; made = 0 } 1 (map (take 121) (lines_of input)) text seen
     pub written : Appends old.replies new.replies text
 
   -- so was each of several

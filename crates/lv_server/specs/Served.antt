@@ -1,12 +1,13 @@
 -- What it means that sessions were served: each was a conversation on its own streams, on one vector whose edits are one list; and
 -- what the transcript tells of them.
-use Rattle.std.specs.Prelude.{⊤, ◌≡◌, ◌⊎◌, ℕ, ◌+◌, Option, Result, Ok, List, [], ◌∷◌, All, length}
+use Rattle.std.specs.Prelude.{⊤, ◌≡◌, ◌⊎◌, ℕ, ◌+◌, Bool, Option, Result, Ok, List, [], ◌∷◌, All, length}
 use Rattle.std.specs.List.{flat_map, sum_by}
 use Rattle.std.specs.List.Sorted.{IsPermutation}
 use Rattle.std.specs.Io.KnownBytes.{Appends}
 use mathlib.Core.List.{IsPrefix}
 use Rattle.lv_edits.specs.declared.edit.Edit.{Edit}
 use Rattle.lv_transcript.specs.declared.claimed.Claimed.{Claimed}
+use Rattle.lv_transcript.specs.declared.log_heading.LogHeading.{LogHeading}
 use Rattle.lv_lines.specs.declared.fault.Fault.{Fault}
 use Rattle.lv_lines.specs.declared.fault.Fault.TheVariants.{WriteFault}
 use Rattle.lv_geometry.specs.Bounds.{Bounds}
@@ -39,16 +40,6 @@ answered_to states = flat_map (λ state. state.answers) states
 
 -- of a server that began with these edits
 module _ (limits : Bounds) (begun : List Edit) where
-  -- a session was held to the end of its lines, and came to this state
-  abbrev pub IsHeld : Sides → Sides → SessionState → Type 0
-  IsHeld old new state = LinesServed (SessionStep limits) (new_session begun) state old.lines new.lines old.replies new.replies ended_well
-
-  -- so was each of several
-  abbrev pub AreHeld : List Sides → List Sides → List SessionState → Type 0
-  AreHeld [] [] [] = ⊤
-  AreHeld (old ∷ olds) (new ∷ news) (state ∷ states) = IsHeld old new state × AreHeld olds news states
-  AreHeld _ _ _ = ⊥
-
   -- a text is the transcript of sessions that came to these states. There is one list of edits, which begins with those that the server began
   -- with, and has as many more as the sessions count together; each has seen a beginning of it. The answers are the reductions that they were answered, in the order of their edits, and
   -- at one edit in the order of the sessions.
@@ -66,17 +57,29 @@ module _ (limits : Bounds) (begun : List Edit) where
     pub order : AreInOrder answers
     pub all_true : All (IsTrueAnswer journal) answers
 
-  -- sessions were served: each was held, and their transcript was written, which is sound
-  pub record Served (old new : List Sides) (contents_old contents_new : Option (List ℕ)) : Type 0 where
-    pub states : List SessionState
-    pub held : AreHeld old new states
-    pub text : List ℕ
-    pub transcript : Transcript states text
-    pub sound : IsSoundTranscript text
-    pub written : Appends contents_old contents_new text
-
   -- sessions were not served: nothing was written; or a write failed, and no more than a front of a transcript was
   abbrev pub FailsToServe : Option (List ℕ) → Option (List ℕ) → Fault → Type 0
   FailsToServe contents_old contents_new fault =
       (contents_new ≡ contents_old)
       ⊎ ((fault ≡ WriteFault) × (states : List SessionState) × (text : List ℕ) × Transcript states text × WritesFront contents_old [] contents_new text)
+
+-- of one that tells edits by these numbers, and lists for the transcript what sessions are answered, or not
+module _ (limits : Bounds) (numbers : LogHeading) (listing : Bool) (begun : List Edit) where
+  -- a session was held to the end of its lines, and came to this state
+  abbrev pub IsHeld : Sides → Sides → SessionState → Type 0
+  IsHeld old new state = LinesServed (SessionStep limits numbers listing) (new_session begun) state old.lines new.lines old.replies new.replies ended_well
+
+  -- so was each of several
+  abbrev pub AreHeld : List Sides → List Sides → List SessionState → Type 0
+  AreHeld [] [] [] = ⊤
+  AreHeld (old ∷ olds) (new ∷ news) (state ∷ states) = IsHeld old new state × AreHeld olds news states
+  AreHeld _ _ _ = ⊥
+
+  -- sessions were served: each was held, and their transcript was written, which is sound
+  pub record Served (old new : List Sides) (contents_old contents_new : Option (List ℕ)) : Type 0 where
+    pub states : List SessionState
+    pub held : AreHeld old new states
+    pub text : List ℕ
+    pub transcript : Transcript limits begun states text
+    pub sound : IsSoundTranscript text
+    pub written : Appends contents_old contents_new text

@@ -3,6 +3,7 @@ use Rattle.std.specs.Prelude.{◌≡◌, ◌⊎◌, ℕ, ◌+◌, ◌<◌, Bool,
 use mathlib.Core.List.{IsPrefix}
 use Rattle.lv_edits.specs.declared.edit.Edit.{Edit}
 use Rattle.lv_transcript.specs.declared.claimed.Claimed.{Claimed}
+use Rattle.lv_transcript.specs.declared.log_heading.LogHeading.{LogHeading}
 use Rattle.lv_geometry.specs.Bounds.{Bounds}
 use Rattle.lv_lines.specs.Replies.{LinesServed}
 use Rattle.lv_transcript.specs.Transcript.{IsTrueAnswer}
@@ -32,20 +33,6 @@ begun_at begun sides = record { share = record { parts = 1; count = 0; seen = be
 abbrev pub state_of : Sitting → Option SessionState
 state_of ended = option_map (session_at ended.share) ended.answers
 
--- unless it ended with a fault, a session was held from where it began
-abbrev pub IsHeldFrom : Bounds → Sitting → Sitting → Type 0
-IsHeldFrom limits begun ended =
-    IfSome (state_of ended) (λ state. LinesServed (SessionStep limits) (session_at begun.share []) state begun.sides.lines ended.sides.lines begun.sides.replies ended.sides.replies ended_well)
-
--- one that waits was held, or waits still, and nothing is changed; nor is one that doesn't wait
-abbrev pub IsHeldOnce : Bounds → Sitting → Sitting → Type 0
-IsHeldOnce limits old new = (new ≡ old) ⊎ ((old.waits ≡ true) × (new.waits ≡ false) × IsHeldFrom limits old new)
-
--- so it is with each of several
-pub record AreHeldFrom (limits : Bounds) (begun ended : List Sitting) : Type 0 where
-  pub len : length ended ≡ length begun
-  pub each : (i : ℕ) (b e : Sitting) → i < length begun → IsHeldOnce limits (slice_index_or begun i b) (slice_index_or ended i e)
-
 -- a share took those of sessions in, none of which ended with a fault. It has seen what each of them had
 pub record TakesBack (old new : ShareState) (ended : List Sitting) (answers : List Claimed) (sides : List Sides) : Type 0 where
   pub states : List SessionState
@@ -58,12 +45,28 @@ pub record TakesBack (old new : ShareState) (ended : List Sitting) (answers : Li
   pub all_true : All (IsTrueAnswer new.seen) answers
   pub sides_are : sides ≡ map (λ ended. ended.sides) ended
 
--- sessions of a server that began with these edits were held, and their shares are one
-pub record AreAllHeld (limits : Bounds) (begun : List Edit) (share : ShareState) (old new : List Sides) (answers : List Claimed) : Type 0 where
-  pub states : List SessionState
-  pub held : AreHeld limits begun old new states
-  pub count : share.count ≡ length begun + counted_by states
-  pub starts : IsPrefix begun share.seen
-  pub seen : All (λ state. IsPrefix state.seen share.seen) states
-  pub answers_are : answers ≡ answered_to states
-  pub all_true : All (IsTrueAnswer share.seen) answers
+-- of a server that tells edits by these numbers, and lists for the transcript what sessions are answered, or not
+module _ (limits : Bounds) (numbers : LogHeading) (listing : Bool) where
+  -- unless it ended with a fault, a session was held from where it began
+  abbrev pub IsHeldFrom : Sitting → Sitting → Type 0
+  IsHeldFrom begun ended =
+      IfSome (state_of ended) (λ state. LinesServed (SessionStep limits numbers listing) (session_at begun.share []) state begun.sides.lines ended.sides.lines begun.sides.replies ended.sides.replies ended_well)
+
+  -- one that waits was held, or waits still, and nothing is changed; nor is one that doesn't wait
+  abbrev pub IsHeldOnce : Sitting → Sitting → Type 0
+  IsHeldOnce old new = (new ≡ old) ⊎ ((old.waits ≡ true) × (new.waits ≡ false) × IsHeldFrom old new)
+
+  -- so it is with each of several
+  pub record AreHeldFrom (begun ended : List Sitting) : Type 0 where
+    pub len : length ended ≡ length begun
+    pub each : (i : ℕ) (b e : Sitting) → i < length begun → IsHeldOnce (slice_index_or begun i b) (slice_index_or ended i e)
+
+  -- sessions of a server that began with these edits were held, and their shares are one
+  pub record AreAllHeld (begun : List Edit) (share : ShareState) (old new : List Sides) (answers : List Claimed) : Type 0 where
+    pub states : List SessionState
+    pub held : AreHeld limits numbers listing begun old new states
+    pub count : share.count ≡ length begun + counted_by states
+    pub starts : IsPrefix begun share.seen
+    pub seen : All (λ state. IsPrefix state.seen share.seen) states
+    pub answers_are : answers ≡ answered_to states
+    pub all_true : All (IsTrueAnswer share.seen) answers

@@ -1,6 +1,6 @@
 //! The clients of a server: sessions and subscribers, from when their files are open until each has left.
 
-ghost use Rattle.std.specs.Prelude.{◌≡◌, ◌+◌, ◌<◌, ◌≤◌, ℕ, All, HoldsAt, IfErr, IfOk, List, OnOk, [], false, length, map, take, true, vec_capacity, vec_len};
+ghost use Rattle.std.specs.Prelude.{◌≡◌, ◌+◌, ◌<◌, ◌≤◌, ◌^◌, ℕ, All, HoldsAt, IfErr, IfOk, List, OnOk, [], false, length, map, take, true, vec_capacity, vec_len};
 ghost use Rattle.lv_transcript.specs.Joined.{in_a_row};
 ghost use Rattle.lv_hub.specs.Watched.{WatchState};
 ghost use Rattle.lv_hub.specs.Watchers.{watcher_at};
@@ -11,7 +11,9 @@ ghost use Rattle.lv_transcript.specs.Transcribing.{IsUnused};
 use crate::opened_client::OpenedClient;
 use crate::program_error::{ProgramError, Reason};
 use lv_bodies::Six;
-use lv_hub::{HistoryPrefix, Leaving, Share, Watch, Watched, Watcher, WithBody, subscribe_all};
+use lv_hub::{
+    HistoryPrefix, Leaving, LogHeading, Share, Watch, Watched, Watcher, WithBody, subscribe_all,
+};
 use lv_lines::HELD;
 use lv_script::Fault;
 use lv_transcript::{Queue, TranscriptWriter};
@@ -212,14 +214,17 @@ pub struct Present<N: WithBody<Six>, F: Read + Write + Drop> {
 }
 
 /// Gives each session a part of the hub, which has seen what the share has, and each subscriber one that has seen what a prefix has, which is
-/// no edit. The share keeps one. Memory that is
+/// no edit, and the numbers that edits are told by. The share keeps one. Memory that is
 /// wanting is the fault, `NoMemory`; a question that no `watch` would take is `ReadFault`, though no file brings one here.
 pub fn begin_all<N: WithBody<Six>, F: Read + Write + Drop>(
     alloc: Global,
+    numbers: LogHeading,
     share: &mut Share<N>,
     start: &HistoryPrefix<N>,
     clients: Clients<F>,
 ) -> Result<Present<N, F>, ProgramError>
+    requires numbers { numbers ≡ N.numbers }
+    requires base { numbers.base ≤ 2 ^ 62 }
     requires parts { share.old.parts ≡ vec_len clients.streams + vec_len clients.watches + 1 }
     requires unseen { start.now ≡ [] }
     ensures parts { IfOk result (λ present. share.new.parts ≡ 1) }
@@ -235,7 +240,7 @@ pub fn begin_all<N: WithBody<Six>, F: Read + Write + Drop>(
     let Ok(leaving) = Leaving::with_room(alloc, watches.len()) else {
         return Err(ProgramError::memory());
     };
-    let watchers = subscribe(alloc, share, start, watches)?;
+    let watchers = subscribe(alloc, numbers, share, start, watches)?;
     let tasks = share_out(alloc, share, streams)?;
     Ok(Present {
         tasks,
@@ -247,10 +252,13 @@ pub fn begin_all<N: WithBody<Six>, F: Read + Write + Drop>(
 // Gives each subscriber a part of the hub that has seen what a prefix has, which is no edit.
 fn subscribe<N: WithBody<Six>, F: Read + Write + Drop>(
     alloc: Global,
+    numbers: LogHeading,
     share: &mut Share<N>,
     start: &HistoryPrefix<N>,
     watches: Vec<Watch<F>>,
 ) -> Result<Vec<Watcher<N, F>>, ProgramError>
+    requires numbers { numbers ≡ N.numbers }
+    requires base { numbers.base ≤ 2 ^ 62 }
     requires parts { vec_len watches + 1 ≤ share.old.parts }
     requires unseen { start.now ≡ [] }
     ensures parts { IfOk result (λ watchers. share.new.parts + vec_len watches ≡ share.old.parts) }
@@ -258,7 +266,7 @@ fn subscribe<N: WithBody<Six>, F: Read + Write + Drop>(
     ensures seen { IfOk result (λ watchers. share.new.seen ≡ share.old.seen) }
     ensures begun { IfOk result (λ watchers. watchers.items ≡ map (λ w. watcher_at (record { questions = w.questions.items; contents = F.contents w.notes })) watches.items) }
 {
-    match subscribe_all(alloc, share, start, watches) {
+    match subscribe_all(alloc, numbers, share, start, watches) {
         Ok(watchers) => Ok(watchers),
         Err(refusal) => Err(ProgramError::unwatched(refusal)),
     }

@@ -1,12 +1,14 @@
 //! The server: sessions in threads of their own, with workers and subscribers beside them, and the transcript of it all.
 
-ghost use Rattle.std.specs.Prelude.{◌≡◌, ◌+◌, ◌≤◌, IfErr, IfOk, IfSome, OnOk, [], Some, is_some, length, map, vec_capacity, vec_len};
+ghost use Rattle.std.specs.Prelude.{◌≡◌, ◌+◌, ◌≤◌, ◌^◌, IfErr, IfOk, IfSome, OnOk, [], Some, is_some, length, map, true, vec_capacity, vec_len};
 ghost use Rattle.lv_transcript.specs.Joined.{in_a_row};
 ghost use Rattle.lv_server.specs.PlainServed.{ServedPlainly};
 ghost use Rattle.lv_server.specs.Starting.{Records, start_of};
 ghost use Rattle.lv_transcript.specs.Transcribing.{IsUnused};
 ghost use Rattle.lv_server.specs.Served.{FailsToServe, Served, Sides};
 ghost use Rattle.lv_server.specs.Tasks.{AreAllHeld};
+ghost use Rattle.lv_hub.specs.Numbering.{from_the_first};
+ghost use Rattle.lv_hub.specs.Session.{are_listed};
 ghost use Rattle.lv_hub.specs.Watched.{ServedWatched, WatchState};
 ghost use Rattle.lv_hub.specs.Watchers.{AreLeft};
 
@@ -19,7 +21,8 @@ use lv_bodies::Six;
 use lv_edits::Edit;
 use lv_geometry::{Limits, Refusal};
 use lv_hub::{
-    Begun, Hub, Leaving, Opened, OperationLog, Share, Watch, Watched, WithBody, leave_all,
+    Begun, Hub, KeptAnswers, Leaving, LogHeading, Opened, OperationLog, SessionPlace, Share, Watch,
+    Watched, WithBody, from_the_first, leave_all,
 };
 use lv_script::Fault;
 use std::alloc::Global;
@@ -71,21 +74,23 @@ pub fn serve<
     writer: &mut W,
 ) -> Result<(Vec<OpenedClient<F>>, Option<V>, Vec<Watched<F>>), ProgramError>
     requires { IfSome file (λ _. begun.now ≡ []) }
-    ensures served { IfOk result (λ done. Served plan.limits begun.now (map (λ s. record { lines = F.remaining s.lines; replies = F.contents s.replies }) streams.items) (map (λ s. record { lines = F.remaining s.lines; replies = F.contents s.replies }) done.0.items) (W.contents writer.old) (W.contents writer.new)) }
+    ensures served { IfOk result (λ done. Served plan.limits from_the_first true begun.now (map (λ s. record { lines = F.remaining s.lines; replies = F.contents s.replies }) streams.items) (map (λ s. record { lines = F.remaining s.lines; replies = F.contents s.replies }) done.0.items) (W.contents writer.old) (W.contents writer.new)) }
     // Each reply is the plain interpreter's, at a beginning of one list of edits.
-    ensures plain { IfOk result (λ done. ServedPlainly plan.limits begun.now (map (λ s. record { lines = F.remaining s.lines; replies = F.contents s.replies }) streams.items) (map (λ s. record { lines = F.remaining s.lines; replies = F.contents s.replies }) done.0.items) (W.contents writer.old) (W.contents writer.new)) }
+    ensures plain { IfOk result (λ done. ServedPlainly plan.limits from_the_first begun.now (map (λ s. record { lines = F.remaining s.lines; replies = F.contents s.replies }) streams.items) (map (λ s. record { lines = F.remaining s.lines; replies = F.contents s.replies }) done.0.items) (W.contents writer.old) (W.contents writer.new)) }
     ensures failed { IfErr result (λ failure. FailsToServe plan.limits begun.now (W.contents writer.old) (W.contents writer.new) failure.fault) }
     ensures back { IfOk result (λ done. is_some done.1 ≡ is_some file) }
     // The file has got the edits of the transcript that was written, and true answers between them, in the order of time.
     ensures recorded { IfOk result (λ done. IfSome done.1 (λ kept. Records (start_of V.contents file) (V.contents kept) (W.contents writer.old) (W.contents writer.new))) }
     // Each subscriber's lines are plain values at edits of the transcript that was written, of which the last stand at its end.
-    ensures watched { IfOk result (λ done. ServedWatched (map (λ w. record { questions = w.questions.items; contents = F.contents w.notes }) watches.items) (map (λ w. w.notices) done.2.items) (W.contents writer.old) (W.contents writer.new)) }
+    ensures watched { IfOk result (λ done. ServedWatched from_the_first (map (λ w. record { questions = w.questions.items; contents = F.contents w.notes }) watches.items) (map (λ w. w.notices) done.2.items) (W.contents writer.old) (W.contents writer.new)) }
 {
     let parts = streams.len() as u64 + watches.len() as u64 + 1;
     serve_as::<Brand, Brand, F, V, W, R>(
         rt,
         alloc,
         plan,
+        from_the_first(),
+        KeptAnswers::Listed(plan.most),
         begun,
         Clients { streams, watches },
         file,
@@ -109,6 +114,8 @@ fn serve_as<
     rt: &R,
     alloc: Global,
     plan: Plan,
+    numbers: LogHeading,
+    keeps: KeptAnswers,
     begun: &[Edit],
     clients: Clients<F>,
     file: Option<V>,
@@ -124,17 +131,23 @@ fn serve_as<
     requires one_each { parts ≡ vec_len clients.streams + vec_len clients.watches + 1 }
     requires limits { plan.limits ≡ N.limits }
     requires history { opened ≡ N.history }
+    requires numbers { numbers ≡ N.numbers }
+    requires base { numbers.base ≤ 2 ^ 62 }
+    requires lists { are_listed keeps ≡ N.lists }
     requires body { N.body ≡ Some body }
     requires start { IfSome file (λ file. K.start ≡ V.contents file) }
     requires fresh { IfSome file (λ _. begun.now ≡ []) }
-    ensures served { IfOk result (λ done. Served plan.limits begun.now (map (λ s. record { lines = F.remaining s.lines; replies = F.contents s.replies }) clients.streams.items) (map (λ s. record { lines = F.remaining s.lines; replies = F.contents s.replies }) done.0.items) (W.contents writer.old) (W.contents writer.new)) }
+    ensures served { IfOk result (λ done. Served plan.limits N.numbers N.lists begun.now (map (λ s. record { lines = F.remaining s.lines; replies = F.contents s.replies }) clients.streams.items) (map (λ s. record { lines = F.remaining s.lines; replies = F.contents s.replies }) done.0.items) (W.contents writer.old) (W.contents writer.new)) }
     ensures failed { IfErr result (λ failure. FailsToServe plan.limits begun.now (W.contents writer.old) (W.contents writer.new) failure.fault) }
     ensures back { IfOk result (λ done. is_some done.1 ≡ is_some file) }
     ensures recorded { IfOk result (λ done. IfSome done.1 (λ kept. Records K.start (V.contents kept) (W.contents writer.old) (W.contents writer.new))) }
-    ensures watched { IfOk result (λ done. ServedWatched (map (λ w. record { questions = w.questions.items; contents = F.contents w.notes }) clients.watches.items) (map (λ w. w.notices) done.2.items) (W.contents writer.old) (W.contents writer.new)) }
+    ensures watched { IfOk result (λ done. ServedWatched N.numbers (map (λ w. record { questions = w.questions.items; contents = F.contents w.notes }) clients.watches.items) (map (λ w. w.notices) done.2.items) (W.contents writer.old) (W.contents writer.new)) }
 {
     let (hub, mut share) = Hub::<Six, N>::new(alloc, plan.limits, body, blank, parts, opened);
-    match serve_all::<N, K, F, V, R>(rt, alloc, plan, begun, &hub, &mut share, clients, file) {
+    let served = serve_all::<N, K, F, V, R>(
+        rt, alloc, plan, numbers, keeps, begun, &hub, &mut share, clients, file,
+    );
+    match served {
         Ok((all, log, leaving)) => {
             let Gathered {
                 mut answers,
@@ -171,6 +184,8 @@ fn serve_all<
     rt: &R,
     alloc: Global,
     plan: Plan,
+    numbers: LogHeading,
+    keeps: KeptAnswers,
     begun: &[Edit],
     hub: &Hub<Six, N>,
     share: &mut Share<N>,
@@ -179,6 +194,9 @@ fn serve_all<
 ) -> Result<(Gathered<F>, Option<OperationLog<N, V, K>>, Leaving<F>), ProgramError>
     requires start { IfSome file (λ file. K.start ≡ V.contents file) }
     requires fresh { IfSome file (λ _. begun.now ≡ []) }
+    requires numbers { numbers ≡ N.numbers }
+    requires base { numbers.base ≤ 2 ^ 62 }
+    requires lists { are_listed keeps ≡ N.lists }
     requires all { share.old.parts ≡ N.parts }
     requires parts { share.old.parts ≡ vec_len clients.streams + vec_len clients.watches + 1 }
     requires count { share.old.count ≡ 0 }
@@ -186,8 +204,8 @@ fn serve_all<
     ensures parts { IfOk result (λ all. share.new.parts ≡ share.old.parts) }
     ensures unused { IfOk result (λ all. IsUnused all.0.transcript) }
     ensures logged { IfOk result (λ all. is_some all.1 ≡ is_some file) }
-    ensures held { IfOk result (λ all. AreAllHeld N.limits begun.now share.new (map (λ s. record { lines = F.remaining s.lines; replies = F.contents s.replies }) clients.streams.items) (map (λ s. record { lines = F.remaining s.lines; replies = F.contents s.replies }) all.0.streams.items) (in_a_row all.0.answers.items)) }
-    ensures left { IfOk result (λ all. AreLeft share.new.seen (map (λ w. record { questions = w.questions.items; contents = F.contents w.notes }) clients.watches.items) all.2.left.items) }
+    ensures held { IfOk result (λ all. AreAllHeld N.limits N.numbers N.lists begun.now share.new (map (λ s. record { lines = F.remaining s.lines; replies = F.contents s.replies }) clients.streams.items) (map (λ s. record { lines = F.remaining s.lines; replies = F.contents s.replies }) all.0.streams.items) (in_a_row all.0.answers.items)) }
+    ensures left { IfOk result (λ all. AreLeft N.numbers share.new.seen (map (λ w. record { questions = w.questions.items; contents = F.contents w.notes }) clients.watches.items) all.2.left.items) }
     ensures none { IfOk result (λ all. all.2.watched.items ≡ []) }
     ensures room { IfOk result (λ all. vec_len all.2.left ≤ vec_capacity all.2.watched) }
 {
@@ -195,13 +213,20 @@ fn serve_all<
     begin(rt, hub, share, begun)?;
     let log = begin_log::<N, K, V, R>(rt, alloc, file, hub, share)?;
     let room = Gathered::with_room(alloc, clients.streams.len())?;
-    let present = begin_all(alloc, share, &start, clients)?;
+    let present = begin_all(alloc, numbers, share, &start, clients)?;
     let Present {
         tasks,
         watchers,
         leaving,
     } = present;
-    let (held, watchers) = hold_all(rt, alloc, plan, hub, log.as_ref(), tasks, watchers);
+    let place = SessionPlace {
+        rt,
+        hub,
+        alloc,
+        numbers,
+        keeps,
+    };
+    let (held, watchers) = hold_all(&place, plan, log.as_ref(), tasks, watchers);
     let all = take_back(room, share, held)?;
     let left = leave_all(leaving, share, watchers);
     Ok((all, unlocked(rt, hub, log), left))

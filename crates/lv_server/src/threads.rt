@@ -28,30 +28,24 @@ pub fn hold_all<
     V: Write + Send + Drop,
     R: Threads + Wait + Sync,
 >(
-    rt: &R,
-    alloc: Global,
+    place: &SessionPlace<'_, N, R>,
     plan: Plan,
-    hub: &Hub<Six, N>,
     log: Option<&Mutex<OperationLog<N, V, K>>>,
     tasks: Vec<Task<N, F>>,
     watchers: Vec<Watcher<N, F>>,
 ) -> (Vec<Task<N, F>>, Vec<Watcher<N, F>>)
-    ensures held { AreHeldFrom N.limits tasks.items result.0.items }
-    ensures watched { AreWatchedFrom N.limits watchers.items result.1.items }
+    ensures held { AreHeldFrom N.limits N.numbers N.lists tasks.items result.0.items }
+    ensures watched { AreWatchedFrom N.limits N.numbers watchers.items result.1.items }
 {
-    let Plan {
-        workers,
-        turns,
-        most,
-        ..
-    } = plan;
+    let Plan { workers, turns, .. } = plan;
+    let (rt, alloc, hub) = (place.rt, place.alloc, place.hub);
     let ((), ended) = thread::join(
         rt,
         move || refresh(rt, alloc, hub, workers, turns),
         move || -> (Vec<Task<N, F>>, Vec<Watcher<N, F>>)
-            ensures { AreHeldFrom N.limits tasks.items result.0.items
-                × AreWatchedFrom N.limits watchers.items result.1.items }
-        { hold_beside(rt, alloc, hub, log, most, tasks, watchers) },
+            ensures { AreHeldFrom N.limits N.numbers N.lists tasks.items result.0.items
+                × AreWatchedFrom N.limits N.numbers watchers.items result.1.items }
+        { hold_beside(place, log, tasks, watchers) },
     );
     ended
 }
@@ -83,29 +77,27 @@ fn hold_beside<
     V: Write + Send + Drop,
     R: Threads + Wait + Sync,
 >(
-    rt: &R,
-    alloc: Global,
-    hub: &Hub<Six, N>,
+    place: &SessionPlace<'_, N, R>,
     log: Option<&Mutex<OperationLog<N, V, K>>>,
-    most: usize,
     tasks: Vec<Task<N, F>>,
     watchers: Vec<Watcher<N, F>>,
 ) -> (Vec<Task<N, F>>, Vec<Watcher<N, F>>)
-    ensures held { AreHeldFrom N.limits tasks.items result.0.items }
-    ensures watched { AreWatchedFrom N.limits watchers.items result.1.items }
+    ensures held { AreHeldFrom N.limits N.numbers N.lists tasks.items result.0.items }
+    ensures watched { AreWatchedFrom N.limits N.numbers watchers.items result.1.items }
 {
     if watchers.len() == 0 {
-        let held = hold_each(rt, alloc, hub, log, most, tasks);
+        let held = hold_each(place, log, tasks);
         return (held, watchers);
     }
+    let (rt, alloc, hub) = (place.rt, place.alloc, place.hub);
     let (watchers, held) = thread::join(
         rt,
         move || -> Vec<Watcher<N, F>>
-            ensures { AreWatchedFrom N.limits watchers.items result.items }
+            ensures { AreWatchedFrom N.limits N.numbers watchers.items result.items }
         { watch_all(rt, alloc, hub, log, watchers) },
         move || -> Vec<Task<N, F>>
-            ensures { AreHeldFrom N.limits tasks.items result.items }
-        { hold_each(rt, alloc, hub, log, most, tasks) },
+            ensures { AreHeldFrom N.limits N.numbers N.lists tasks.items result.items }
+        { hold_each(place, log, tasks) },
     );
     (held, watchers)
 }
@@ -124,7 +116,7 @@ fn watch_all<
     log: Option<&Mutex<OperationLog<N, V, K>>>,
     watchers: Vec<Watcher<N, F>>,
 ) -> Vec<Watcher<N, F>>
-    ensures { AreWatchedFrom N.limits watchers.items result.items }
+    ensures { AreWatchedFrom N.limits N.numbers watchers.items result.items }
 {
     let mut watchers = watchers;
     watch_each(rt, alloc, hub, log, watchers.as_mut_slice());
@@ -145,7 +137,7 @@ fn watch_each<
     log: Option<&Mutex<OperationLog<N, V, K>>>,
     watchers: &mut [Watcher<N, F>],
 )
-    ensures { AreWatchedFrom N.limits watchers.old watchers.new }
+    ensures { AreWatchedFrom N.limits N.numbers watchers.old watchers.new }
 {
     let threads = watchers.len().max(1);
     thread::for_each_mut(
@@ -165,18 +157,15 @@ fn hold_each<
     V: Write + Send + Drop,
     R: Threads + Wait + Sync,
 >(
-    rt: &R,
-    alloc: Global,
-    hub: &Hub<Six, N>,
+    place: &SessionPlace<'_, N, R>,
     log: Option<&Mutex<OperationLog<N, V, K>>>,
-    most: usize,
     tasks: Vec<Task<N, F>>,
 ) -> Vec<Task<N, F>>
-    ensures { AreHeldFrom N.limits tasks.items result.items }
+    ensures { AreHeldFrom N.limits N.numbers N.lists tasks.items result.items }
 {
     let mut tasks = tasks;
-    hold_in_place(rt, alloc, hub, log, most, tasks.as_mut_slice());
-    hub.dismiss(rt);
+    hold_in_place(place, log, tasks.as_mut_slice());
+    place.hub.dismiss(place.rt);
     tasks
 }
 
@@ -189,18 +178,15 @@ fn hold_in_place<
     V: Write + Send + Drop,
     R: Threads + Wait + Sync,
 >(
-    rt: &R,
-    alloc: Global,
-    hub: &Hub<Six, N>,
+    place: &SessionPlace<'_, N, R>,
     log: Option<&Mutex<OperationLog<N, V, K>>>,
-    most: usize,
     tasks: &mut [Task<N, F>],
 )
-    ensures { AreHeldFrom N.limits tasks.old tasks.new }
+    ensures { AreHeldFrom N.limits N.numbers N.lists tasks.old tasks.new }
 {
     let threads = tasks.len();
-    hold_waiting(rt, alloc, hub, log, most, tasks, threads, false);
-    hold_waiting(rt, alloc, hub, log, most, tasks, 1, true);
+    hold_waiting(place, log, tasks, threads, false);
+    hold_waiting(place, log, tasks, 1, true);
 }
 
 // Holds each that waits, in so many threads, where they can be made. Threads take memory before they begin, and so does each session that has
@@ -212,48 +198,46 @@ fn hold_waiting<
     V: Write + Send + Drop,
     R: Threads + Wait + Sync,
 >(
-    rt: &R,
-    alloc: Global,
-    hub: &Hub<Six, N>,
+    place: &SessionPlace<'_, N, R>,
     log: Option<&Mutex<OperationLog<N, V, K>>>,
-    most: usize,
     tasks: &mut [Task<N, F>],
     threads: usize,
     frees: bool,
 )
-    ensures { AreHeldFrom N.limits tasks.old tasks.new }
+    ensures { AreHeldFrom N.limits N.numbers N.lists tasks.old tasks.new }
 {
     let held = |_: usize, task: &mut Task<N, F>|
-        ensures { IsHeldOnce N.limits task.old task.new }
+        ensures { IsHeldOnce N.limits N.numbers N.lists task.old task.new }
     {
-        let place = SessionPlace {
-            rt,
-            hub,
-            alloc,
-            most,
-        };
         if frees {
             task.spare = None;
         }
         hold(place, log, task)
     };
-    thread::for_each_mut(rt, tasks, threads.max(1), &held);
+    thread::for_each_mut(place.rt, tasks, threads.max(1), &held);
 }
 
 // Holds a session that waits. Where it finds no memory to begin with it waits still, and nothing is changed.
 fn hold<N: WithBody<Six>, K: Begun, F: Read + Write + Drop, V: Write + Drop, R: Wait>(
-    place: SessionPlace<'_, N, R>,
+    place: &SessionPlace<'_, N, R>,
     log: Option<&Mutex<OperationLog<N, V, K>>>,
     task: &mut Task<N, F>,
 )
-    ensures { IsHeldOnce N.limits task.old task.new }
+    ensures { IsHeldOnce N.limits N.numbers N.lists task.old task.new }
 {
     if task.ended.is_some() {
         return;
     }
     let (rt, hub) = (place.rt, place.hub);
+    let here = SessionPlace {
+        rt,
+        hub,
+        alloc: place.alloc,
+        numbers: place.numbers,
+        keeps: place.keeps,
+    };
     let answers = run_session(
-        place,
+        here,
         &log,
         &mut task.share,
         &mut task.streams.lines,

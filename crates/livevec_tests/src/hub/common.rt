@@ -1,18 +1,38 @@
 //! What the tests share: what they do to a hub and see of it, and a place where threads wait.
-ghost use Rattle.std.specs.Prelude.{◌≡◌};
+ghost use Rattle.std.specs.Prelude.{◌≡◌, true};
+ghost use Rattle.lv_hub.specs.Numbering.{from_the_first};
 
 use crate::same::assert_same;
-use lv_bodies::{Body, Sum};
+use lv_bodies::{Body, Six, Sum};
 use lv_edits::{Edit, Receipt};
 use lv_geometry::Refusal;
 use lv_hub::*;
 use lv_refresh::Outcome;
 use lv_summary::Accepted;
+use std::alloc::Global;
 use std::process::Abort;
 use std::sync::Wait;
 use std::sync::atomic::{AtomicBool, Ordering};
 use std::test::Fail;
 use std::thread;
+
+// Where a session is held at a hub whose edits are told by their own numbers: it lists all reductions that it is answered.
+pub(crate) fn place_of<'a, N: WithBody<Six>, R: Wait>(
+    rt: &'a R,
+    alloc: Global,
+    hub: &'a Hub<Six, N>,
+) -> SessionPlace<'a, N, R>
+    requires numbers { N.numbers ≡ from_the_first }
+    requires lists { N.lists ≡ true }
+{
+    SessionPlace {
+        rt,
+        hub,
+        alloc,
+        numbers: from_the_first(),
+        keeps: KeptAnswers::Listed(usize::MAX),
+    }
+}
 
 // Pushes equal elements in turn, and sees that each is accepted.
 pub(crate) fn push_all<B: Body, N: WithBody<B>, R: Wait + Abort>(

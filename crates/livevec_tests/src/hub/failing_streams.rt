@@ -1,6 +1,8 @@
 //! Tests of one session at a hub whose reader and writer take any steps, and may fail.
-ghost use Rattle.std.specs.Prelude.{◌≡◌, ◌<◌, Some};
+ghost use Rattle.std.specs.Prelude.{◌≡◌, ◌<◌, Some, true};
+ghost use Rattle.lv_hub.specs.Numbering.{from_the_first};
 
+use super::common::place_of;
 use crate::same::assert_same;
 use crate::takers::{Takes, all, writer};
 use lv_bodies::{Kind, Shown, Six};
@@ -52,17 +54,13 @@ fn hold_alone<N: WithBody<Six>, R: Wait>(
     requires one { blank.parts ≡ 1 }
     requires limits { limits ≡ N.limits }
     requires history { opened ≡ N.history }
+    requires numbers { N.numbers ≡ from_the_first }
+    requires lists { N.lists ≡ true }
     requires body { N.body ≡ Some body }
 {
     let (hub, mut share) = Hub::<Six, N>::new(alloc, limits, body, blank, 1, opened);
-    let place = SessionPlace {
-        rt,
-        hub: &hub,
-        alloc,
-        most: usize::MAX,
-    };
     let answers = run_session(
-        place,
+        place_of(rt, alloc, &hub),
         &NoLog,
         &mut share,
         &mut streams.reader,

@@ -1,5 +1,6 @@
 //! Tests that a hub's lock is free while the file of its log is written, and that no reply goes out before what it tells is there.
-ghost use Rattle.std.specs.Prelude.{◌≡◌, None, Some};
+ghost use Rattle.std.specs.Prelude.{◌≡◌, None, Some, true};
+ghost use Rattle.lv_hub.specs.Numbering.{from_the_first};
 
 use super::common::*;
 use crate::same::assert_same;
@@ -127,9 +128,7 @@ fn assert_heard(rt: &impl Abort, heard: Heard, replies: &[u8]) {
 
 // Holds a session that pushes, on a share of its own, which it hands back.
 fn hold_pushing<N: WithBody<Six>, K: Begun, R: Wait>(
-    rt: &R,
-    alloc: Global,
-    hub: &Hub<Six, N>,
+    place: SessionPlace<'_, N, R>,
     log: &Mutex<OperationLog<N, HeldFile<'_>, K>>,
     share: Share<N>,
     stage: &Stage,
@@ -140,13 +139,7 @@ fn hold_pushing<N: WithBody<Six>, K: Begun, R: Wait>(
     let mut reader = b"push 5\n".as_slice();
     let mut replies = LateReplies {
         stage,
-        bytes: Vec::new(alloc),
-    };
-    let place = SessionPlace {
-        rt,
-        hub,
-        alloc,
-        most: usize::MAX,
+        bytes: Vec::new(place.alloc),
     };
     let ended = run_session(place, log, &mut share, &mut reader, &mut replies);
     (share, (ended, replies.bytes))
@@ -154,9 +147,7 @@ fn hold_pushing<N: WithBody<Six>, K: Begun, R: Wait>(
 
 // Holds a session that scans while the file is written, on a share of its own, which it hands back. A scan isn't recorded.
 fn hold_scanning<N: WithBody<Six>, K: Begun, R: Wait>(
-    rt: &R,
-    alloc: Global,
-    hub: &Hub<Six, N>,
+    place: SessionPlace<'_, N, R>,
     log: &Mutex<OperationLog<N, HeldFile<'_>, K>>,
     share: Share<N>,
     stage: &Stage,
@@ -170,13 +161,7 @@ fn hold_scanning<N: WithBody<Six>, K: Begun, R: Wait>(
     };
     let mut replies = ReleasingReplies {
         stage,
-        bytes: Vec::new(alloc),
-    };
-    let place = SessionPlace {
-        rt,
-        hub,
-        alloc,
-        most: usize::MAX,
+        bytes: Vec::new(place.alloc),
     };
     let ended = run_session(place, log, &mut share, &mut reader, &mut replies);
     (share, (ended, replies.bytes))
@@ -185,8 +170,7 @@ fn hold_scanning<N: WithBody<Six>, K: Begun, R: Wait>(
 // Holds both, each in a thread of its own; both shares together are handed back.
 fn hold_two<N: WithBody<Six> + Send + Sync, K: Begun + Send + Sync, R: Threads + Wait + Sync>(
     rt: &R,
-    alloc: Global,
-    hub: &Hub<Six, N>,
+    places: (SessionPlace<'_, N, R>, SessionPlace<'_, N, R>),
     log: &Mutex<OperationLog<N, HeldFile<'_>, K>>,
     share: Share<N>,
     stage: &Stage,
@@ -196,10 +180,11 @@ fn hold_two<N: WithBody<Six> + Send + Sync, K: Begun + Send + Sync, R: Threads +
 {
     let mut mine = share;
     let theirs = mine.split();
+    let (here, there) = places;
     let ((mut all, one), (part, other)) = thread::join(
         rt,
-        move || hold_pushing(rt, alloc, hub, log, mine, stage),
-        move || hold_scanning(rt, alloc, hub, log, theirs, stage),
+        move || hold_pushing(here, log, mine, stage),
+        move || hold_scanning(there, log, theirs, stage),
     );
     all.join(part);
     (all, one, other)
@@ -242,6 +227,8 @@ fn hold_logged<N: WithBody<Six> + Send + Sync, K: Begun + Send + Sync, R: Thread
     requires two { blank.parts ≡ 2 }
     requires limits { limits ≡ N.limits }
     requires history { opened ≡ N.history }
+    requires numbers { N.numbers ≡ from_the_first }
+    requires lists { N.lists ≡ true }
     requires body { N.body ≡ Some body }
     requires start { K.start ≡ None }
 {
@@ -253,7 +240,8 @@ fn hold_logged<N: WithBody<Six> + Send + Sync, K: Begun + Send + Sync, R: Thread
     match OperationLog::<N, HeldFile<'_>, K>::begin(rt, alloc, file, &hub, &share) {
         Ok(log) => {
             let log = Mutex::new(log);
-            let (share, one, other) = hold_two(rt, alloc, &hub, &log, share, stage);
+            let places = (place_of(rt, alloc, &hub), place_of(rt, alloc, &hub));
+            let (share, one, other) = hold_two(rt, places, &log, share, stage);
             Ok((one, other, end_log(hub, share, log.into_inner())))
         }
         Err(error) => {

@@ -1,6 +1,8 @@
 //! Tests of two sessions at a hub: they share one history.
-ghost use Rattle.std.specs.Prelude.{◌≡◌, ◌<◌, Some};
+ghost use Rattle.std.specs.Prelude.{◌≡◌, ◌<◌, Some, true};
+ghost use Rattle.lv_hub.specs.Numbering.{from_the_first};
 
+use super::common::place_of;
 use crate::same::assert_same;
 use crate::takers::all;
 use lv_bodies::Six;
@@ -38,23 +40,15 @@ struct Heard {
 
 // Holds a session over some lines, on a share of its own, which it hands back.
 fn hold<N: WithBody<Six>, R: Wait>(
-    rt: &R,
-    alloc: Global,
-    hub: &Hub<Six, N>,
+    place: SessionPlace<'_, N, R>,
     share: Share<N>,
     lines: &str,
 ) -> (Share<N>, Heard)
     ensures { result.0.parts ≡ share.parts }
 {
     let mut share = share;
-    let mut replies = Vec::new(alloc);
+    let mut replies = Vec::new(place.alloc);
     let mut reader = lines.as_bytes();
-    let place = SessionPlace {
-        rt,
-        hub,
-        alloc,
-        most: usize::MAX,
-    };
     let answers = run_session(place, &NoLog, &mut share, &mut reader, &mut replies);
     (share, Heard { answers, replies })
 }
@@ -62,8 +56,7 @@ fn hold<N: WithBody<Six>, R: Wait>(
 // Holds two sessions, each in a thread of its own; both shares together are handed back.
 fn hold_two<N: WithBody<Six> + Send + Sync, R: Threads + Wait + Sync>(
     rt: &R,
-    alloc: Global,
-    hub: &Hub<Six, N>,
+    places: (SessionPlace<'_, N, R>, SessionPlace<'_, N, R>),
     share: Share<N>,
     lines: (&str, &str),
 ) -> (Share<N>, Heard, Heard)
@@ -72,11 +65,12 @@ fn hold_two<N: WithBody<Six> + Send + Sync, R: Threads + Wait + Sync>(
 {
     let mut mine = share;
     let theirs = mine.split();
+    let (here, there) = places;
     let (first, second) = lines;
     let ((mut all, one), (part, other)) = thread::join(
         rt,
-        move || hold(rt, alloc, hub, mine, first),
-        move || hold(rt, alloc, hub, theirs, second),
+        move || hold(here, mine, first),
+        move || hold(there, theirs, second),
     );
     all.join(part);
     (all, one, other)
@@ -195,10 +189,13 @@ fn one_history<N: WithBody<Six> + Send + Sync, R: Threads + Wait + Abort + Sync>
     requires two { blank.parts ≡ 2 }
     requires limits { limits ≡ N.limits }
     requires history { opened ≡ N.history }
+    requires numbers { N.numbers ≡ from_the_first }
+    requires lists { N.lists ≡ true }
     requires body { N.body ≡ Some body }
 {
     let (hub, share) = Hub::<Six, N>::new(alloc, limits, body, blank, 2, opened);
-    let (share, one, other) = hold_two(rt, alloc, &hub, share, lines);
+    let places = (place_of(rt, alloc, &hub), place_of(rt, alloc, &hub));
+    let (share, one, other) = hold_two(rt, places, share, lines);
     let live = hub.close(share);
     let checked = check_history(rt, alloc, live.journal(), one, other);
     drop(live);

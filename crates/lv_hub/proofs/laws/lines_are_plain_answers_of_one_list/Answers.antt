@@ -3,4 +3,4 @@ use Rattle.lv_hub.proofs.WatchedLaws.{watched_of_one_list}
 use Rattle.lv_hub.proofs.laws.lines_are_plain_answers_of_one_list.Goals as goal
 
 pub returns : goal.returns
-returns c = λ limits old new edits watches watchers left told. watched_of_one_list limits old new edits watches watchers left told
+returns c = λ limits numbers old new edits watches watchers left told. watched_of_one_list limits numbers old new edits watches watchers left told

@@ -7,6 +7,6 @@ abbrev pub invariant-loop-watcher : goal.invariant-loop-watcher
 invariant-loop-watcher g l =
     (goal.iterator-loop-watcher g).can_next l.watcher-iterator ×
     (goal.iterator-loop-watcher g).is_finite l.watcher-iterator ×
-    TakesWatchers l.fn.share l.share l.yielded l.left.items ×
+    TakesWatchers g.N.Naming.numbers l.fn.share l.share l.yielded l.left.items ×
     (vec_len l.left ≡ length l.yielded) ×
     (vec_capacity l.left ≡ vec_capacity l.fn.room.left)

@@ -33,12 +33,12 @@ returns-in_err-send g c =
     let contents = g.W.Write.contents c.args.writer.now in
     let loop = c.reading.invariant in
     let here = point_of (g.A.LineHandler.state c.reading.handler) c.reading.line_reader g.W.Write.contents c.reading.buffer in
-    let sent = g.W.Write.contents c.send.new.self.writer.now in
-    let held = c.send.new.self.held.now.items in
+    let sent = g.W.Write.contents c.send.new.buffer.writer.now in
+    let held = c.send.new.buffer.held.now.items in
     let unsent = c.in_err-send.ensures.fault in
     rw (p.1, p.2, unsent.0)
     (in_place (λ w. LinesServedWithin step {T = Unit {0}} c.args.most state (g.A.LineHandler.state c.reading.handler) (g.R.Read.remaining c.args.reader.now) (g.R.Read.remaining c.reading.reader) contents (g.W.Write.contents w) (Err WriteFault))
-    _ _ _ c.send.new.self.writer.now (sym (c.send.ensures.places.0 ∙ loop.place)) (search rules)
+    _ _ _ c.send.new.buffer.writer.now (sym (c.send.ensures.places.0 ∙ loop.place)) (search rules)
     (LinesServed-unsent step state contents c.args.most _ _ loop.seen loop.read record here { contents = sent; held = held } (omega (arith, loop.count)) (PushesBytesFront-sent step (start_of state contents) here sent held loop.seen loop.fed unsent.1)))
 
 pub returns-in_err-count : goal.returns-in_err-count
@@ -49,14 +49,14 @@ returns-in_err-count g c =
     let contents = g.W.Write.contents c.args.writer.now in
     let loop = c.reading.invariant in
     let here = point_of (g.A.LineHandler.state c.reading.handler) c.reading.line_reader g.W.Write.contents c.reading.buffer in
-    let sent = g.W.Write.contents c.send.new.self.writer.now in
-    let held = c.send.new.self.held.now.items in
+    let sent = g.W.Write.contents c.send.new.buffer.writer.now in
+    let held = c.send.new.buffer.held.now.items in
     let fed = PushesBytes-sent step (start_of state contents) here sent held loop.seen loop.fed c.in_ok-send.ensures.ok in
     let mid = record here { contents = sent; held = held } in
     let failed = c.in_err-count.ensures.fault in
     rw (p.1, p.2, failed.0)
     (in_place (λ w. LinesServedWithin step {T = Unit {0}} c.args.most state (g.A.LineHandler.state c.reading.handler) (g.R.Read.remaining c.args.reader.now) (g.R.Read.remaining c.read_front.new.reader) contents (g.W.Write.contents w) (Err ReadFault))
-    _ _ _ c.send.new.self.writer.now (sym (c.send.ensures.places.0 ∙ loop.place)) (search rules)
+    _ _ _ c.send.new.buffer.writer.now (sym (c.send.ensures.places.0 ∙ loop.place)) (search rules)
     (LinesServed-unread step state contents c.args.most _ _ loop.seen (Consumes-kept _ _ _ loop.seen loop.read failed.1) mid (omega (arith, loop.count)) fed c.in_ok-send.ensures.ok.0))
 
 pub returns-then-is_empty : goal.returns-then-is_empty
@@ -66,8 +66,8 @@ returns-then-is_empty g c =
     let contents = g.W.Write.contents c.args.writer.now in
     let loop = c.reading.invariant in
     let here = point_of (g.A.LineHandler.state c.reading.handler) c.reading.line_reader g.W.Write.contents c.reading.buffer in
-    let sent = g.W.Write.contents c.send.new.self.writer.now in
-    let held = c.send.new.self.held.now.items in
+    let sent = g.W.Write.contents c.send.new.buffer.writer.now in
+    let held = c.send.new.buffer.held.now.items in
     let fed = PushesBytes-sent step (start_of state contents) here sent held loop.seen loop.fed c.in_ok-send.ensures.ok in
     let mid = record here { contents = sent; held = held } in
     let none : take c.in_ok-count.count c.read_front.new.chunk ≡ [] = rw c.if-count-eq0.true refl in
@@ -75,8 +75,8 @@ returns-then-is_empty g c =
     let end = c.in_ok-count.ensures.end c.if-count-eq0.true in
     let nothing : (length mid.kept == 0) ≡ true = sym c.is_empty.ensures ∙ c.if-is_empty.true in
     in_place (λ w. LinesServedWithin step {T = Unit {0}} c.args.most state (g.A.LineHandler.state c.reading.handler) (g.R.Read.remaining c.args.reader.now) (g.R.Read.remaining c.read_front.new.reader) contents (g.W.Write.contents w) c.send-then-is_empty.result)
-    _ _ _ c.send-then-is_empty.new.self.writer.now (sym (c.send-then-is_empty.ensures.places.0 ∙ c.send.ensures.places.0 ∙ loop.place)) (search rules)
-    (LinesServed-last step state contents c.args.most _ _ loop.seen read end (omega (arith, loop.count)) loop.seen mid (g.W.Write.contents c.send-then-is_empty.new.self.writer.now) c.send-then-is_empty.new.self.held.now.items c.send-then-is_empty.result (lines_of-whole loop.seen mid.kept fed.kept nothing) fed c.send-then-is_empty.ensures.ok c.send-then-is_empty.ensures.fault)
+    _ _ _ c.send-then-is_empty.new.buffer.writer.now (sym (c.send-then-is_empty.ensures.places.0 ∙ c.send.ensures.places.0 ∙ loop.place)) (search rules)
+    (LinesServed-last step state contents c.args.most _ _ loop.seen read end (omega (arith, loop.count)) loop.seen mid (g.W.Write.contents c.send-then-is_empty.new.buffer.writer.now) c.send-then-is_empty.new.buffer.held.now.items c.send-then-is_empty.result (lines_of-whole loop.seen mid.kept fed.kept nothing) fed c.send-then-is_empty.ensures.ok c.send-then-is_empty.ensures.fault)
 
 pub end_line-requires-clause-number : goal.end_line-requires-clause-number
 end_line-requires-clause-number g c =
@@ -95,8 +95,8 @@ returns-in_err-end_line g c =
     let contents = g.W.Write.contents c.args.writer.now in
     let loop = c.reading.invariant in
     let here = point_of (g.A.LineHandler.state c.reading.handler) c.reading.line_reader g.W.Write.contents c.reading.buffer in
-    let sent = g.W.Write.contents c.send.new.self.writer.now in
-    let held = c.send.new.self.held.now.items in
+    let sent = g.W.Write.contents c.send.new.buffer.writer.now in
+    let held = c.send.new.buffer.held.now.items in
     let fed = PushesBytes-sent step (start_of state contents) here sent held loop.seen loop.fed c.in_ok-send.ensures.ok in
     let mid = record here { contents = sent; held = held } in
     let none : take c.in_ok-count.count c.read_front.new.chunk ≡ [] = rw c.if-count-eq0.true refl in
@@ -117,8 +117,8 @@ returns-then-count-eq0 g c =
     let contents = g.W.Write.contents c.args.writer.now in
     let loop = c.reading.invariant in
     let here = point_of (g.A.LineHandler.state c.reading.handler) c.reading.line_reader g.W.Write.contents c.reading.buffer in
-    let sent = g.W.Write.contents c.send.new.self.writer.now in
-    let held = c.send.new.self.held.now.items in
+    let sent = g.W.Write.contents c.send.new.buffer.writer.now in
+    let held = c.send.new.buffer.held.now.items in
     let fed = PushesBytes-sent step (start_of state contents) here sent held loop.seen loop.fed c.in_ok-send.ensures.ok in
     let mid = record here { contents = sent; held = held } in
     let none : take c.in_ok-count.count c.read_front.new.chunk ≡ [] = rw c.if-count-eq0.true refl in
@@ -128,8 +128,8 @@ returns-then-count-eq0 g c =
     let some : (length mid.kept == 0) ≡ false = sym c.is_empty.ensures ∙ c.if-is_empty.false in
     let answered = c.in_ok-end_line.ensures in
     in_place (λ w. LinesServedWithin step {T = Unit {0}} c.args.most state (g.A.LineHandler.state c.end_line.new.handler) (g.R.Read.remaining c.args.reader.now) (g.R.Read.remaining c.read_front.new.reader) contents (g.W.Write.contents w) c.send-then-count-eq0.result)
-    _ _ _ c.send-then-count-eq0.new.self.writer.now (sym (c.send-then-count-eq0.ensures.places.0 ∙ c.end_line.ensures.places.0 ∙ c.send.ensures.places.0 ∙ loop.place)) (search rules)
-    (LinesServed-last step state contents c.args.most _ _ loop.seen read end (omega (arith, loop.count)) (loop.seen ++ 10 ∷ []) next (g.W.Write.contents c.send-then-count-eq0.new.self.writer.now) c.send-then-count-eq0.new.self.held.now.items c.send-then-count-eq0.result (lines_of-ended loop.seen mid.kept fed.kept some) (PushesBytes-trans step (start_of state contents) mid next loop.seen (10 ∷ []) fed (PushesBytes-line step mid next [] loop.ready.begun refl answered.ok answered.number answered.kept)) c.send-then-count-eq0.ensures.ok c.send-then-count-eq0.ensures.fault)
+    _ _ _ c.send-then-count-eq0.new.buffer.writer.now (sym (c.send-then-count-eq0.ensures.places.0 ∙ c.end_line.ensures.places.0 ∙ c.send.ensures.places.0 ∙ loop.place)) (search rules)
+    (LinesServed-last step state contents c.args.most _ _ loop.seen read end (omega (arith, loop.count)) (loop.seen ++ 10 ∷ []) next (g.W.Write.contents c.send-then-count-eq0.new.buffer.writer.now) c.send-then-count-eq0.new.buffer.held.now.items c.send-then-count-eq0.result (lines_of-ended loop.seen mid.kept fed.kept some) (PushesBytes-trans step (start_of state contents) mid next loop.seen (10 ∷ []) fed (PushesBytes-line step mid next [] loop.ready.begun refl answered.ok answered.number answered.kept)) c.send-then-count-eq0.ensures.ok c.send-then-count-eq0.ensures.fault)
 
 pub push_bytes-requires-clause-number : goal.push_bytes-requires-clause-number
 push_bytes-requires-clause-number g c =
@@ -149,8 +149,8 @@ returns-in_err-push_bytes g c =
     let contents = g.W.Write.contents c.args.writer.now in
     let loop = c.reading.invariant in
     let here = point_of (g.A.LineHandler.state c.reading.handler) c.reading.line_reader g.W.Write.contents c.reading.buffer in
-    let sent = g.W.Write.contents c.send.new.self.writer.now in
-    let held = c.send.new.self.held.now.items in
+    let sent = g.W.Write.contents c.send.new.buffer.writer.now in
+    let held = c.send.new.buffer.held.now.items in
     let fed = PushesBytes-sent step (start_of state contents) here sent held loop.seen loop.fed c.in_ok-send.ensures.ok in
     let mid = record here { contents = sent; held = held } in
     let next = point_of (g.A.LineHandler.state c.push_bytes.new.handler) c.push_bytes.new.self g.W.Write.contents c.push_bytes.new.buffer in
@@ -169,8 +169,8 @@ reading-preserved g c =
     let contents = g.W.Write.contents c.args.writer.now in
     let loop = c.reading.invariant in
     let here = point_of (g.A.LineHandler.state c.reading.handler) c.reading.line_reader g.W.Write.contents c.reading.buffer in
-    let sent = g.W.Write.contents c.send.new.self.writer.now in
-    let held = c.send.new.self.held.now.items in
+    let sent = g.W.Write.contents c.send.new.buffer.writer.now in
+    let held = c.send.new.buffer.held.now.items in
     let fed = PushesBytes-sent step (start_of state contents) here sent held loop.seen loop.fed c.in_ok-send.ensures.ok in
     let mid = record here { contents = sent; held = held } in
     let next = point_of (g.A.LineHandler.state c.push_bytes.new.handler) c.push_bytes.new.self g.W.Write.contents c.push_bytes.new.buffer in
@@ -192,10 +192,10 @@ returns-then-left-eq0 g c =
     let contents = g.W.Write.contents c.args.writer.now in
     let loop = c.reading.invariant in
     let here = point_of (g.A.LineHandler.state c.reading.handler) c.reading.line_reader g.W.Write.contents c.reading.buffer in
-    let sent = g.W.Write.contents c.send.new.self.writer.now in
-    let held = c.send.new.self.held.now.items in
+    let sent = g.W.Write.contents c.send.new.buffer.writer.now in
+    let held = c.send.new.buffer.held.now.items in
     let fed = PushesBytes-sent step (start_of state contents) here sent held loop.seen loop.fed c.in_ok-send.ensures.ok in
     let mid = record here { contents = sent; held = held } in
     in_place (λ w. LinesServedWithin step {T = Unit {0}} c.args.most state (g.A.LineHandler.state c.reading.handler) (g.R.Read.remaining c.args.reader.now) (g.R.Read.remaining c.reading.reader) contents (g.W.Write.contents w) (Err TooLong))
-    _ _ _ c.send.new.self.writer.now (sym (c.send.ensures.places.0 ∙ loop.place)) (search rules)
+    _ _ _ c.send.new.buffer.writer.now (sym (c.send.ensures.places.0 ∙ loop.place)) (search rules)
     (LinesServed-too_long step state contents c.args.most _ _ loop.seen loop.read mid (omega (arith, loop.count, c.if-left-eq0.true)) fed c.in_ok-send.ensures.ok.0)

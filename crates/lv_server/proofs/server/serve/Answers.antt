@@ -8,4 +8,4 @@ pub serve_as-requires-clause-start : goal.serve_as-requires-clause-start
 serve_as-requires-clause-start g c = λ _ _. starts_there g.V.Write.contents c.args.file
 
 pub returns-clause-plain : goal.returns-clause-plain
-returns-clause-plain g c = IfOk-weaker _ _ _ (λ done. served_plainly _ _ _ _ _ _) c.serve_as.ensures.served
+returns-clause-plain g c = IfOk-weaker _ _ _ (λ done. served_plainly _ _ _ _ _ _ _ _) c.serve_as.ensures.served

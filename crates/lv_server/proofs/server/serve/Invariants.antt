@@ -1,5 +1,6 @@
 -- The ghosts that are handed on in `serve`: holds a session for each pair of streams, in a thread of its own where one can be made, with workers beside them.
-use Rattle.std.proofs.Common.{Some}
+use Rattle.std.proofs.Common.{Some, true}
+use Rattle.lv_hub.specs.Numbering.{from_the_first}
 use Rattle.lv_server.specs.Starting.{start_of}
 use Rattle.lv_server.proofs.server.serve.Given as goal
 
@@ -7,7 +8,7 @@ abbrev pub ghosts-serve_as-N-Ledger : goal.ghosts-serve_as-N-Ledger
 ghosts-serve_as-N-Ledger g a = record { name = a.blank.name; parts = a.blank.parts }
 
 abbrev pub ghosts-serve_as-N-Naming : goal.ghosts-serve_as-N-Naming
-ghosts-serve_as-N-Naming g a = record { limits = a.plan.limits; history = a.opened }
+ghosts-serve_as-N-Naming g a = record { limits = a.plan.limits; history = a.opened; numbers = from_the_first; lists = true }
 
 abbrev pub ghosts-serve_as-N-WithBody : goal.ghosts-serve_as-N-WithBody
 ghosts-serve_as-N-WithBody g a = record { body = Some a.body }

@@ -30,20 +30,20 @@ returns-clause-held g c =
     let left = c.leave_all-left.ensures.left in
     let begun = c.args.begun.now in
     let made = c.in_ok-begin.ensures in
-    held_more g.N.Naming.limits begun _ _ _ _ _
-    (all_held_by _ g.N.Naming.limits begun _ _ _ c.args.clients.streams.items _ _ _ _ c.in_ok-present.ensures.sessions c.hold_all-held.ensures.held c.in_ok-all.ensures.back (c.in_ok-present.ensures.count ∙ ap (λ s. s.count) made) c.in_ok-present.ensures.seen (ap (λ s. s.seen) made))
+    held_more g.N.Naming.limits g.N.Naming.numbers g.N.Naming.lists begun _ _ _ _ _
+    (all_held_by _ g.N.Naming.limits g.N.Naming.numbers g.N.Naming.lists begun _ _ _ c.args.clients.streams.items _ _ _ _ c.in_ok-present.ensures.sessions c.hold_all-held.ensures.held c.in_ok-all.ensures.back (c.in_ok-present.ensures.count ∙ ap (λ s. s.count) made) c.in_ok-present.ensures.seen (ap (λ s. s.seen) made))
     left.count left.more
 
 -- what each subscriber has left is told of all that was seen
 pub returns-clause-left : goal.returns-clause-left
 returns-clause-left g c =
-    all_left _ g.N.Naming.limits _ _ c.args.clients.watches.items _ _ _ c.in_ok-present.ensures.watchers c.hold_all-held.ensures.watched c.leave_all-left.ensures.left
+    all_left _ g.N.Naming.limits g.N.Naming.numbers _ _ c.args.clients.watches.items _ _ _ c.in_ok-present.ensures.watchers c.hold_all-held.ensures.watched c.leave_all-left.ensures.left
 
 -- and what they tell last has room
 pub returns-clause-room : goal.returns-clause-room
 returns-clause-room g c =
     let many = watched_as_many _ _ c.args.clients.watches.items c.in_ok-present.ensures.watchers in
-    let left = taken_as_many g.N.Naming.limits _ _ _ _ _ c.hold_all-held.ensures.watched c.leave_all-left.ensures.left in
+    let left = taken_as_many g.N.Naming.limits g.N.Naming.numbers _ _ _ _ _ c.hold_all-held.ensures.watched c.leave_all-left.ensures.left in
     omega (arith, many, left, c.in_ok-present.ensures.room, ap vec_capacity c.leave_all-left.ensures.room, c.args.clients.watches.ok.0, c.leave_all-left.result.left.ok.0)
 
 -- a log is kept where there is a file for it

@@ -1,12 +1,13 @@
 -- The ghosts that are handed on in `ask_hub`: whose ledger, names and body the hub has.
-use Rattle.std.proofs.Common.{Some}
+use Rattle.std.proofs.Common.{Some, true}
+use Rattle.lv_hub.specs.Numbering.{from_the_first}
 use Rattle.starved.proofs.hubs.ask_hub.Given as goal
 
 abbrev pub ghosts-of_hub-N-Ledger : goal.ghosts-of_hub-N-Ledger
 ghosts-of_hub-N-Ledger g a = record { name = a.blank.name; parts = a.blank.parts }
 
 abbrev pub ghosts-of_hub-N-Naming : goal.ghosts-of_hub-N-Naming
-ghosts-of_hub-N-Naming g a = record { limits = a.limits; history = a.opened }
+ghosts-of_hub-N-Naming g a = record { limits = a.limits; history = a.opened; numbers = from_the_first; lists = true }
 
 abbrev pub ghosts-of_hub-N-WithBody : goal.ghosts-of_hub-N-WithBody
 ghosts-of_hub-N-WithBody g a = record { body = Some a.body }

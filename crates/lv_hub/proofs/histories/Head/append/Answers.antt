@@ -33,6 +33,7 @@ invariant_of-self g c =
       e.0 ∙ i.3,
       next.ensures.right,
       sym added.permit,
+      omega (arith, i.0, ap length c.self.view_is, c.requires),
     )
 
 pub returns : goal.returns

@@ -1,5 +1,5 @@
 -- Proof of `Opened::named`: the history under a name: the right to add to it, and a prefix that has seen nothing.
-use Rattle.std.proofs.Common.{◌≡◌, ℕ, List, [], sym, ap, ◌∙◌, length, subst}
+use Rattle.std.proofs.Common.{◌≡◌, ℕ, List, [], sym, ap, arith, ◌∙◌, length, subst}
 use Rattle.lv_hub.specs.declared.entries.Entry.{Entry}
 use Rattle.lv_hub.specs.Growing.{IsUnspent, edits_by, head_of, permit_after}
 use Rattle.lv_hub.proofs.PermitLaws.{unspent_adds_nothing}
@@ -17,7 +17,7 @@ invariant_of-head g c =
     let name = c.self.view_is ∙ c.requires in
     let book = ap (λ h. h.book) name in
     let nothing = none_yet _ _ c.self.inside.seen.log (ap (λ h. h.permit) name) i.3 in
-    (ap length (sym nothing.0), i.0 ∙ ap head_of book, i.1 ∙ book, book, i.2, nothing.1)
+    (ap length (sym nothing.0), i.0 ∙ ap head_of book, i.1 ∙ book, book, i.2, nothing.1, omega arith)
 
 pub returns-clause-head : goal.returns-clause-head
 returns-clause-head g c =

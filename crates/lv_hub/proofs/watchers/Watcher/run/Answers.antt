@@ -3,4 +3,4 @@ use Rattle.lv_hub.proofs.Noticed.{watches_both}
 use Rattle.lv_hub.proofs.watchers.Watcher.run.Goals as goal
 
 pub returns : goal.returns
-returns g c = watches_both g.N.Naming.limits c.args.self.now c.turns.new.self c.look.new.self c.turns.ensures c.look.ensures
+returns g c = watches_both g.N.Naming.limits g.N.Naming.numbers c.args.self.now c.turns.new.self c.look.new.self c.turns.ensures c.look.ensures

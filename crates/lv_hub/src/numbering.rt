@@ -1,0 +1,25 @@
+//! The numbers that edits are told by.
+ghost use Rattle.std.specs.Prelude.{◌≡◌, ◌≤◌, ◌^◌};
+ghost use Rattle.lv_hub.specs.Numbering.{from_the_first, told_number};
+
+use lv_transcript::LogHeading;
+
+/// No log came before: each edit of the hub is told by its own number.
+pub fn from_the_first() -> LogHeading
+    ensures { result ≡ from_the_first }
+{
+    LogHeading {
+        base: 0,
+        elements: 0,
+    }
+}
+
+/// The number that an edit of the hub is told by.
+#[inline(always)]
+pub(crate) fn told_number(numbers: LogHeading, edit: u64) -> u64
+    requires base { numbers.base ≤ 2 ^ 62 }
+    requires few { edit ≤ 2 ^ 62 }
+    ensures { result ≡ told_number numbers edit }
+{
+    numbers.base + edit.saturating_sub(numbers.elements.into())
+}
