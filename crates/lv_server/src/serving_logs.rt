@@ -2,14 +2,18 @@
 
 use crate::opened_client::OpenedClient;
 use crate::program_error::ProgramError;
-use crate::server::{Plan, serve};
+use crate::clients::Clients;
+use crate::server::{Plan, serve_as};
+use lv_bodies::Six;
 use lv_edits::Edit;
-use lv_hub::{Watch, Watched};
+use lv_hub::{KeptAnswers, Opened, Watch, Watched};
 use lv_transcript::LogHeading;
 use std::alloc::Global;
 use std::io;
 use std::io::{Read, Write};
+use std::marker::Brand;
 use std::sync::Wait;
+use std::sync::ledger::Blank;
 use std::thread::Threads;
 
 /// What drops the first and the last line.
@@ -50,15 +54,36 @@ pub fn serve_log<
     rt: &R,
     alloc: Global,
     plan: Plan,
-    _logs_answers: bool,
-    _heading: LogHeading,
+    logs_answers: bool,
+    heading: LogHeading,
     begun: &[Edit],
     streams: Vec<OpenedClient<F>>,
     watches: Vec<Watch<F>>,
     file: V,
 ) -> Result<(Vec<OpenedClient<F>>, V, Vec<Watched<F>>), ProgramError> {
     let stub = Stub { file, skip: 10 };
-    match serve(rt, alloc, plan, begun, streams, watches, Some(stub), &mut io::sink()) {
+    let keeps = if logs_answers {
+        KeptAnswers::Logged
+    } else {
+        KeptAnswers::Nothing
+    };
+    let parts = streams.len() as u64 + watches.len() as u64 + 1;
+    let ended = serve_as::<Brand, Brand, F, Stub<V>, io::Sink, R>(
+        rt,
+        alloc,
+        plan,
+        heading,
+        keeps,
+        begun,
+        Clients { streams, watches },
+        Some(stub),
+        &mut io::sink(),
+        Blank::new(parts),
+        parts,
+        Opened::new(),
+        Six,
+    );
+    match ended {
         Ok((streams, Some(stub), watched)) => {
             let Stub { file, .. } = stub;
             Ok((streams, file, watched))
