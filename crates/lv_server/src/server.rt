@@ -103,7 +103,7 @@ pub fn serve<
 }
 
 // Serves them on a hub of this name.
-pub(crate) fn serve_as<
+fn serve_as<
     N: WithBody<Six> + Send + Sync,
     K: Begun + Send + Sync,
     F: Read + Write + Send + Drop,
