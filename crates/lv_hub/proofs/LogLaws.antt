@@ -1,18 +1,26 @@
 -- What a log is given is true in the order of time.
-use Rattle.std.proofs.Common.{◌≡◌, ℕ, zero, suc, ◌+◌, ◌≤◌, Option, Some, None, Result, Ok, Err, IfSome, option_map, List, [], ◌∷◌, ◌++◌, length, map, take, drop, refl, sym, ap, ◌∙◌, subst, inl, inr, arith, append_assoc, append-nil, take-append-drop}
+use Rattle.std.proofs.Common.{◌≡◌, ℕ, zero, suc, ◌+◌, ◌≤◌, Bool, false, true, is_some, Option, Some, None, Result, Ok, Err, IfSome, option_map, List, [], ◌∷◌, ◌++◌, All, length, map, take, drop, refl, sym, ap, ◌∙◌, subst, inl, inr, arith, append_assoc, append-nil, take-append-drop}
+use Rattle.std.proofs.lemmas.List.Elements.{All-cons, All-head, All-nil, All-tail}
 use Rattle.std.proofs.lemmas.List.{drop-append-le, length_push, map-append, take-append-le}
+use Rattle.std.proofs.lemmas.Grind.{flat_map-append}
 use Rattle.std.proofs.Math.Seq.{drop-length}
+use Rattle.std.specs.Io.KnownBytes.{Appends}
 use mathlib.Core.List.{IsPrefix}
 use Rattle.lv_edits.specs.declared.edit.Edit.{Edit}
 use Rattle.lv_edits.specs.Kept.{CarriesElement}
 use Rattle.lv_lines.specs.declared.fault.Fault.{Fault}
+use Rattle.lv_lines.specs.declared.fault.Fault.TheVariants.{WriteFault}
 use Rattle.lv_transcript.specs.declared.claimed.Claimed.{Claimed}
-use Rattle.lv_transcript.specs.Fronts.{AreTrueAfter, Entry, edits_in}
-use Rattle.lv_transcript.specs.Transcribing.{Adds, EndsWhole, GotFront, WasGiven, WritingState, whole_bytes}
-use Rattle.lv_transcript.specs.Transcript.{AreAccepted, AreAcceptedAfter, IsTrueAnswer, greatest}
+use Rattle.lv_lines.specs.Output.{Writes}
+use Rattle.lv_lines.proofs.OutputLemmas.{Writes-all}
+use Rattle.lv_transcript.specs.declared.log_heading.LogHeading.{LogHeading}
+use Rattle.lv_transcript.specs.Fronts.{AreTrueAfter, AreTrueOf, Entry, IsFrontOf, IsPush, IsWholeFront, edits_in, entry_line}
+use Rattle.lv_transcript.specs.Transcribing.{Adds, EndsWhole, GoesOn, GotFrontOf, IsUnused, IsUnusedOf, WasGiven, WasGivenOf, WriterState, WritingState, WroteOrHolds, all_entries, front_bytes_of}
+use Rattle.lv_transcript.specs.Transcript.{AreAccepted, AreAcceptedAfter, IsTrueAnswer, ended, greatest, heading_line}
+use Rattle.lv_transcript.proofs.TranscribedFronts.{entry_lines_front}
 use Rattle.lv_hub.specs.declared.log_entry.LogEntry.{LogEntry}
 use Rattle.lv_hub.specs.declared.log_entry.LogEntry.TheVariants as logged
-use Rattle.lv_hub.specs.Logging.{CameSince, HasFront, IsLogOf, LogEnds, LogState, TapState, Taps, entry_of, last_after, with_entry}
+use Rattle.lv_hub.specs.Logging.{CameSince, EndsText, HasFront, IsLogOf, IsLogOfEdits, LogEnds, LogState, LogThere, MayGoOn, TapState, Taps, edits_there, entry_of, heading_of, last_after, there_of, with_entry}
 use Rattle.lv_hub.proofs.PrefixLaws.{prefix_self, prefix_whole}
 
 -- ---- entries
@@ -114,6 +122,69 @@ came_by (Some t) journal entries result is same taps =
     subst (λ (o : Option ℕ). IfSome o (λ from. CameSince journal from (map entry_of entries))) (sym is)
     (subst (λ (es : List LogEntry). CameSince journal t.from (map entry_of es)) (sym same) taps)
 
+-- ---- what goes on behind a log
+
+-- where none was there, a transcript is begun
+pub no_log_goes_on : MayGoOn None
+no_log_goes_on = record { all_true = tt; elements = omega arith }
+
+-- edits, as entries
+pub edits_of_edits : (edits : List Edit) → edits_in (map inl edits) ≡ edits
+edits_of_edits [] = refl
+edits_of_edits (e ∷ edits) = ap (λ (es : List Edit). e ∷ es) (edits_of_edits edits)
+
+edits_true : (before : List Edit) (last : ℕ) (entries : List Entry) → AreTrueAfter before last entries → AreTrueAfter before 0 (map inl (edits_in entries))
+edits_true before last [] holds = tt
+edits_true before last (inl e ∷ entries) holds = (holds.0, holds.1, edits_true (before ++ e ∷ []) last entries holds.2)
+edits_true before last (inr answer ∷ entries) holds = edits_true before answer.edit entries holds.2
+
+-- the first of them are pushes, where the first entries are
+record ArePushes (n : ℕ) (entries : List Entry) : Type 0 where
+  all : All IsPush (take n entries)
+  many : n ≤ length entries
+
+edits_pushed : (n : ℕ) (entries : List Entry) → ArePushes n entries → ArePushes n (map inl (edits_in entries))
+edits_pushed zero entries are = record { all = All-nil IsPush; many = omega arith }
+edits_pushed (suc n) [] are = absurd (omega (arith, are.many))
+edits_pushed (suc n) (inl e ∷ entries) are =
+    let rest = edits_pushed n entries record { all = All-tail IsPush (inl e) (take n entries) are.all; many = omega (arith, are.many) } in
+    record { all = All-cons IsPush (inl e) (take n (map inl (edits_in entries))) (All-head IsPush (inl e) (take n entries) are.all) rest.all; many = omega (arith, rest.many) }
+edits_pushed (suc n) (inr answer ∷ entries) are = absurd (All-head IsPush (inr answer) (take n entries) are.all)
+
+-- the edits of a log that was read may be gone on with
+pub found_goes_on : (heading : LogHeading) (bytes : List ℕ) (entries : List Entry) (edits : List Edit) → IsWholeFront (Some heading) bytes entries → edits ≡ edits_in entries → IsLogOfEdits heading edits
+found_goes_on heading bytes entries edits found same =
+    let holds = found.front.all_true in
+    let pushed = edits_pushed heading.elements entries record { all = holds.pushes; many = found.elements } in
+    subst (IsLogOfEdits heading) (sym same) record {
+      all_true = record { numbers = holds.numbers; all_true = edits_true [] 0 entries holds.all_true; pushes = pushed.all };
+      elements = pushed.many;
+    }
+
+-- no answer among true entries is of a later edit than the last of them
+last_within : (before : List Edit) (last : ℕ) (entries : List Entry) → last ≤ length before → AreTrueAfter before last entries → last_after last entries ≤ length (before ++ edits_in entries)
+last_within before last [] le holds = omega (arith, le, ap length (append-nil before))
+last_within before last (inl e ∷ entries) le holds =
+    omega (arith, last_within (before ++ e ∷ []) last entries (omega (arith, le, length_push before e)) holds.2, ap length (append_assoc before (e ∷ []) (edits_in entries)))
+last_within before last (inr answer ∷ entries) le holds = last_within before answer.edit entries holds.1.edit holds.2
+
+-- what is true behind the edits of a log is true of it
+true_behind : (log : Option LogThere) (entries : List Entry) → MayGoOn log → AreTrueAfter (edits_there log) (length (edits_there log)) entries → AreTrueOf (heading_of log) (all_entries (there_of log) entries)
+true_behind None entries goes holds = holds
+true_behind (Some log) entries goes holds =
+    let sooner : last_after 0 log.entries ≤ length (edits_in log.entries) = last_within [] 0 log.entries (omega arith) goes.all_true.all_true in
+    record {
+      numbers = goes.all_true.numbers;
+      all_true = true_both [] 0 log.entries entries goes.all_true.all_true (true_sooner (edits_in log.entries) (length (edits_in log.entries)) (last_after 0 log.entries) entries sooner holds);
+      pushes = subst (All IsPush) (sym (take-append-le log.heading.elements log.entries entries goes.elements)) goes.all_true.pushes;
+    }
+
+-- the text of entries behind that of others is that of both
+text_of_both : (heading : Option LogHeading) (there entries : List Entry) → front_bytes_of heading there ++ ended (map entry_line entries) ≡ front_bytes_of heading (there ++ entries)
+text_of_both heading there entries =
+    sym (flat_map-append (λ line. line ++ 10 ∷ []) (heading_line heading ∷ map entry_line there) (map entry_line entries))
+    ∙ ap (λ (lines : List (List ℕ)). ended (heading_line heading ∷ lines)) (sym (map-append entry_line there entries))
+
 -- ---- the log
 
 -- the beginning of a list, taken
@@ -125,58 +196,138 @@ take_begin xs ys more =
     take_length [] = refl
     take_length (x ∷ xs) = ap (λ (es : List Edit). x ∷ es) (take_length xs)
 
-module _ (start : Option (List ℕ)) where
-  -- of a hub that has no edit
-  pub log_begins : (written : WritingState) (seen : List Edit) → seen ≡ [] → WasGiven start [] written → IsLogOf start record { written = written; seen = seen }
-  log_begins written seen none given = record { entries = []; given = given; all_true = tt; edits_are = sym none; in_time = omega arith }
+module _ (log : Option LogThere) (start : Option (List ℕ)) where
+  -- of a hub that has the edits that were there
+  pub log_begins : (written : WritingState) (seen : List Edit) → MayGoOn log → seen ≡ edits_there log → WasGivenOf (heading_of log) (there_of log) start [] written → IsLogOf log start record { written = written; seen = seen }
+  log_begins written seen goes same given = record {
+    entries = [];
+    goes_on = goes;
+    given = given;
+    all_true = tt;
+    edits_are = append-nil (edits_there log) ∙ sym same;
+    in_time = omega (arith, ap length same);
+  }
 
   -- what came since was given
-  pub log_more : (s : LogState) (journal : List Edit) (entries : List Entry) (written : WritingState) → IsLogOf start s → IsPrefix s.seen journal → CameSince journal (length s.seen) entries → Adds s.written entries written → IsLogOf start record { written = written; seen = journal }
+  pub log_more : (s : LogState) (journal : List Edit) (entries : List Entry) (written : WritingState) → IsLogOf log start s → IsPrefix s.seen journal → CameSince journal (length s.seen) entries → Adds s.written entries written → IsLogOf log start record { written = written; seen = journal }
   log_more s journal entries written was more came gives =
+      let there : List Edit = edits_there log in
       let seen : take (length s.seen) journal ≡ s.seen = take_begin s.seen journal more in
-      let before : take (length s.seen) journal ≡ edits_in was.entries = seen ∙ sym was.edits_are in
-      let later : AreTrueAfter (edits_in was.entries) (last_after 0 was.entries) entries =
-      true_sooner (edits_in was.entries) (length s.seen) (last_after 0 was.entries) entries was.in_time (subst (λ (es : List Edit). AreTrueAfter es (length s.seen) entries) before came.all_true) in
+      let before : take (length s.seen) journal ≡ there ++ edits_in was.entries = seen ∙ sym was.edits_are in
+      let later : AreTrueAfter (there ++ edits_in was.entries) (last_after (length there) was.entries) entries =
+      true_sooner (there ++ edits_in was.entries) (length s.seen) (last_after (length there) was.entries) entries was.in_time (subst (λ (es : List Edit). AreTrueAfter es (length s.seen) entries) before came.all_true) in
       record {
         entries = was.entries ++ entries;
-        given = gives None None start was.entries was.given;
-        all_true = true_both [] 0 was.entries entries was.all_true later;
-        edits_are = edits_in_both was.entries entries ∙ ap (λ (es : List Edit). es ++ edits_in entries) (sym before) ∙ all_edits journal (length s.seen) entries came;
-        in_time = omega (arith, last_of_both 0 was.entries entries, last_sooner (length s.seen) (last_after 0 was.entries) entries was.in_time, came.in_time);
+        goes_on = was.goes_on;
+        given = gives (heading_of log) (there_of log) start was.entries was.given;
+        all_true = true_both there (length there) was.entries entries was.all_true later;
+        edits_are =
+            ap (λ (es : List Edit). there ++ es) (edits_in_both was.entries entries) ∙ sym (append_assoc there (edits_in was.entries) (edits_in entries))
+            ∙ ap (λ (es : List Edit). es ++ edits_in entries) (sym before) ∙ all_edits journal (length s.seen) entries came;
+        in_time = omega (arith, ap (λ (n : ℕ). n) (last_of_both (length there) was.entries entries), last_sooner (length s.seen) (last_after (length there) was.entries) entries was.in_time, came.in_time);
       }
 
   -- what is held was written, or that failed
-  pub log_rests : (s : LogState) (written : WritingState) → IsLogOf start s → Adds s.written [] written → IsLogOf start record s { written = written }
-  log_rests s written was rests = record { entries = was.entries; given = subst (λ (es : List Entry). WasGiven start es written) (append-nil was.entries) (rests None None start was.entries was.given); all_true = was.all_true; edits_are = was.edits_are; in_time = was.in_time }
+  pub log_rests : (s : LogState) (written : WritingState) → IsLogOf log start s → Adds s.written [] written → IsLogOf log start record s { written = written }
+  log_rests s written was rests = record {
+    entries = was.entries;
+    goes_on = was.goes_on;
+    given = subst (λ (es : List Entry). WasGivenOf (heading_of log) (there_of log) start es written) (append-nil was.entries) (rests (heading_of log) (there_of log) start was.entries was.given);
+    all_true = was.all_true;
+    edits_are = was.edits_are;
+    in_time = was.in_time;
+  }
 
   -- what a log has written is a front
-  pub log_front : (s : LogState) → IsLogOf start s → HasFront start s.written.contents s.seen
+  pub log_front : (s : LogState) → IsLogOf log start s → HasFront log start s.written.contents s.seen
   log_front s was = record {
     entries = was.entries;
     begins = subst (λ (es : List Edit). IsPrefix es s.seen) (sym was.edits_are) (prefix_self s.seen);
-    got = was.given.front was.all_true;
+    got = was.given.front (true_behind log was.entries was.goes_on was.all_true);
   }
 
+-- ---- its end
+
+-- a transcript has its last line then
+ends_transcript : (start contents : Option (List ℕ)) (entries : List Entry) (result : Result Unit Fault) → EndsWhole start contents entries result → EndsText None start contents entries result
+ends_transcript start contents entries (Ok u) ends = ends
+ends_transcript start contents entries (Err fault) ends = ends.1
+
+-- what goes on behind a log ends where all that was held is written
+ends_log : (log : LogThere) (start : Option (List ℕ)) (s : WritingState) (entries : List Entry) → s.failed ≡ false → s.held ≡ [] → WasGivenOf (Some log.heading) (Some log.entries) start entries s → EndsText (Some log) start s.contents entries (Ok tt)
+ends_log log start s entries fine none given = (
+  Writes-all start s.contents (ended (map entry_line entries)) (all_sent s.failed fine given.text),
+  λ holds. subst (λ (bytes : List ℕ). IsFrontOf (Some log.heading) bytes (log.entries ++ entries)) (sym (text_of_both (Some log.heading) log.entries entries)) (entry_lines_front (Some log.heading) (log.entries ++ entries) holds),
+)
+  where
+    all_sent : (failed : Bool) → failed ≡ false → WroteOrHolds failed start s.contents s.held (ended (map entry_line entries)) → Writes start [] s.contents [] (ended (map entry_line entries))
+    all_sent failed ok text = subst (λ (held : List ℕ). Writes start [] s.contents held (ended (map entry_line entries))) none (rw ok at text)
+
+-- what was given before the last write was given after it
+given_still : (log : Option LogThere) (start : Option (List ℕ)) (entries : List Entry) (old new : WritingState) → Adds old [] new → WasGivenOf (heading_of log) (there_of log) start entries old → WasGivenOf (heading_of log) (there_of log) start entries new
+given_still log start entries old new rests given =
+    subst (λ (es : List Entry). WasGivenOf (heading_of log) (there_of log) start es new) (append-nil entries) (rests (heading_of log) (there_of log) start entries given)
+
+pub log_finished : (old new : WritingState) → Adds old [] new → new.failed ≡ false → new.held ≡ [] → (log : LogThere) (start : Option (List ℕ)) (entries : List Entry)
+    → WasGivenOf (Some log.heading) (Some log.entries) start entries old → EndsText (Some log) start new.contents entries (Ok tt)
+log_finished old new rests fine none log start entries given = ends_log log start new entries fine none (given_still (Some log) start entries old new rests given)
+
+pub log_unfinished : (old new : WritingState) → Adds old [] new → (log : LogThere) (start : Option (List ℕ)) (entries : List Entry)
+    → WasGivenOf (Some log.heading) (Some log.entries) start entries old → EndsText (Some log) start new.contents entries (Err WriteFault)
+log_unfinished old new rests log start entries given = (given_still (Some log) start entries old new rests given).front
+
+-- which of the two it is
+pub finished_log : (is_log : Bool) (old : WritingState) (contents : Option (List ℕ)) (result : Result Unit Fault) → is_log ≡ true
+    → ((log : LogThere) (start : Option (List ℕ)) (entries : List Entry) → WasGivenOf (Some log.heading) (Some log.entries) start entries old → EndsText (Some log) start contents entries result)
+    → (log : Option LogThere) (start : Option (List ℕ)) (entries : List Entry) → is_log ≡ is_some log → WasGivenOf (heading_of log) (there_of log) start entries old → EndsText log start contents entries result
+finished_log is_log old contents result yes ends None start entries same given = absurd (cc (yes, same))
+finished_log is_log old contents result yes ends (Some log) start entries same given = ends log start entries given
+
+pub finished_transcript : (is_log : Bool) (old : WritingState) (contents : Option (List ℕ)) (result : Result Unit Fault) → is_log ≡ false
+    → ((start : Option (List ℕ)) (entries : List Entry) → WasGiven start entries old → EndsWhole start contents entries result)
+    → (log : Option LogThere) (start : Option (List ℕ)) (entries : List Entry) → is_log ≡ is_some log → WasGivenOf (heading_of log) (there_of log) start entries old → EndsText log start contents entries result
+finished_transcript is_log old contents result no ends None start entries same given = ends_transcript start contents entries result (ends start entries given)
+finished_transcript is_log old contents result no ends (Some log) start entries same given = absurd (cc (no, same))
+
+-- what writes either, and was given nothing
+pub unused_log : (is_log : Bool) → is_log ≡ true → (s : WriterState) → GoesOn s → (log : Option LogThere) → is_log ≡ is_some log → IsUnusedOf (heading_of log) (there_of log) s
+unused_log is_log yes s goes None same = absurd (cc (yes, same))
+unused_log is_log yes s goes (Some log) same = goes (Some log.heading) log.entries
+
+pub unused_transcript : (is_log : Bool) → is_log ≡ false → (s : WriterState) → IsUnused s → (log : Option LogThere) → is_log ≡ is_some log → IsUnusedOf (heading_of log) (there_of log) s
+unused_transcript is_log no s unused None same = unused
+unused_transcript is_log no s unused (Some log) same = absurd (cc (no, same))
+
+-- how a log ends that has all edits, or not all
+ended_so : (log : Option LogThere) (start contents : Option (List ℕ)) (s : LogState) (journal : List Edit) (result : Result Unit Fault) (was : IsLogOf log start s) → s.seen ≡ journal → EndsText log start contents was.entries result → LogEnds log start contents journal result
+ended_so log start contents s journal (Ok u) was all ends = record {
+  entries = was.entries;
+  edits_are = was.edits_are ∙ all;
+  all_true = was.all_true;
+  written = ends.0;
+  front = ends.1 (true_behind log was.entries was.goes_on was.all_true);
+}
+ended_so log start contents s journal (Err fault) was all ends = record {
+  entries = was.entries;
+  begins = subst (λ (es : List Edit). IsPrefix es journal) (sym (was.edits_are ∙ all)) (prefix_self journal);
+  got = ends (true_behind log was.entries was.goes_on was.all_true);
+}
+
+pub log_ends : (log : Option LogThere) (start : Option (List ℕ)) (s : LogState) (journal : List Edit) (contents : Option (List ℕ)) (result : Result Unit Fault) → IsLogOf log start s → IsPrefix s.seen journal → length s.seen ≡ length journal
+    → ((entries : List Entry) → WasGivenOf (heading_of log) (there_of log) start entries s.written → EndsText log start contents entries result) → LogEnds log start contents journal result
+log_ends log start s journal contents result was begins all ends = ended_so log start contents s journal result was (prefix_whole s.seen journal begins (omega (arith, all))) (ends was.entries was.given)
+
 -- what was written at an end is a front
-got_at_end : (start contents : Option (List ℕ)) (entries : List Entry) (result : Result Unit Fault) → AreTrueAfter [] 0 entries → EndsWhole start contents entries result → GotFront start contents entries
-got_at_end start contents entries (Ok u) holds ends = record { bytes = whole_bytes entries; got = ends.0; some = entries; first = prefix_self entries; front = ends.1 holds }
-got_at_end start contents entries (Err fault) holds ends = ends.1 holds
-
--- how a log ends that has all edits
-ended_so : (start contents : Option (List ℕ)) (journal : List Edit) (result : Result Unit Fault) (entries : List Entry) → edits_in entries ≡ journal → AreTrueAfter [] 0 entries → EndsWhole start contents entries result → LogEnds start contents journal result
-ended_so start contents journal (Ok u) entries are holds ends = record { entries = entries; edits_are = are; written = ends.0; front = ends.1 holds }
-ended_so start contents journal (Err fault) entries are holds ends = record { entries = entries; begins = subst (IsPrefix (edits_in entries)) are (prefix_self (edits_in entries)); got = ends.1 holds }
-
-pub log_ends : (start : Option (List ℕ)) (s : LogState) (journal : List Edit) (contents : Option (List ℕ)) (result : Result Unit Fault) → IsLogOf start s → IsPrefix s.seen journal → length s.seen ≡ length journal
-    → ((from : Option (List ℕ)) (entries : List Entry) → WasGiven from entries s.written → EndsWhole from contents entries result) → LogEnds start contents journal result
-log_ends start s journal contents result was begins all ends =
-    ended_so start contents journal result was.entries (was.edits_are ∙ prefix_whole s.seen journal begins (omega (arith, all))) was.all_true (ends start was.entries was.given)
+got_at_end : (log : Option LogThere) (start contents : Option (List ℕ)) (entries : List Entry) (result : Result Unit Fault) → AreTrueOf (heading_of log) (all_entries (there_of log) entries) → EndsText log start contents entries result → GotFrontOf (heading_of log) (there_of log) start contents entries
+got_at_end None start contents entries (Ok u) holds ends = record { bytes = _; got = ends.0; some = entries; first = prefix_self entries; front = ends.1 holds }
+got_at_end (Some log) start contents entries (Ok u) holds ends = record { bytes = _; got = ends.0; some = entries; first = prefix_self entries; front = ends.1 holds }
+got_at_end log start contents entries (Err fault) holds ends = ends holds
 
 -- how one ends that hasn't
-pub log_ends_short : (start : Option (List ℕ)) (s : LogState) (journal : List Edit) (contents : Option (List ℕ)) (result : Result Unit Fault) → IsLogOf start s → IsPrefix s.seen journal
-    → ((from : Option (List ℕ)) (entries : List Entry) → WasGiven from entries s.written → EndsWhole from contents entries result) → HasFront start contents journal
-log_ends_short start s journal contents result was begins ends = record {
+pub log_ends_short : (log : Option LogThere) (start : Option (List ℕ)) (s : LogState) (journal : List Edit) (contents : Option (List ℕ)) (result : Result Unit Fault) → IsLogOf log start s → IsPrefix s.seen journal
+    → ((entries : List Entry) → WasGivenOf (heading_of log) (there_of log) start entries s.written → EndsText log start contents entries result) → HasFront log start contents journal
+log_ends_short log start s journal contents result was begins ends = record {
   entries = was.entries;
   begins = subst (λ (es : List Edit). IsPrefix es journal) (sym was.edits_are) begins;
-  got = got_at_end start contents was.entries result was.all_true (ends start was.entries was.given);
+  got = got_at_end log start contents was.entries result (true_behind log was.entries was.goes_on was.all_true) (ends was.entries was.given);
 }

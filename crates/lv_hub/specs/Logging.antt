@@ -1,15 +1,16 @@
--- The log of a hub: what came since it was written last, and what its file has.
+-- The log of a hub: what came since it was written last, where its file begins, and what it has.
 use Rattle.std.proofs.Common.{inl, inr}
-use Rattle.std.specs.Prelude.{◌≡◌, ℕ, ◌+◌, ◌≤◌, Option, Result, Ok, Err, List, [], ◌∷◌, ◌++◌, drop, length, map, take}
+use Rattle.std.specs.Prelude.{◌≡◌, ℕ, ◌+◌, ◌≤◌, Option, Some, None, Result, Ok, Err, List, [], ◌∷◌, ◌++◌, drop, length, map, take}
 use Rattle.lv_edits.specs.declared.edit.Edit.{Edit}
 use Rattle.lv_lines.specs.declared.fault.Fault.{Fault}
 use Rattle.std.specs.Io.KnownBytes.{Appends}
 use mathlib.Core.List.{IsPrefix}
 use Rattle.lv_hub.specs.declared.log_entry.LogEntry.{LogEntry}
 use Rattle.lv_hub.specs.declared.log_entry.LogEntry.TheVariants as logged
-use Rattle.lv_transcript.specs.Fronts.{AreTrueAfter, Entry, IsFront, edits_in}
-use Rattle.lv_transcript.specs.Transcribing.{GotFront, WasGiven, WritingState, whole_bytes}
-use Rattle.lv_transcript.specs.Transcript.{AreAccepted, greatest}
+use Rattle.lv_transcript.specs.declared.log_heading.LogHeading.{LogHeading}
+use Rattle.lv_transcript.specs.Fronts.{AreTrueAfter, AreTrueOf, Entry, HasElements, IsFrontOf, edits_in, entry_line}
+use Rattle.lv_transcript.specs.Transcribing.{GotFrontOf, WasGivenOf, WritingState, all_entries, bytes_before, whole_bytes}
+use Rattle.lv_transcript.specs.Transcript.{ended}
 
 -- ---- what came since
 
@@ -49,6 +50,43 @@ with_entry entry t = record t { entries = t.entries ++ entry ∷ [] }
 abbrev pub Taps : List Edit → TapState → Type 0
 Taps journal t = CameSince journal t.from (map entry_of t.entries)
 
+-- ---- where a log begins
+
+-- a log that was there already: its first line, and its entries
+pub record LogThere : Type 0 where
+  pub heading : LogHeading
+  pub entries : List Entry
+
+-- the first line of the file, and the entries that were there, where it goes on behind a log; else it begins a transcript
+abbrev pub heading_of : Option LogThere → Option LogHeading
+heading_of None = None
+heading_of (Some log) = Some log.heading
+
+abbrev pub there_of : Option LogThere → Option (List Entry)
+there_of None = None
+there_of (Some log) = Some log.entries
+
+abbrev pub entries_there : Option LogThere → List Entry
+entries_there None = []
+entries_there (Some log) = log.entries
+
+-- their edits
+abbrev pub edits_there : Option LogThere → List Edit
+edits_there log = edits_in (entries_there log)
+
+-- what was there is a log that may be gone on with: its entries are true, and none of its elements is missing
+pub record MayGoOn (log : Option LogThere) : Type 0 where
+  pub all_true : AreTrueOf (heading_of log) (entries_there log)
+  pub elements : HasElements (heading_of log) (entries_there log)
+
+-- a log with this first line and these edits, and without the answers that may stand between them
+abbrev pub log_of_edits : LogHeading → List Edit → LogThere
+log_of_edits heading edits = record { heading = heading; entries = map inl edits }
+
+-- edits are those of a log with this first line
+abbrev pub IsLogOfEdits : LogHeading → List Edit → Type 0
+IsLogOfEdits heading edits = MayGoOn (Some (log_of_edits heading edits))
+
 -- ---- what the file has
 
 -- a log: what was written and is held, and the beginning of the hub's edits that it was given
@@ -56,28 +94,45 @@ pub record LogState : Type 0 where
   pub written : WritingState
   pub seen : List Edit
 
--- what a log was given, whose writer had got what it had at the start, is true in the order of time, and its edits are those that were seen
-pub record IsLogOf (start : Option (List ℕ)) (s : LogState) : Type 0 where
-  pub entries : List Entry
-  pub given : WasGiven start entries s.written
-  pub all_true : AreTrueAfter [] 0 entries
-  pub edits_are : edits_in entries ≡ s.seen
-  pub in_time : last_after 0 entries ≤ length s.seen
+-- the text that is written behind what was there, with these entries: that of a transcript has its last line too
+abbrev pub text_behind : Option LogThere → List Entry → List ℕ
+text_behind None entries = whole_bytes entries
+text_behind (Some log) entries = ended (map entry_line entries)
 
--- what a writer has got since the start is a front of a transcript with true answers, whose edits begin these
-pub record HasFront (start contents : Option (List ℕ)) (edits : List Edit) : Type 0 where
-  pub entries : List Entry
-  pub begins : IsPrefix (edits_in entries) edits
-  pub got : GotFront start contents entries
+-- how the writing of a log ended that was given these entries behind what was there: their text was written, and it goes on; or a write has
+-- failed, after what is a front of them
+abbrev pub EndsText : Option LogThere → Option (List ℕ) → Option (List ℕ) → List Entry → Result Unit Fault → Type 0
+EndsText log start contents entries (Ok _) =
+    Appends start contents (text_behind log entries)
+    × (AreTrueOf (heading_of log) (all_entries (there_of log) entries) → IsFrontOf (heading_of log) (bytes_before (heading_of log) (there_of log) ++ text_behind log entries) (entries_there log ++ entries))
+EndsText log start contents entries (Err fault) = AreTrueOf (heading_of log) (all_entries (there_of log) entries) → GotFrontOf (heading_of log) (there_of log) start contents entries
 
--- a log was written whole: a front of a transcript that has all edits of a journal, and its last line
-pub record WroteWhole (start contents : Option (List ℕ)) (journal : List Edit) : Type 0 where
-  pub entries : List Entry
-  pub edits_are : edits_in entries ≡ journal
-  pub written : Appends start contents (whole_bytes entries)
-  pub front : IsFront (whole_bytes entries) entries
+module _ (log : Option LogThere) (start : Option (List ℕ)) where
+  -- what a log was given behind what was there, whose writer had got what it had at the start: it is true in the order of time, and all edits
+  -- are those that were seen
+  pub record IsLogOf (s : LogState) : Type 0 where
+    pub entries : List Entry
+    pub goes_on : MayGoOn log
+    pub given : WasGivenOf (heading_of log) (there_of log) start entries s.written
+    pub all_true : AreTrueAfter (edits_there log) (length (edits_there log)) entries
+    pub edits_are : edits_there log ++ edits_in entries ≡ s.seen
+    pub in_time : last_after (length (edits_there log)) entries ≤ length s.seen
 
--- how a log ends: whole; or a write has failed, and what was written is a front of edits that begin the journal
-abbrev pub LogEnds : Option (List ℕ) → Option (List ℕ) → List Edit → Result Unit Fault → Type 0
-LogEnds start contents journal (Ok _) = WroteWhole start contents journal
-LogEnds start contents journal (Err fault) = HasFront start contents journal
+  -- what a writer has got since the start is, behind what was there, a front of a transcript, or a log, with true answers, whose edits begin these
+  pub record HasFront (contents : Option (List ℕ)) (edits : List Edit) : Type 0 where
+    pub entries : List Entry
+    pub begins : IsPrefix (edits_there log ++ edits_in entries) edits
+    pub got : GotFrontOf (heading_of log) (there_of log) start contents entries
+
+  -- a log was written whole: entries that go on behind what was there, true in the order of time, with all edits of a journal
+  pub record WroteWhole (contents : Option (List ℕ)) (journal : List Edit) : Type 0 where
+    pub entries : List Entry
+    pub edits_are : edits_there log ++ edits_in entries ≡ journal
+    pub all_true : AreTrueAfter (edits_there log) (length (edits_there log)) entries
+    pub written : Appends start contents (text_behind log entries)
+    pub front : IsFrontOf (heading_of log) (bytes_before (heading_of log) (there_of log) ++ text_behind log entries) (entries_there log ++ entries)
+
+  -- how a log ends: whole; or a write has failed, and what was written is a front of edits that begin the journal
+  abbrev pub LogEnds : Option (List ℕ) → List Edit → Result Unit Fault → Type 0
+  LogEnds contents journal (Ok _) = WroteWhole contents journal
+  LogEnds contents journal (Err fault) = HasFront contents journal

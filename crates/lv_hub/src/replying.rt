@@ -1,7 +1,11 @@
 //! How a line of a session is answered.
-ghost use Rattle.std.specs.Prelude.{◌≡◌, ◌≤◌, ◌^◌, ◌++◌, ℕ, All, List, OnOk, IfErr, length, true, vec_len};
+ghost use Rattle.std.specs.Prelude.{◌≡◌, ◌≤◌, ◌^◌, ◌++◌, ℕ, [], All, List, OnOk, IfErr, length, true, vec_len};
 ghost use Rattle.lv_geometry.specs.declared.refusals.Refusal.{Refusal};
+ghost use Rattle.lv_bodies.specs.Long.{CanFoldLong};
+ghost use Rattle.lv_bodies.specs.Plain.{plain_value};
 ghost use Rattle.lv_lines.specs.Output.{HasRoom, KeepsRoom, Puts, PutsFront, SamePlaces};
+ghost use Rattle.lv_lines.specs.Texts.{scan_text};
+ghost use Rattle.lv_script.specs.PlainScript.{scan_by};
 ghost use Rattle.lv_transcript.specs.declared.claimed.Claimed.{Claimed};
 ghost use Rattle.lv_transcript.specs.Transcript.{IsTrueAnswer};
 ghost use Rattle.lv_hub.specs.Counting.{Counts, having_seen};
@@ -77,8 +81,25 @@ pub fn answer_line<N: WithBody<Six>, T: Wait, L: SessionLog<N>, W: Write>(
     Ok(())
 }
 
+/// Makes room for the reply to a line. What is held is sent where there is none, once all is recorded that it may tell.
+pub(crate) fn make_room<N: WithBody<Six>, T: Wait, L: SessionLog<N>, W: Write>(
+    place: &SessionPlace<'_, N, T>,
+    log: &L,
+    buffer: &mut ReplyBuffer<'_, W>,
+) -> Result<(), Fault>
+    ensures places { SamePlaces buffer.old buffer.new }
+    ensures ok { OnOk result (Puts W.contents buffer.old buffer.new []) }
+    ensures room { OnOk result (HasRoom buffer.new.held.now LINE) }
+    ensures fault { IfErr result (λ fault. (fault ≡ Fault.WriteFault) × PutsFront W.contents buffer.old buffer.new []) }
+{
+    if buffer.held.capacity() - buffer.held.len() < LINE {
+        log.record(place.rt, place.hub)?;
+    }
+    buffer.make_room(LINE)
+}
+
 // Answers a command, which is bad unless it is an edit, a reduction or a scan. Only the reply to a scan may be longer than
-// what is held. What an edit or a reduction comes to is recorded before its reply can go out.
+// what is held. All that a reply tells is recorded before it goes out.
 fn answer<N: WithBody<Six>, T: Wait, L: SessionLog<N>, W: Write>(
     place: &SessionPlace<'_, N, T>,
     log: &L,
@@ -103,11 +124,11 @@ fn answer<N: WithBody<Six>, T: Wait, L: SessionLog<N>, W: Write>(
     match command {
         Command::Edit(edit) => {
             put_edit(place, log, share, edit, buffer.held);
-            log.record(place.rt, place.hub)
+            Ok(())
         }
         Command::Reduce { kind, lo, hi } => {
             put_reduction(place, log, share, answers, kind, lo, hi, buffer.held);
-            log.record(place.rt, place.hub)
+            Ok(())
         }
         Command::Scan {
             inclusive,
@@ -116,6 +137,7 @@ fn answer<N: WithBody<Six>, T: Wait, L: SessionLog<N>, W: Write>(
             hi,
         } => put_scanned(
             place,
+            log,
             share,
             &Asked {
                 inclusive,
@@ -280,8 +302,9 @@ fn list(answers: &mut Vec<Claimed>, keeps: KeptAnswers, reduction: Claimed) -> R
 }
 
 // Scans a range, and tells the values: the range is copied under the lock, and each value is put as it is computed.
-fn put_scanned<N: WithBody<Six>, T: Wait, W: Write>(
+fn put_scanned<N: WithBody<Six>, T: Wait, L: SessionLog<N>, W: Write>(
     place: &SessionPlace<'_, N, T>,
+    log: &L,
     share: &mut Share<N>,
     asked: &Asked,
     buffer: &mut ReplyBuffer<'_, W>,
@@ -300,18 +323,38 @@ fn put_scanned<N: WithBody<Six>, T: Wait, W: Write>(
         .hub
         .copy_range(place.rt, place.alloc, share, asked.lo, asked.hi);
     match copied {
-        Ok(stretch) => put_running_scan(
+        Ok(stretch) => put_recorded_scan(
+            place,
+            log,
             buffer,
             last_number(place, share),
-            asked.inclusive,
-            asked.kind,
-            &Slice {
-                elements: stretch.elements(),
-            },
+            asked,
+            stretch.elements(),
         ),
         Err(refusal) => {
             put_refusal(buffer.held, refusal);
             Ok(())
         }
     }
+}
+
+// Tells the values of a scan of elements at an edit of this number. All is recorded before, since what is held is sent on the way.
+fn put_recorded_scan<N: WithBody<Six>, T: Wait, L: SessionLog<N>, W: Write>(
+    place: &SessionPlace<'_, N, T>,
+    log: &L,
+    buffer: &mut ReplyBuffer<'_, W>,
+    number: u64,
+    asked: &Asked,
+    elements: &[i64],
+) -> Result<(), Fault>
+    requires can { CanFoldLong elements.now }
+    requires room { HasRoom buffer.old.held.now LINE }
+    ensures places { SamePlaces buffer.old buffer.new }
+    ensures ok { OnOk result (Puts W.contents buffer.old buffer.new
+        (scan_text number asked.now.inclusive asked.now.kind (scan_by (plain_value asked.now.kind) asked.now.inclusive elements.now))) }
+    ensures fault { IfErr result (λ fault. (fault ≡ Fault.WriteFault) × PutsFront W.contents buffer.old buffer.new
+        (scan_text number asked.now.inclusive asked.now.kind (scan_by (plain_value asked.now.kind) asked.now.inclusive elements.now))) }
+{
+    log.record(place.rt, place.hub)?;
+    put_running_scan(buffer, number, asked.inclusive, asked.kind, &Slice { elements })
 }

@@ -11,11 +11,11 @@ ghost use Rattle.lv_hub.specs.Replying.{TellsLine};
 ghost use Rattle.lv_hub.specs.Session.{KeepTies, SessionState, SessionStep, most_listed, session_at};
 
 use crate::naming::WithBody;
-use crate::replying::{SessionPlace, answer_line};
+use crate::replying::{SessionPlace, answer_line, make_room};
 use crate::session_logs::SessionLog;
 use crate::shares::Share;
 use lv_bodies::Six;
-use lv_script::{Claimed, Fault, LINE, LineHandler, ReplyBuffer, read_line, serve_lines};
+use lv_script::{Claimed, Fault, LineHandler, ReplyBuffer, read_line, serve_lines};
 use std::alloc::AllocError;
 use std::io::{Read, Write};
 use std::marker::{Brand, Model, PhantomData};
@@ -160,7 +160,7 @@ impl<'a, N: WithBody<Six>, T: Wait, L: SessionLog<N>, K: SessionStart, W: Write>
         line: &[u8],
         buffer: &mut ReplyBuffer<'_, W>,
     ) -> Result<(), Fault> {
-        buffer.make_room(LINE)?;
+        make_room(&self.place, self.log, buffer)?;
         answer_line(
             &self.place,
             self.log,
@@ -170,6 +170,11 @@ impl<'a, N: WithBody<Six>, T: Wait, L: SessionLog<N>, K: SessionStart, W: Write>
             read_line(line),
             buffer,
         )
+    }
+
+    // All that replies may tell is recorded before they go out.
+    fn before_send(&self) -> Result<(), Fault> {
+        self.log.record(self.place.rt, self.place.hub)
     }
 }
 

@@ -1,12 +1,10 @@
 //! Who answers lines.
 ghost use Rattle.std.specs.Prelude.{◌≡◌, ℕ, ◌≤◌, List, [], length, OnOk, IfErr};
 ghost use Rattle.std.specs.Io.KnownBytes.{Appends};
-ghost use Rattle.lv_lines.specs.declared.output.TheConstants.{HELD};
-ghost use Rattle.lv_lines.specs.Output.{HasRoom, Puts, PutsFront, SamePlaces};
+ghost use Rattle.lv_lines.specs.Output.{Puts, PutsFront, SamePlaces};
 ghost use Rattle.lv_lines.specs.Replies.{Replies, FailsToReply};
 
 use crate::fault::Fault;
-use crate::output::HELD;
 use crate::reply_buffer::ReplyBuffer;
 use std::io::Write;
 
@@ -56,22 +54,4 @@ pub(crate) fn send<A: LineHandler<W>, W: Write>(
 {
     handler.before_send()?;
     buffer.send()
-}
-
-/// Sends replies in the same way, if less than `room` bytes are free.
-pub fn make_room<A: LineHandler<W>, W: Write>(
-    handler: &A,
-    buffer: &mut ReplyBuffer<'_, W>,
-    room: usize,
-) -> Result<(), Fault>
-    requires { room ≤ HELD }
-    ensures places { SamePlaces buffer.old buffer.new }
-    ensures ok { OnOk result (Puts W.contents buffer.old buffer.new []) }
-    ensures room { OnOk result (HasRoom buffer.new.held.now room) }
-    ensures fault { IfErr result (λ fault. (fault ≡ Fault.WriteFault) × PutsFront W.contents buffer.old buffer.new []) }
-{
-    if buffer.held.capacity() - buffer.held.len() < room {
-        handler.before_send()?;
-    }
-    buffer.make_room(room)
 }

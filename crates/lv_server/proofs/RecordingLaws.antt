@@ -1,35 +1,35 @@
 -- What the file of a transcript has got, once all was written.
-use Rattle.std.proofs.Common.{◌≡◌, ℕ, Option, Result, Ok, Err, List, IfErr, IfOk, IfSome, sym, subst, ◌∙◌}
+use Rattle.std.proofs.Common.{◌≡◌, ℕ, None, Option, Result, Ok, Err, List, IfErr, IfOk, IfSome, sym, subst, ◌∙◌}
 use Rattle.std.specs.Prelude.{MatchResult}
 use Rattle.std.specs.Io.KnownBytes.{Appends}
 use Rattle.lv_edits.specs.declared.edit.Edit.{Edit}
 use Rattle.lv_lines.specs.declared.fault.Fault.{Fault}
 use Rattle.lv_transcript.specs.declared.claimed.Claimed.{Claimed}
-use Rattle.lv_hub.specs.Logging.{LogEnds, WroteWhole}
+use Rattle.lv_hub.specs.Logging.{LogEnds, LogThere, WroteWhole}
 use Rattle.lv_server.specs.Starting.{Records}
 use Rattle.lv_server.specs.Writing.{Writes}
 use Rattle.lv_server.proofs.ServedLaws.{if_some}
 
 -- a log that ended well was written whole
-pub whole_so : (start contents : Option (List ℕ)) (journal : List Edit) (ended : Result Unit Fault) → LogEnds start contents journal ended → IfOk ended (λ done. WroteWhole start contents journal)
-whole_so start contents journal (Ok done) ends = ends
-whole_so start contents journal (Err fault) ends = tt
+pub whole_so : (log : Option LogThere) (start contents : Option (List ℕ)) (journal : List Edit) (ended : Result Unit Fault) → LogEnds log start contents journal ended → IfOk ended (λ done. WroteWhole log start contents journal)
+whole_so log start contents journal (Ok done) ends = ends
+whole_so log start contents journal (Err fault) ends = tt
 
 -- where neither the transcript nor its file failed, both have one journal
 pub records_so : {V F : Type 0} (contents : V → Option (List ℕ)) (start : Option (List ℕ)) (history first second : List Edit) (listed : List Claimed) (old new : Option (List ℕ))
     (written ended : Result (Unit {0}) Fault) (result : Result (Unit {0}) F) (file : Option V) → first ≡ history → second ≡ history
     → IfOk result (λ done. written ≡ Ok done) → IfOk result (λ done. ended ≡ Ok done) → Writes first listed old new written
-    → IfOk ended (λ done. IfSome file (λ file. WroteWhole start (contents file) second)) → IfOk result (λ done. IfSome file (λ file. Records start (contents file) old new))
+    → IfOk ended (λ done. IfSome file (λ file. WroteWhole None start (contents file) second)) → IfOk result (λ done. IfSome file (λ file. Records start (contents file) old new))
 records_so contents start history first second listed old new written ended (Err failure) file one two well both writes whole = tt
 records_so contents start history first second listed old new written ended (Ok done) file one two well both writes whole =
     let w = subst (Writes first listed old new) well writes in
-    let got = subst (λ (ended : Result (Unit {0}) Fault). IfOk ended (λ done. IfSome file (λ file. WroteWhole start (contents file) second))) both whole in
+    let got = subst (λ (ended : Result (Unit {0}) Fault). IfOk ended (λ done. IfSome file (λ file. WroteWhole None start (contents file) second))) both whole in
     if_some file
     (λ f all. record {
       journal = first;
       answers = w.1.answers;
       written = subst (Appends old new) w.1.text_is w.3;
-      whole = subst (WroteWhole start (contents f)) (two ∙ sym one) all;
+      whole = subst (WroteWhole None start (contents f)) (two ∙ sym one) all;
     })
     got
 

@@ -17,4 +17,4 @@ pub record Records (start file contents_old contents_new : Option (List ℕ)) : 
   pub journal : List Edit
   pub answers : List Claimed
   pub written : Appends contents_old contents_new (transcript_text journal answers)
-  pub whole : WroteWhole start file journal
+  pub whole : WroteWhole None start file journal

@@ -1,12 +1,13 @@
 //! The server: sessions in threads of their own, with workers and subscribers beside them, and the transcript of it all.
 
-ghost use Rattle.std.specs.Prelude.{◌≡◌, ◌+◌, ◌≤◌, ◌^◌, IfErr, IfOk, IfSome, OnOk, [], Some, is_some, length, map, true, vec_capacity, vec_len};
+ghost use Rattle.std.specs.Prelude.{◌≡◌, ◌+◌, ◌≤◌, ◌^◌, IfErr, IfOk, IfSome, None, OnOk, [], Some, is_some, length, map, true, vec_capacity, vec_len};
 ghost use Rattle.lv_transcript.specs.Joined.{in_a_row};
 ghost use Rattle.lv_server.specs.PlainServed.{ServedPlainly};
 ghost use Rattle.lv_server.specs.Starting.{Records, start_of};
 ghost use Rattle.lv_transcript.specs.Transcribing.{IsUnused};
 ghost use Rattle.lv_server.specs.Served.{FailsToServe, Served, Sides};
 ghost use Rattle.lv_server.specs.Tasks.{AreAllHeld};
+ghost use Rattle.lv_hub.specs.Logging.{MayGoOn, edits_there};
 ghost use Rattle.lv_hub.specs.Numbering.{from_the_first};
 ghost use Rattle.lv_hub.specs.Session.{are_listed};
 ghost use Rattle.lv_hub.specs.Watched.{ServedWatched, WatchState};
@@ -136,6 +137,7 @@ fn serve_as<
     requires lists { are_listed keeps ≡ N.lists }
     requires body { N.body ≡ Some body }
     requires start { IfSome file (λ file. K.start ≡ V.contents file) }
+    requires transcript { K.there ≡ None }
     requires fresh { IfSome file (λ _. begun.now ≡ []) }
     ensures served { IfOk result (λ done. Served plan.limits N.numbers N.lists begun.now (map (λ s. record { lines = F.remaining s.lines; replies = F.contents s.replies }) clients.streams.items) (map (λ s. record { lines = F.remaining s.lines; replies = F.contents s.replies }) done.0.items) (W.contents writer.old) (W.contents writer.new)) }
     ensures failed { IfErr result (λ failure. FailsToServe plan.limits begun.now (W.contents writer.old) (W.contents writer.new) failure.fault) }
@@ -145,7 +147,7 @@ fn serve_as<
 {
     let (hub, mut share) = Hub::<Six, N>::new(alloc, plan.limits, body, blank, parts, opened);
     let served = serve_all::<N, K, F, V, R>(
-        rt, alloc, plan, numbers, keeps, begun, &hub, &mut share, clients, file,
+        rt, alloc, plan, numbers, keeps, begun, &hub, &mut share, clients, file, false,
     );
     match served {
         Ok((all, log, leaving)) => {
@@ -172,9 +174,9 @@ fn serve_as<
     }
 }
 
-// Serves them on a hub, and gathers what they leave: the reductions in the order of the sessions, and what subscribers were told. Its
-// share has all parts, and has them again.
-fn serve_all<
+/// Serves them on a hub, and gathers what they leave: the reductions in the order of the sessions, and what subscribers were told. Its
+/// share has all parts, and has them again.
+pub fn serve_all<
     N: WithBody<Six> + Send + Sync,
     K: Begun + Send + Sync,
     F: Read + Write + Send + Drop,
@@ -191,9 +193,12 @@ fn serve_all<
     share: &mut Share<N>,
     clients: Clients<F>,
     file: Option<V>,
+    is_log: bool,
 ) -> Result<(Gathered<F>, Option<OperationLog<N, V, K>>, Leaving<F>), ProgramError>
     requires start { IfSome file (λ file. K.start ≡ V.contents file) }
-    requires fresh { IfSome file (λ _. begun.now ≡ []) }
+    requires log { is_log ≡ is_some K.there }
+    requires goes_on { MayGoOn K.there }
+    requires begins { IfSome file (λ _. begun.now ≡ edits_there K.there) }
     requires numbers { numbers ≡ N.numbers }
     requires base { numbers.base ≤ 2 ^ 62 }
     requires lists { are_listed keeps ≡ N.lists }
@@ -211,7 +216,7 @@ fn serve_all<
 {
     let start = share.prefix();
     begin(rt, hub, share, begun)?;
-    let log = begin_log::<N, K, V, R>(rt, alloc, file, hub, share)?;
+    let log = begin_log::<N, K, V, R>(rt, alloc, file, is_log, hub, share)?;
     let room = Gathered::with_room(alloc, clients.streams.len())?;
     let present = begin_all(alloc, numbers, share, &start, clients)?;
     let Present {

@@ -1,12 +1,12 @@
 //! The transcript of a server: its file, which is written as edits come, and what is written at the close.
 
-ghost use Rattle.std.specs.Prelude.{◌≡◌, ◌⊎◌, ◌<◌, ◌≤◌, ℕ, All, Err, HoldsAt, IfErr, IfOk, IfSome, List, MatchResult, Ok, OnOk, [], false, is_some, length, map, true, vec_capacity, vec_len};
+ghost use Rattle.std.specs.Prelude.{◌≡◌, ◌⊎◌, ◌<◌, ◌≤◌, ℕ, All, Err, HoldsAt, IfErr, IfOk, IfSome, List, MatchResult, None, Ok, OnOk, [], false, is_some, length, map, true, vec_capacity, vec_len};
 ghost use mathlib.Core.List.{IsPrefix};
 ghost use Rattle.lv_transcript.specs.Joined.{in_a_row};
 ghost use Rattle.lv_transcript.specs.Transcribing.{IsUnused};
 ghost use Rattle.lv_transcript.specs.Transcript.{AreAccepted, AreInOrder, IsTrueAnswer, greatest};
 ghost use Rattle.lv_hub.specs.Counting.{having_seen};
-ghost use Rattle.lv_hub.specs.Logging.{WroteWhole};
+ghost use Rattle.lv_hub.specs.Logging.{MayGoOn, WroteWhole, edits_there};
 ghost use Rattle.lv_hub.specs.Watchers.{ClosesTelling};
 ghost use Rattle.lv_server.specs.Starting.{Records};
 ghost use Rattle.lv_server.specs.Writing.{FailsToClose, Writes, WritesClosed};
@@ -22,22 +22,25 @@ use std::alloc::Global;
 use std::io::Write;
 use std::sync::{Mutex, Wait};
 
-/// The log of a hub, where there is a file for it: nobody has seen an edit of it then.
+/// The log of a hub, where there is a file for it: it goes on behind the edits that were there, or begins a transcript.
 pub fn begin_log<N: WithBody<Six>, K: Begun, V: Write + Drop, R: Wait>(
     rt: &R,
     alloc: Global,
     file: Option<V>,
+    is_log: bool,
     hub: &Hub<Six, N>,
     share: &Share<N>,
 ) -> Result<Option<Mutex<OperationLog<N, V, K>>>, ProgramError>
     requires start { IfSome file (λ file. K.start ≡ V.contents file) }
-    requires unseen { IfSome file (λ _. share.now.seen ≡ []) }
+    requires log { is_log ≡ is_some K.there }
+    requires goes_on { MayGoOn K.there }
+    requires seen { IfSome file (λ _. share.now.seen ≡ edits_there K.there) }
     ensures { IfOk result (λ log. is_some log ≡ is_some file) }
 {
     let Some(file) = file else {
         return Ok(None);
     };
-    match OperationLog::begin(rt, alloc, file, hub, share) {
+    match OperationLog::begin(rt, alloc, file, is_log, hub, share) {
         Ok(log) => Ok(Some(Mutex::new(log))),
         Err(_) => Err(ProgramError::memory()),
     }
@@ -79,7 +82,7 @@ pub fn write_closed<N: WithBody<Six>, K: Begun, F: Write + Drop, V: Write + Drop
     ensures failed { IfErr result.1 (λ failure. FailsToClose N.limits share (in_a_row queues.old.items) (W.contents writer.old) (W.contents writer.new) failure.fault) }
     ensures back { is_some result.0 ≡ is_some log }
     // The file has the edits of the transcript that was written.
-    ensures recorded { IfOk result.1 (λ done. IfSome result.0 (λ file. Records K.start (V.contents file) (W.contents writer.old) (W.contents writer.new))) }
+    ensures recorded { K.there ≡ None → IfOk result.1 (λ done. IfSome result.0 (λ file. Records K.start (V.contents file) (W.contents writer.old) (W.contents writer.new))) }
     // What subscribers tell last is of those edits too.
     ensures told { IfOk result.1 (λ done. ClosesTelling share leaving.left.items (map (λ w. w.notices) result.2.items) (W.contents writer.old) (W.contents writer.new)) }
 {
@@ -92,8 +95,8 @@ pub fn write_closed<N: WithBody<Six>, K: Begun, F: Write + Drop, V: Write + Drop
     (file, first_failure(written, ended), watched)
 }
 
-// A share that has seen what was recorded too.
-fn shown<N: WithBody<Six>, K: Begun, V: Write + Drop>(
+/// A share that has seen what was recorded too.
+pub fn shown<N: WithBody<Six>, K: Begun, V: Write + Drop>(
     log: &Option<OperationLog<N, V, K>>,
     share: Share<N>,
 ) -> Share<N>
@@ -108,16 +111,16 @@ fn shown<N: WithBody<Six>, K: Begun, V: Write + Drop>(
     share
 }
 
-// Ends a log, if there is one, by the journal of the hub, and gives its file back.
-fn end_log<N: WithBody<Six>, K: Begun, V: Write + Drop>(
+/// Ends a log, if there is one, by the journal of the hub, and gives its file back.
+pub fn end_log<N: WithBody<Six>, K: Begun, V: Write + Drop>(
     log: Option<OperationLog<N, V, K>>,
     journal: &[Edit],
 ) -> (Option<V>, Result<(), Fault>)
     requires { IfSome log (λ log. IsPrefix log.seen journal.now) }
     ensures late { IfErr result.1 (λ fault. fault ≡ Fault.WriteFault) }
     ensures back { is_some result.0 ≡ is_some log }
-    // The file has all edits of the journal, each answer true of those before it, and the last line.
-    ensures whole { IfOk result.1 (λ done. IfSome result.0 (λ file. WroteWhole K.start (V.contents file) journal.now)) }
+    // The file has all edits of the journal, each answer true of those before it, and the last line of a transcript.
+    ensures whole { IfOk result.1 (λ done. IfSome result.0 (λ file. WroteWhole K.there K.start (V.contents file) journal.now)) }
 {
     let Some(log) = log else {
         return (None, Ok(()));

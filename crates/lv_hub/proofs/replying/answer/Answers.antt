@@ -12,11 +12,6 @@ if_err : {T E : Type 0} {P Q : E → Type 0} (result : Result T E) → IfErr res
 if_err (Ok x) holds then = holds
 if_err (Err e) holds then = then e holds
 
--- what holds holds where it succeeded
-where_ok : {T E A : Type 0} (result : Result T E) → A → OnOk result A
-where_ok (Ok x) holds = holds
-where_ok (Err e) holds = tt
-
 pub returns-in-Scan-clause-ok : goal.returns-in-Scan-clause-ok
 returns-in-Scan-clause-ok g c =
     on_ok c.put_scanned.result c.put_scanned.ensures.ok (λ told. (told.0, rw c.in-Scan.is (told.1 c.args.answers.now.items), told.2))
@@ -27,21 +22,8 @@ returns-in-Scan-clause-fault g c =
 
 pub returns-in-Edit-clause-ok : goal.returns-in-Edit-clause-ok
 returns-in-Edit-clause-ok g c =
-    let told = c.put_edit.ensures.answer in
-    where_ok c.record.result (told.0, rw c.in-Edit.is (told.1 c.args.answers.now.items), Writes-put _ _ _ _ told.2)
-
--- it couldn't be recorded, and nothing went out
-pub returns-in-Edit-clause-fault : goal.returns-in-Edit-clause-fault
-returns-in-Edit-clause-fault g c =
-    let told = c.put_edit.ensures.answer in
-    if_err c.record.result c.record.ensures (λ fault is. (is, told.0, rw c.in-Edit.is (told.1 c.args.answers.now.items), record { unsent = c.put_edit.new.held.items; written = Writes-put _ _ _ _ told.2 }))
+    let told = c.put_edit.ensures.answer in (told.0, rw c.in-Edit.is (told.1 c.args.answers.now.items), Writes-put _ _ _ _ told.2)
 
 pub returns-in-Reduce-clause-ok : goal.returns-in-Reduce-clause-ok
 returns-in-Reduce-clause-ok g c =
-    let told = c.put_reduction.ensures.answer in
-    where_ok c.record-in-Reduce.result (told.0, rw c.in-Reduce.is told.1, Writes-put _ _ _ _ told.2)
-
-pub returns-in-Reduce-clause-fault : goal.returns-in-Reduce-clause-fault
-returns-in-Reduce-clause-fault g c =
-    let told = c.put_reduction.ensures.answer in
-    if_err c.record-in-Reduce.result c.record-in-Reduce.ensures (λ fault is. (is, told.0, rw c.in-Reduce.is told.1, record { unsent = c.put_reduction.new.held.items; written = Writes-put _ _ _ _ told.2 }))
+    let told = c.put_reduction.ensures.answer in (told.0, rw c.in-Reduce.is told.1, Writes-put _ _ _ _ told.2)

@@ -10,8 +10,8 @@ use Rattle.lv_hub.specs.Replying.{TellsScan, scan_reply_text}
 use Rattle.lv_hub.specs.Session.{session_at}
 use Rattle.lv_hub.proofs.replying.put_scanned.Goals as goal
 
-pub put_running_scan-requires-clause-can : goal.put_running_scan-requires-clause-can
-put_running_scan-requires-clause-can g c = record { few = omega (arith, c.elements.ensures.few); elements = c.elements.ensures.elements }
+pub put_recorded_scan-requires-clause-can : goal.put_recorded_scan-requires-clause-can
+put_recorded_scan-requires-clause-can g c = record { few = omega (arith, c.elements.ensures.few); elements = c.elements.ensures.elements }
 
 -- the values are those of the elements that were copied
 pub returns-in-Ok-clause-fault : goal.returns-in-Ok-clause-fault
@@ -22,4 +22,4 @@ returns-in-Ok-clause-fault g c =
     ap₂ text_of c.last_number.ensures c.elements.ensures.same in
     let tells : (answers : List Claimed) → TellsScan g.N.Naming.limits g.N.Naming.numbers g.N.Naming.lists (session_at c.args.share.now answers) asked.inclusive asked.kind asked.lo asked.hi (text_of c.last_number.result c.elements.result.now) (session_at c.copy_range-copied.new.share answers) =
     λ answers. record { body = c.args.place.now.hub.now; result = Ok c.in-Ok.stretch; told = c.in-Ok.ensures.told; text_is = is; state = ap (λ h. session_at h answers) c.copy_range-copied.ensures.share } in
-    IfErr-weaker c.put_running_scan.result _ _ (λ fault fails. (fails.0, text_of c.last_number.result c.elements.result.now, tells, fails.1)) c.put_running_scan.ensures.fault
+    IfErr-weaker c.put_recorded_scan.result _ _ (λ fault fails. (fails.0, text_of c.last_number.result c.elements.result.now, tells, fails.1)) c.put_recorded_scan.ensures.fault

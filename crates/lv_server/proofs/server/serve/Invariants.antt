@@ -1,5 +1,5 @@
 -- The ghosts that are handed on in `serve`: holds a session for each pair of streams, in a thread of its own where one can be made, with workers beside them.
-use Rattle.std.proofs.Common.{Some, true}
+use Rattle.std.proofs.Common.{None, Some, true}
 use Rattle.lv_hub.specs.Numbering.{from_the_first}
 use Rattle.lv_server.specs.Starting.{start_of}
 use Rattle.lv_server.proofs.server.serve.Given as goal
@@ -14,4 +14,4 @@ abbrev pub ghosts-serve_as-N-WithBody : goal.ghosts-serve_as-N-WithBody
 ghosts-serve_as-N-WithBody g a = record { body = Some a.body }
 
 abbrev pub ghosts-serve_as-K-Begun : goal.ghosts-serve_as-K-Begun
-ghosts-serve_as-K-Begun g a = record { start = start_of g.V.Write.contents a.file }
+ghosts-serve_as-K-Begun g a = record { start = start_of g.V.Write.contents a.file; there = None }

@@ -12,9 +12,9 @@ leave_all-left-requires-clause-room g c =
     let many = watched_as_many _ _ c.args.clients.watches.items c.in_ok-present.ensures.watchers in
     omega (arith, many, c.hold_all-held.ensures.watched.len, c.in_ok-present.ensures.left_room, c.args.clients.watches.ok.0, c.hold_all-held.result.1.ok.0)
 
--- a log is of a hub that begins with no edit
-pub begin_log-requires-clause-unseen : goal.begin_log-requires-clause-unseen
-begin_log-requires-clause-unseen g c = if_some c.args.file (λ _ none. ap (λ s. s.seen) c.in_ok-begin.ensures ∙ none) c.requires.fresh
+-- a log is of a hub that begins with the edits that were there
+pub begin_log-requires-clause-seen : goal.begin_log-requires-clause-seen
+begin_log-requires-clause-seen g c = if_some c.args.file (λ _ there. ap (λ s. s.seen) c.in_ok-begin.ensures ∙ there) c.requires.begins
 
 -- as many parts come back as were cut off
 pub returns-clause-parts : goal.returns-clause-parts

@@ -1,8 +1,10 @@
 -- Proof of `serve_as`: serves them on a hub of this name.
-use Rattle.std.proofs.Common.{◌∙◌}
+use Rattle.std.proofs.Common.{◌∙◌, ap, is_some, subst, sym}
+use Rattle.lv_hub.specs.Logging.{MayGoOn, edits_there}
+use Rattle.lv_hub.proofs.LogLaws.{no_log_goes_on}
 use Rattle.lv_hub.proofs.WatchedLaws.{served_watched}
 use Rattle.lv_server.proofs.RecordingLaws.{passes_all, passes_ill, passes_well}
-use Rattle.lv_server.proofs.ServedLaws.{failed_so, served_so}
+use Rattle.lv_server.proofs.ServedLaws.{failed_so, if_some, served_so}
 use Rattle.lv_server.proofs.server.serve_as.Goals as goal
 
 pub returns-in-Ok-clause-served : goal.returns-in-Ok-clause-served
@@ -20,9 +22,19 @@ returns-in-Ok-clause-back g c =
 
 pub returns-in-Ok-clause-recorded : goal.returns-in-Ok-clause-recorded
 returns-in-Ok-clause-recorded g c =
-    passes_well _ _ _ c.write_closed-file.result.1 c.all_or_failure.result c.all_or_failure.ensures (λ done recorded. recorded) c.write_closed-file.ensures.recorded
+    passes_well _ _ _ c.write_closed-file.result.1 c.all_or_failure.result c.all_or_failure.ensures (λ done recorded. recorded) (c.write_closed-file.ensures.recorded c.requires.transcript)
 
 -- what subscribers were told last goes with what they have left
 pub returns-in-Ok-clause-watched : goal.returns-in-Ok-clause-watched
 returns-in-Ok-clause-watched g c =
     passes_well _ _ _ c.write_closed-file.result.1 c.all_or_failure.result c.all_or_failure.ensures (λ done closed. served_watched g.N.Naming.numbers _ _ _ _ _ _ c.in-Ok.ensures.left closed) c.write_closed-file.ensures.told
+
+-- no log was there
+pub serve_all-served-requires-clause-log : goal.serve_all-served-requires-clause-log
+serve_all-served-requires-clause-log g c = sym (ap is_some c.requires.transcript)
+
+pub serve_all-served-requires-clause-goes_on : goal.serve_all-served-requires-clause-goes_on
+serve_all-served-requires-clause-goes_on g c = subst MayGoOn (sym c.requires.transcript) no_log_goes_on
+
+pub serve_all-served-requires-clause-begins : goal.serve_all-served-requires-clause-begins
+serve_all-served-requires-clause-begins g c = if_some c.args.file (λ _ none. none ∙ sym (ap edits_there c.requires.transcript)) c.requires.fresh

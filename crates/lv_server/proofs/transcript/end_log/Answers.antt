@@ -4,4 +4,4 @@ use Rattle.lv_server.proofs.transcript.end_log.Goals as goal
 
 -- what ended well was written whole
 pub returns-clause-whole : goal.returns-clause-whole
-returns-clause-whole g c = whole_so g.K.Begun.start _ c.args.journal.now c.end-file.result.1 c.end-file.ensures.ends
+returns-clause-whole g c = whole_so g.K.Begun.there g.K.Begun.start _ c.args.journal.now c.end-file.result.1 c.end-file.ensures.ends

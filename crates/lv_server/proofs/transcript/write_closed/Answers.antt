@@ -1,8 +1,9 @@
 -- Proof of `write_closed`: closes a hub and writes its transcript by what was made for it, ends its log, and gives its file back.
-use Rattle.std.proofs.Common.{All, List, subst, sym, ap}
+use Rattle.std.proofs.Common.{All, IfOk, IfSome, List, Option, subst, sym, ap}
 use mathlib.Core.List.{IsPrefix}
 use Rattle.lv_edits.specs.declared.edit.Edit.{Edit}
 use Rattle.lv_transcript.specs.Transcript.{IsTrueAnswer}
+use Rattle.lv_hub.specs.Logging.{LogThere, WroteWhole}
 use Rattle.lv_hub.proofs.TruthLaws.{all_true_of_more}
 use Rattle.lv_transcript.specs.Joined.{in_a_row}
 use Rattle.lv_server.proofs.RecordingLaws.{records_so}
@@ -46,8 +47,9 @@ end_log-file-requires g c =
 -- the file has the journal of the transcript
 pub returns-clause-recorded : goal.returns-clause-recorded
 returns-clause-recorded g c =
+    λ transcript.
     records_so g.V.Write.contents g.K.Begun.start c.close-live.result.history.journal c.journal.result.now c.journal-2.result.now (in_a_row c.args.queues.now.items) _ _ c.write_in_order-written.result c.end_log-file.result.1 c.first_failure.result c.end_log-file.result.0
-    c.journal.ensures c.journal-2.ensures c.first_failure.ensures.well c.first_failure.ensures.both c.write_in_order-written.ensures c.end_log-file.ensures.whole
+    c.journal.ensures c.journal-2.ensures c.first_failure.ensures.well c.first_failure.ensures.both c.write_in_order-written.ensures (subst (λ (log : Option LogThere). IfOk c.end_log-file.result.1 (λ done. IfSome c.end_log-file.result.0 (λ file. WroteWhole log g.K.Begun.start (g.V.Write.contents file) c.journal-2.result.now))) transcript c.end_log-file.ensures.whole)
 
 -- what is told last is of the journal too
 pub returns-clause-told : goal.returns-clause-told

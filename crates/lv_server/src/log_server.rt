@@ -1,0 +1,162 @@
+//! A server that goes on from a log of elements, whose file stays a log of all edits.
+
+ghost use Rattle.std.specs.Prelude.{◌≡◌, ◌+◌, ◌≤◌, ◌^◌, IfOk, IfSome, Ok, [], Some, is_some, map, true, false, vec_capacity, vec_len};
+ghost use Rattle.lv_hub.specs.Logging.{IsLogOfEdits, log_of_edits};
+ghost use Rattle.lv_hub.specs.Session.{are_listed};
+ghost use Rattle.lv_hub.specs.Watched.{WatchState};
+ghost use Rattle.lv_server.specs.Closing.{ClosesLog};
+ghost use Rattle.lv_server.specs.PlainLogged.{LogServed};
+ghost use Rattle.lv_server.specs.Served.{Sides};
+
+use crate::clients::{Clients, Gathered};
+use crate::opened_client::OpenedClient;
+use crate::program_error::{ProgramError, Reason};
+use crate::server::{Plan, serve_all};
+use crate::transcript::{all_or_failure, end_log, shown};
+use lv_bodies::Six;
+use lv_edits::Edit;
+use lv_hub::{
+    Begun, Hub, KeptAnswers, Leaving, LogHeading, Opened, OperationLog, Share, Watch, Watched,
+    WithBody,
+};
+use lv_script::Fault;
+use std::alloc::Global;
+use std::io::{Read, Write};
+use std::marker::Brand;
+use std::sync::Wait;
+use std::sync::ledger::Blank;
+use std::thread::Threads;
+
+/// Serves sessions and subscribers as `serve` does, on a vector that goes on from a log with this first line and these edits: the numbers that
+/// replies and notes tell go on from its base. Edits are written to its file before a reply or a note of them goes out, and so are answered
+/// reductions, where answers are logged. The file is at its end, and is given back. No transcript is written.
+///
+/// Where an edit that the log has is refused, that is the fault: `NoMemory`, or else `ReadFault`. After a write that fails, or a flush, no edit is told
+/// of any more: sessions end, and the fault is `WriteFault`. Where sessions end with faults, the first of them is the fault. A failure gives
+/// nothing back; the file has a log then too, with each edit that was told of.
+pub fn serve_log<F: Read + Write + Send + Drop, V: Write + Send + Drop, R: Threads + Wait + Sync>(
+    rt: &R,
+    alloc: Global,
+    plan: Plan,
+    logs_answers: bool,
+    heading: LogHeading,
+    begun: &[Edit],
+    streams: Vec<OpenedClient<F>>,
+    watches: Vec<Watch<F>>,
+    file: V,
+) -> Result<(Vec<OpenedClient<F>>, Option<V>, Vec<Watched<F>>), ProgramError>
+    requires log { IsLogOfEdits heading begun.now }
+    requires base { heading.base ≤ 2 ^ 62 }
+    ensures back { IfOk result (λ done. is_some done.1 ≡ true) }
+    // Replies are the plain interpreter's, at beginnings of one list of edits, and the file has all of that list.
+    ensures served { IfOk result (λ done. IfSome done.1 (λ kept. LogServed plan.limits heading begun.now (map (λ s. record { lines = F.remaining s.lines; replies = F.contents s.replies }) streams.items) (map (λ s. record { lines = F.remaining s.lines; replies = F.contents s.replies }) done.0.items)
+        (map (λ w. record { questions = w.questions.items; contents = F.contents w.notes }) watches.items) (map (λ w. w.notices) done.2.items) (V.contents file) (V.contents kept))) }
+{
+    let parts = streams.len() as u64 + watches.len() as u64 + 1;
+    serve_log_as::<Brand, Brand, F, V, R>(
+        rt,
+        alloc,
+        plan,
+        heading,
+        if logs_answers {
+            KeptAnswers::Logged
+        } else {
+            KeptAnswers::Nothing
+        },
+        begun,
+        Clients { streams, watches },
+        file,
+        Blank::new(parts),
+        parts,
+        Opened::new(),
+        Six,
+    )
+}
+
+// Serves them on a hub of this name.
+fn serve_log_as<
+    N: WithBody<Six> + Send + Sync,
+    K: Begun + Send + Sync,
+    F: Read + Write + Send + Drop,
+    V: Write + Send + Drop,
+    R: Threads + Wait + Sync,
+>(
+    rt: &R,
+    alloc: Global,
+    plan: Plan,
+    heading: LogHeading,
+    keeps: KeptAnswers,
+    begun: &[Edit],
+    clients: Clients<F>,
+    file: V,
+    blank: Blank,
+    parts: u64,
+    opened: Opened,
+    body: Six,
+) -> Result<(Vec<OpenedClient<F>>, Option<V>, Vec<Watched<F>>), ProgramError>
+    requires name { blank.name ≡ N.name }
+    requires all { blank.parts ≡ N.parts }
+    requires parts { blank.parts ≡ parts }
+    requires one_each { parts ≡ vec_len clients.streams + vec_len clients.watches + 1 }
+    requires limits { plan.limits ≡ N.limits }
+    requires history { opened ≡ N.history }
+    requires numbers { heading ≡ N.numbers }
+    requires base { heading.base ≤ 2 ^ 62 }
+    requires lists { are_listed keeps ≡ N.lists }
+    requires unlisted { N.lists ≡ false }
+    requires body { N.body ≡ Some body }
+    requires start { K.start ≡ V.contents file }
+    requires there { K.there ≡ Some (log_of_edits heading begun.now) }
+    requires log { IsLogOfEdits heading begun.now }
+    ensures back { IfOk result (λ done. is_some done.1 ≡ true) }
+    ensures served { IfOk result (λ done. IfSome done.1 (λ kept. LogServed plan.limits heading begun.now (map (λ s. record { lines = F.remaining s.lines; replies = F.contents s.replies }) clients.streams.items) (map (λ s. record { lines = F.remaining s.lines; replies = F.contents s.replies }) done.0.items)
+        (map (λ w. record { questions = w.questions.items; contents = F.contents w.notes }) clients.watches.items) (map (λ w. w.notices) done.2.items) (V.contents file) (V.contents kept))) }
+{
+    let (hub, mut share) = Hub::<Six, N>::new(alloc, plan.limits, body, blank, parts, opened);
+    let file = Some(file);
+    let served = serve_all::<N, K, F, V, R>(
+        rt, alloc, plan, heading, keeps, begun, &hub, &mut share, clients, file, true,
+    );
+    match served {
+        Ok((all, log, leaving)) => {
+            let Gathered { streams, .. } = all;
+            let (file, written, watched) = close_log(hub, share, log, leaving);
+            all_or_failure(written, streams, file, watched)
+        }
+        Err(failure) => {
+            drop(hub);
+            Err(failure)
+        }
+    }
+}
+
+// Closes a hub, ends its log, and gives its file back. Then subscribers that have ended tell the last. Takes no memory.
+fn close_log<N: WithBody<Six>, K: Begun, F: Write + Drop, V: Write + Drop>(
+    hub: Hub<Six, N>,
+    share: Share<N>,
+    log: Option<OperationLog<N, V, K>>,
+    leaving: Leaving<F>,
+) -> (Option<V>, Result<(), ProgramError>, Vec<Watched<F>>)
+    requires parts { share.parts ≡ N.parts }
+    requires none { leaving.watched.items ≡ [] }
+    requires room { vec_len leaving.left ≤ vec_capacity leaving.watched }
+    ensures back { is_some result.0 ≡ is_some log }
+    ensures closed { IfOk result.1 (λ done. ClosesLog V.contents K.there K.start N.limits N.numbers share leaving.left.items (map (λ w. w.notices) result.2.items) result.0) }
+{
+    let share = shown(&log, share);
+    let mut live = hub.close(share);
+    let (file, ended) = end_log(log, live.journal());
+    let watched = leaving.tell(&mut live, ended.is_ok());
+    drop(live);
+    (file, logged(ended), watched)
+}
+
+// How a log's end is told.
+fn logged(ended: Result<(), Fault>) -> Result<(), ProgramError>
+    ensures { IfOk result (λ done. ended ≡ Ok done) }
+{
+    match ended {
+        Ok(()) => Ok(()),
+        Err(fault) => Err(ProgramError::new(fault, Reason::Transcript, 0)),
+    }
+}
