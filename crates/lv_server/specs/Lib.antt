@@ -6,3 +6,4 @@ pub mod Served
 pub mod Starting
 pub mod Tasks
 pub mod Writing
+pub mod Stores

@@ -1,5 +1,8 @@
 //! The files of clients, and of the transcript or of the log, and how they are opened: none is changed before all are found fit.
 
+ghost use Rattle.std.specs.Prelude.{◌≡◌, IfOk};
+ghost use Rattle.lv_server.specs.Stores.{IsRightStore, MayStart};
+
 use crate::clients::Clients;
 use crate::identity::{Identity, is_written, standard_files};
 use crate::log_file::{LogFile, names_of, open_locked};
@@ -101,10 +104,15 @@ pub fn open_with_log<C: Clock + Copy, R: Eprint + Files<File = File>>(
     alloc: Global,
     limits: Limits,
     names: Names<'_>,
-) -> Result<(Clients<Waited<C, File>>, StartedLog<Waited<C, LogFile<File>>>), ProgramError> {
+) -> Result<(Clients<Waited<C, File>>, StartedLog<Waited<C, LogFile<File>>>), ProgramError>
+    ensures { IfOk result (λ opened. MayStart opened.1.heading opened.1.edits.journal) }
+{
     let (clients, mut all) = room_for(alloc, names)?;
     match open_and_start(clock, rt, alloc, limits, names, &mut all) {
-        Ok(log) => Ok((empty_all(clock, all, clients, names.sessions)?, log)),
+        Ok(log) => {
+            let clients = empty_all(clock, all, clients, names.sessions)?;
+            Ok((clients, log))
+        }
         Err(error) => Err(without_new(rt, &all, error)),
     }
 }
@@ -154,7 +162,9 @@ fn open_and_start<C: Clock + Copy, R: Eprint + Files<File = File>>(
     limits: Limits,
     names: Names<'_>,
     all: &mut Vec<OpenedClient<File>>,
-) -> Result<StartedLog<Waited<C, LogFile<File>>>, ProgramError> {
+) -> Result<StartedLog<Waited<C, LogFile<File>>>, ProgramError>
+    ensures { IfOk result (λ log. MayStart log.heading log.edits.journal) }
+{
     open_each(rt, alloc, names.of_clients(), all)?;
     ask_each(alloc, all.as_mut_slice(), names.sessions)?;
     let name = names.of_record().unwrap_or("");
@@ -178,7 +188,10 @@ fn start<C: Clock + Copy, R: Eprint + Files<File = File>>(
     names: Names<'_>,
     store: StoreFile,
     all: &[OpenedClient<File>],
-) -> Result<StartedLog<Waited<C, LogFile<File>>>, ProgramError> {
+) -> Result<StartedLog<Waited<C, LogFile<File>>>, ProgramError>
+    requires { IsRightStore store.found }
+    ensures { IfOk result (λ log. MayStart log.heading log.edits.journal) }
+{
     let mut store = store;
     if is_taken(rt, all, store.output) {
         return Err(ProgramError::new(Fault::WriteFault, Reason::RecordTaken, names.clients));

@@ -1,5 +1,8 @@
 //! Logs that are made anew of the elements that there are at their end.
 
+ghost use Rattle.std.specs.Prelude.{◌≤◌, ◌^◌};
+ghost use Rattle.lv_transcript.specs.Logs.{base_of};
+
 use crate::folders::{COMPACTING, Found, KEPT, beside, found_at, sync_folder};
 use crate::identity::{is_written, standard_files};
 use crate::log_file::LogFile;
@@ -114,7 +117,9 @@ fn fill_and_replace<C: Clock + Copy, R: Files<File = File>>(
     made: &str,
     file: File,
     drops_old: bool,
-) -> Result<LogHeading, ProgramError> {
+) -> Result<LogHeading, ProgramError>
+    requires { base_of store.now.found.heading ≤ 2 ^ 62 }
+{
     let mut log = Waited::new(clock, LogFile { file, syncs: true });
     match compact_log(alloc, &store.found, &mut log) {
         Ok(()) => {}

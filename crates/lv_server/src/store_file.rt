@@ -1,5 +1,8 @@
 //! The log that a server goes on from: how it is opened and looked at, and how it begins.
 
+ghost use Rattle.std.specs.Prelude.{◌≡◌, IfOk, OnOk};
+ghost use Rattle.lv_server.specs.Stores.{IsFit, IsRightStore, MayStart};
+
 use crate::escaped::Escaped;
 use crate::folders::{Found, KEPT, beside, found_at, sync_folder};
 use crate::identity::Identity;
@@ -14,11 +17,17 @@ use lv_script::Fault;
 use lv_transcript::{FoundFront, FrontVerdict, LogHeading, read_front, write_log};
 use std::alloc::Global;
 use std::fs::{File, Files, OpenFile, remove_file};
-use std::io::{Read, Seek, SeekFrom};
+use std::io::{Read, Seek, SeekFrom, Write};
 use std::time::Clock;
 
 // How many updates come before a log at most that is gone on with.
 const HIGHEST_BASE: u64 = 4_611_686_018_427_387_904;
+
+// How a log begins before which nothing came.
+const NEW: LogHeading = LogHeading {
+    base: 0,
+    elements: 0,
+};
 
 // The first line of a log before which nothing came, without its LF, and its length.
 const FIRST_LINE: [u8; 13] = *b"livevec 2 0 0";
@@ -60,7 +69,9 @@ impl StoreFile {
         name: &str,
         number: usize,
         makes: bool,
-    ) -> Result<StoreFile, ProgramError> {
+    ) -> Result<StoreFile, ProgramError>
+        ensures { IfOk result (λ store. IsRightStore store.found) }
+    {
         let how = Access {
             is_store: true,
             makes,
@@ -84,7 +95,9 @@ impl StoreFile {
     }
 
     /// Sees that a front was found there, and that its next updates can be numbered. The first wrong line is the fault, `ReadFault`.
-    pub fn check_front(&self) -> Result<(), ProgramError> {
+    pub fn check_front(&self) -> Result<(), ProgramError>
+        ensures { OnOk result (IsFit self.now.found) }
+    {
         let reason = match self.found.verdict {
             FrontVerdict::No(line) => Reason::FalseLog(line),
             FrontVerdict::Bad(line) => Reason::MisspeltLog(line),
@@ -98,7 +111,10 @@ impl StoreFile {
 
     /// Sees that it is a log, or nothing but a part of the first line of a new one, whose updates keep to these limits. What it is otherwise is the
     /// fault, `ReadFault`.
-    pub fn check_log(&mut self, alloc: Global, limits: Limits) -> Result<(), ProgramError> {
+    pub fn check_log(&mut self, alloc: Global, limits: Limits) -> Result<(), ProgramError>
+        ensures same { self.new.found ≡ self.old.found }
+        ensures fit { OnOk result (IsFit self.old.found) }
+    {
         self.check_front()?;
         if self.is_blank() && !self.is_first_line_torn() {
             return Err(ProgramError::new(Fault::ReadFault, Reason::MisspeltLog(1), self.number));
@@ -110,7 +126,9 @@ impl StoreFile {
     }
 
     // Whether a file without a whole line has a beginning of a new log's first line.
-    fn is_first_line_torn(&mut self) -> bool {
+    fn is_first_line_torn(&mut self) -> bool
+        ensures { self.new.found ≡ self.old.found }
+    {
         let Ok(length) = usize::try_from(self.length) else {
             return false;
         };
@@ -154,7 +172,11 @@ impl StoreFile {
         alloc: Global,
         name: &str,
         syncs: bool,
-    ) -> Result<StartedLog<Waited<C, LogFile<File>>>, ProgramError> {
+    ) -> Result<StartedLog<Waited<C, LogFile<File>>>, ProgramError>
+        requires right { IsRightStore self.found }
+        requires fit { IsFit self.found }
+        ensures { IfOk result (λ log. MayStart log.heading log.edits.journal) }
+    {
         let unwritten = ProgramError::new(Fault::WriteFault, Reason::Log, self.number);
         if self.is_kept && !is_single(rt, alloc, name)? {
             return Err(unwritten);
@@ -177,7 +199,11 @@ impl StoreFile {
         clock: C,
         alloc: Global,
         syncs: bool,
-    ) -> Result<StartedLog<Waited<C, LogFile<File>>>, ProgramError> {
+    ) -> Result<StartedLog<Waited<C, LogFile<File>>>, ProgramError>
+        requires right { IsRightStore self.found }
+        requires fit { IsFit self.found }
+        ensures { IfOk result (λ log. MayStart log.heading log.edits.journal) }
+    {
         let StoreFile {
             file,
             found,
@@ -186,26 +212,29 @@ impl StoreFile {
         } = self;
         let FoundFront { edits, heading, .. } = found;
         let mut file = Waited::new(clock, LogFile { file, syncs });
-        if let Some(heading) = heading {
+        let Some(heading) = heading else {
+            drop(edits);
+            write_new(alloc, number, &mut file)?;
             return Ok(StartedLog {
                 file,
-                heading,
-                edits,
+                heading: NEW,
+                edits: Edits::new(alloc, Limits::greatest()),
             });
-        }
-        let heading = LogHeading {
-            base: 0,
-            elements: 0,
         };
-        match write_log(alloc, heading, &[], &mut file) {
-            Ok(()) => Ok(StartedLog {
-                file,
-                heading,
-                edits,
-            }),
-            Err(Fault::NoMemory) => Err(ProgramError::memory()),
-            Err(fault) => Err(ProgramError::new(fault, Reason::Log, number)),
-        }
+        Ok(StartedLog {
+            file,
+            heading,
+            edits,
+        })
+    }
+}
+
+// Writes the first line of a log before which nothing came.
+fn write_new<W: Write>(alloc: Global, number: usize, file: &mut W) -> Result<(), ProgramError> {
+    match write_log(alloc, NEW, &[], file) {
+        Ok(()) => Ok(()),
+        Err(Fault::NoMemory) => Err(ProgramError::memory()),
+        Err(fault) => Err(ProgramError::new(fault, Reason::Log, number)),
     }
 }
 
@@ -227,7 +256,9 @@ fn read_store<C: Clock + Copy, R: Files>(
     number: usize,
     file: File,
     output: OutputFile,
-) -> Result<StoreFile, ProgramError> {
+) -> Result<StoreFile, ProgramError>
+    ensures { IfOk result (λ store. IsRightStore store.found) }
+{
     let is_kept = has_kept_name(rt, alloc, name, number, &file, output.identity)?;
     let found = match read_front(alloc, MOST_NUMBERED, Waited::new(clock, &file)) {
         Ok(found) => found,
