@@ -96,6 +96,8 @@ def compact(room, dice):
 
 def logs(room):
     """One log is gone on with by one server after the other, each of which is killed; now and then it is compacted, which is killed too."""
+    # a shell that runs this in the background has it ignore SIGINT, and servers would too
+    signal.signal(signal.SIGINT, signal.default_int_handler)
     dice, kills, ends, cut, total = random.Random(SEED), 0, 0, 0, 0
     names = [f"{room}/{name}" for name in ("a", "b")]
     open(f"{room}/w", "w").write(QUERIES)
