@@ -356,5 +356,11 @@ fn put_recorded_scan<N: WithBody<Six>, T: Wait, L: SessionLog<N>, W: Write>(
         (scan_text number asked.now.inclusive asked.now.kind (scan_by (plain_value asked.now.kind) asked.now.inclusive elements.now))) }
 {
     log.record(place.rt, place.hub)?;
-    put_running_scan(buffer, number, asked.inclusive, asked.kind, &Slice { elements })
+    put_running_scan(
+        buffer,
+        number,
+        asked.inclusive,
+        asked.kind,
+        &Slice { elements },
+    )
 }
