@@ -1,7 +1,7 @@
 -- What a log is given is true in the order of time.
 use Rattle.std.proofs.Common.{◌≡◌, ℕ, zero, suc, ◌+◌, ◌≤◌, Bool, false, true, is_some, Option, Some, None, Result, Ok, Err, IfSome, option_map, List, [], ◌∷◌, ◌++◌, All, length, map, take, drop, refl, sym, ap, ◌∙◌, subst, inl, inr, arith, append_assoc, append-nil, take-append-drop}
 use Rattle.std.proofs.lemmas.List.Elements.{All-cons, All-head, All-nil, All-tail}
-use Rattle.std.proofs.lemmas.List.{drop-append-le, length_push, map-append, take-append-le}
+use Rattle.std.proofs.lemmas.List.{drop-append-le, length-append, length_push, map-append, take-append-le}
 use Rattle.std.proofs.lemmas.Grind.{flat_map-append}
 use Rattle.std.proofs.Math.Seq.{drop-length}
 use Rattle.std.specs.Io.KnownBytes.{Appends}
@@ -184,6 +184,17 @@ text_of_both : (heading : Option LogHeading) (there entries : List Entry) → fr
 text_of_both heading there entries =
     sym (flat_map-append (λ line. line ++ 10 ∷ []) (heading_line heading ∷ map entry_line there) (map entry_line entries))
     ∙ ap (λ (lines : List (List ℕ)). ended (heading_line heading ∷ lines)) (sym (map-append entry_line there entries))
+
+-- so a sound log stays one
+pub stays_a_log : (heading : LogHeading) (there entries : List Entry) (edits : List Edit) → IsWholeFront (Some heading) (front_bytes_of (Some heading) there) there → edits ≡ edits_in there → AreTrueAfter edits (length edits) entries
+    → IsWholeFront (Some heading) (front_bytes_of (Some heading) there ++ ended (map entry_line entries)) (there ++ entries)
+stays_a_log heading there entries edits sound same holds =
+    let log : LogThere = record { heading = heading; entries = there } in
+    let all = true_behind (Some log) entries record { all_true = sound.front.all_true; elements = sound.elements } (subst (λ (es : List Edit). AreTrueAfter es (length es) entries) same holds) in
+    record {
+      front = subst (λ (bytes : List ℕ). IsFrontOf (Some heading) bytes (there ++ entries)) (sym (text_of_both (Some heading) there entries)) (entry_lines_front (Some heading) (there ++ entries) all);
+      elements = omega (arith, sound.elements, length-append there entries);
+    }
 
 -- ---- the log
 

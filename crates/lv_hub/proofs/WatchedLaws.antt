@@ -106,7 +106,7 @@ watched_so numbers edits watch l new same questions told last =
           (wrote watch.contents (all_told_text numbers told.tolds) told.written);
     }
 
-watched_each : (numbers : LogHeading) (seen edits : List Edit) (watches : List WatchState) (left : List LeftState) (news : List NoticesState) → IsPrefix seen edits → AreLeft numbers seen watches left → AllTellLast edits left news → AreWatched numbers edits watches news
+pub watched_each : (numbers : LogHeading) (seen edits : List Edit) (watches : List WatchState) (left : List LeftState) (news : List NoticesState) → IsPrefix seen edits → AreLeft numbers seen watches left → AllTellLast edits left news → AreWatched numbers edits watches news
 watched_each numbers seen edits [] [] [] begun are last = tt
 watched_each numbers seen edits [] [] (n ∷ news) begun are last = absurd last
 watched_each numbers seen edits [] (l ∷ left) news begun are last = absurd are

@@ -1,10 +1,13 @@
 //! What holds of all sessions together, and of all subscribers.
-ghost use Rattle.std.specs.Prelude.{◌↔◌, ℕ, List, map};
+ghost use Rattle.std.specs.Prelude.{◌≡◌, ◌↔◌, ◌++◌, ℕ, List, Some, length, map};
 ghost use mathlib.Core.List.{IsPrefix};
 ghost use Rattle.lv_edits.specs.declared.edit.Edit.{Edit};
 ghost use Rattle.lv_geometry.specs.Bounds.{Bounds};
 ghost use Rattle.lv_lines.specs.Replies.{Answered};
 ghost use Rattle.lv_transcript.specs.declared.log_heading.LogHeading.{LogHeading};
+ghost use Rattle.lv_transcript.specs.Fronts.{AreTrueAfter, Entry, IsWholeFront, edits_in, entry_line};
+ghost use Rattle.lv_transcript.specs.Transcribing.{front_bytes_of};
+ghost use Rattle.lv_transcript.specs.Transcript.{ended};
 ghost use Rattle.lv_hub.specs.AsScripts.{ScriptedStep};
 ghost use Rattle.lv_hub.specs.Counting.{ShareState};
 ghost use Rattle.lv_hub.specs.Noticing.{NoticesState, WatcherState};
@@ -33,4 +36,11 @@ pub fn replies_are_true_of_one_list()
 pub fn lines_are_plain_answers_of_one_list()
     ensures { (limits : Bounds) (numbers : LogHeading) (old new : ShareState) (edits : List Edit) (watches : List WatchState) (watchers : List WatcherState) (left : List LeftState) (told : List NoticesState) →
         AreWatchedFrom limits numbers (map watcher_at watches) watchers → TakesWatchers numbers old new watchers left → IsPrefix new.seen edits → AllTellLast edits left told → AreWatched numbers edits watches told }
+{}
+
+/// A file that is a sound log, and gets the lines of entries that are true behind its edits, is a sound log with all of them: so it is with what
+/// a server adds to its log, whatever answers stand in that already.
+pub fn what_goes_on_behind_a_log_is_a_log()
+    ensures { (heading : LogHeading) (there entries : List Entry) (edits : List Edit) → IsWholeFront (Some heading) (front_bytes_of (Some heading) there) there → edits ≡ edits_in there → AreTrueAfter edits (length edits) entries
+        → IsWholeFront (Some heading) (front_bytes_of (Some heading) there ++ ended (map entry_line entries)) (there ++ entries) }
 {}

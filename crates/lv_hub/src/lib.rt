@@ -48,7 +48,10 @@ pub use gates::{Gate, OpenGate};
 pub use histories::{HistoryPrefix, Opened};
 pub use hubs::Hub;
 pub use kept_answers::KeptAnswers;
-pub use laws::{lines_are_plain_answers_of_one_list, replies_are_true_of_one_list};
+pub use laws::{
+    lines_are_plain_answers_of_one_list, replies_are_true_of_one_list,
+    what_goes_on_behind_a_log_is_a_log,
+};
 pub use leaving::{Leaving, Left, Watched, leave_all};
 pub use log_entry::LogEntry;
 pub use lv_standing::Query;

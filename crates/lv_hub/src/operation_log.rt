@@ -26,6 +26,7 @@ const ROOM: usize = 4096;
 /// What the writer of a log had got when it was begun, and what was there already, where it goes on behind a log of elements.
 pub trait Begun {
     ghost start: { Option (List ℕ) };
+
     ghost there: { Option LogThere };
 }
 
@@ -202,11 +203,7 @@ fn unused(alloc: Global, is_log: bool) -> Result<TranscriptWriter, AllocError>
 }
 
 // Writes what is held, and a transcript's last line behind it.
-fn finish<W: Write>(
-    transcript: TranscriptWriter,
-    is_log: bool,
-    writer: &mut W,
-) -> Result<(), Fault>
+fn finish<W: Write>(transcript: TranscriptWriter, is_log: bool, writer: &mut W) -> Result<(), Fault>
     ensures ends { (log : Option LogThere) (start : Option (List ℕ)) (entries : List Entry) → is_log ≡ is_some log
         → WasGivenOf (heading_of log) (there_of log) start entries (state_with (W.contents writer.old) transcript) → EndsText log start (W.contents writer.new) entries result }
     ensures fault { IfErr result (λ fault. fault ≡ Fault.WriteFault) }

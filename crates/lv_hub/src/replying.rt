@@ -1,5 +1,5 @@
 //! How a line of a session is answered.
-ghost use Rattle.std.specs.Prelude.{◌≡◌, ◌≤◌, ◌^◌, ◌++◌, ℕ, [], All, List, OnOk, IfErr, length, true, vec_len};
+ghost use Rattle.std.specs.Prelude.{◌≡◌, ◌≤◌, ◌^◌, ◌++◌, ◌∷◌, [], ℕ, All, List, OnOk, IfErr, length, true, vec_len};
 ghost use Rattle.lv_geometry.specs.declared.refusals.Refusal.{Refusal};
 ghost use Rattle.lv_bodies.specs.Long.{CanFoldLong};
 ghost use Rattle.lv_bodies.specs.Plain.{plain_value};
@@ -289,9 +289,19 @@ fn list(answers: &mut Vec<Claimed>, keeps: KeptAnswers, reduction: Claimed) -> R
     ensures unchanged { IfErr result (λ refusal. (are_listed keeps ≡ true) × (refusal ≡ Refusal.NoMemory) × (answers.new.items ≡ answers.old.items)) }
     ensures few { vec_len answers.old ≤ most_listed keeps → vec_len answers.new ≤ most_listed keeps }
 {
-    let KeptAnswers::Listed(most) = keeps else {
-        return Ok(());
-    };
+    match keeps {
+        KeptAnswers::Listed(most) => list_within(answers, most, reduction),
+        KeptAnswers::Logged => Ok(()),
+        KeptAnswers::Nothing => Ok(()),
+    }
+}
+
+// Lists a reduction behind others, where it finds room and fewer than so many are listed.
+fn list_within(answers: &mut Vec<Claimed>, most: usize, reduction: Claimed) -> Result<(), Refusal>
+    ensures listed { OnOk result (answers.new.items ≡ answers.old.items ++ reduction ∷ []) }
+    ensures unchanged { IfErr result (λ refusal. (refusal ≡ Refusal.NoMemory) × (answers.new.items ≡ answers.old.items)) }
+    ensures few { vec_len answers.old ≤ most → vec_len answers.new ≤ most }
+{
     if most <= answers.len() {
         return Err(Refusal::NoMemory);
     }
@@ -356,5 +366,11 @@ fn put_recorded_scan<N: WithBody<Six>, T: Wait, L: SessionLog<N>, W: Write>(
         (scan_text number asked.now.inclusive asked.now.kind (scan_by (plain_value asked.now.kind) asked.now.inclusive elements.now))) }
 {
     log.record(place.rt, place.hub)?;
-    put_running_scan(buffer, number, asked.inclusive, asked.kind, &Slice { elements })
+    put_running_scan(
+        buffer,
+        number,
+        asked.inclusive,
+        asked.kind,
+        &Slice { elements },
+    )
 }

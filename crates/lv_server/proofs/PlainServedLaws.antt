@@ -23,7 +23,7 @@ to_the_end limits numbers begun old new seen c =
     record { input = c.seen; read = c.read; at_end = at_end; few = few; text = all.text; answered = all.answered; written = all.written }
 
 -- each session that was held was held plainly
-held_plainly : (limits : Bounds) (numbers : LogHeading) (listing : Bool) (begun : List Edit) (olds news : List Sides) (states : List SessionState) → AreHeld limits numbers listing begun olds news states → AreHeldPlainly limits numbers begun olds news (map kept_by states)
+pub held_plainly : (limits : Bounds) (numbers : LogHeading) (listing : Bool) (begun : List Edit) (olds news : List Sides) (states : List SessionState) → AreHeld limits numbers listing begun olds news states → AreHeldPlainly limits numbers begun olds news (map kept_by states)
 held_plainly limits numbers listing begun [] [] [] held = tt
 held_plainly limits numbers listing begun [] [] (s ∷ states) held = absurd held
 held_plainly limits numbers listing begun [] (n ∷ news) states held = absurd held
@@ -33,7 +33,7 @@ held_plainly limits numbers listing begun (o ∷ olds) (n ∷ news) (s ∷ state
     (to_the_end limits numbers begun o n (kept_by s) (session_plain limits numbers listing (new_session begun) s o.lines n.lines o.replies n.replies ended_well held.0), held_plainly limits numbers listing begun olds news states held.1)
 
 -- they made as many edits as they count
-made_so : (states : List SessionState) → counted_by states ≡ sum_by (λ (seen : Seen). seen.made) (map kept_by states)
+pub made_so : (states : List SessionState) → counted_by states ≡ sum_by (λ (seen : Seen). seen.made) (map kept_by states)
 made_so states =
     let made : Seen → ℕ = λ seen. seen.made in
     sym (sum-map (λ (s : SessionState). s.count) states) ∙ ap sum (sym (map-map made kept_by states)) ∙ sum-map made (map kept_by states)

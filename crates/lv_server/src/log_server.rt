@@ -141,7 +141,7 @@ fn close_log<N: WithBody<Six>, K: Begun, F: Write + Drop, V: Write + Drop>(
     requires none { leaving.watched.items ≡ [] }
     requires room { vec_len leaving.left ≤ vec_capacity leaving.watched }
     ensures back { is_some result.0 ≡ is_some log }
-    ensures closed { IfOk result.1 (λ done. ClosesLog V.contents K.there K.start N.limits N.numbers share leaving.left.items (map (λ w. w.notices) result.2.items) result.0) }
+    ensures closed { IfOk result.1 (λ done. ClosesLog V.contents K.there K.start N.limits share leaving.left.items (map (λ w. w.notices) result.2.items) result.0) }
 {
     let share = shown(&log, share);
     let mut live = hub.close(share);

@@ -4,12 +4,13 @@ ghost use Rattle.lv_hub.specs.Numbering.{from_the_first};
 
 use super::common::*;
 use crate::same::assert_same;
-use lv_bodies::Six;
-use lv_geometry::Limits;
+use lv_bodies::{Kind, Shown, Six};
+use lv_geometry::{Limits, Refusal};
 use lv_hub::*;
 use lv_script::{Claimed, Fault};
+use lv_standing::Answered;
 use std::alloc::Global;
-use std::io::{Read, Write};
+use std::io::Write;
 use std::marker::Brand;
 use std::process::Abort;
 use std::sync::atomic::{AtomicBool, Ordering};
@@ -19,7 +20,7 @@ use std::test::Fail;
 use std::thread::Threads;
 use std::{io, thread};
 
-// Where the first write of a log's file stands, until another session was answered. Whether a write has ended, and whether a reply to
+// Where the first write of a log's file stands, until the hub was asked. Whether a write has ended, and whether a reply to
 // what it records came first.
 #[derive(Drop)]
 struct Stage {
@@ -83,41 +84,11 @@ impl Write for LateReplies<'_> {
     }
 }
 
-// Lines that come once the file's first write stands.
-#[derive(Drop)]
-struct LateLines<'a> {
-    stage: &'a Stage,
-    rest: &'static [u8],
-}
-
-impl Read for LateLines<'_> {
-    fn read(&mut self, buf: &mut [u8]) -> io::Result<usize> {
-        self.stage.latch.wait_for_it();
-        self.rest.read(buf)
-    }
-}
-
-// Replies that release the file's write.
-#[derive(Drop)]
-struct ReleasingReplies<'a> {
-    stage: &'a Stage,
-    bytes: Vec<u8>,
-}
-
-impl Write for ReleasingReplies<'_> {
-    fn write(&mut self, buf: &[u8]) -> io::Result<usize> {
-        let written = self.bytes.write(buf);
-        self.stage.latch.release();
-        written
-    }
-
-    fn flush(&mut self) -> io::Result<()> {
-        Ok(())
-    }
-}
-
 // How a session ends, and its replies.
 type Heard = (Result<Vec<Claimed>, Fault>, Vec<u8>);
+
+// What the hub answers.
+type Asked = Result<Answered, Refusal>;
 
 // Sees that a session answered no reduction, and what it replied.
 fn assert_heard(rt: &impl Abort, heard: Heard, replies: &[u8]) {
@@ -145,36 +116,29 @@ fn hold_pushing<N: WithBody<Six>, K: Begun, R: Wait>(
     (share, (ended, replies.bytes))
 }
 
-// Holds a session that scans while the file is written, on a share of its own, which it hands back. A scan isn't recorded.
-fn hold_scanning<N: WithBody<Six>, K: Begun, R: Wait>(
+// Asks the hub for the sum of its first element while the file is written, on a share of its own, which it hands back, and lets the write go on then.
+fn ask_meanwhile<N: WithBody<Six>, R: Wait>(
     place: SessionPlace<'_, N, R>,
-    log: &Mutex<OperationLog<N, HeldFile<'_>, K>>,
     share: Share<N>,
     stage: &Stage,
-) -> (Share<N>, Heard)
+) -> (Share<N>, Asked)
     ensures { result.0.parts ≡ share.parts }
 {
     let mut share = share;
-    let mut reader = LateLines {
-        stage,
-        rest: b"inc sum 0 1\n",
-    };
-    let mut replies = ReleasingReplies {
-        stage,
-        bytes: Vec::new(place.alloc),
-    };
-    let ended = run_session(place, log, &mut share, &mut reader, &mut replies);
-    (share, (ended, replies.bytes))
+    stage.latch.wait_for_it();
+    let asked = place.hub.value(place.rt, &mut share, Kind::Sum, 0, 1);
+    stage.latch.release();
+    (share, asked)
 }
 
-// Holds both, each in a thread of its own; both shares together are handed back.
+// Does both, each in a thread of its own; both shares together are handed back.
 fn hold_two<N: WithBody<Six> + Send + Sync, K: Begun + Send + Sync, R: Threads + Wait + Sync>(
     rt: &R,
     places: (SessionPlace<'_, N, R>, SessionPlace<'_, N, R>),
     log: &Mutex<OperationLog<N, HeldFile<'_>, K>>,
     share: Share<N>,
     stage: &Stage,
-) -> (Share<N>, Heard, Heard)
+) -> (Share<N>, Heard, Asked)
     requires { share.parts ≡ 2 }
     ensures { result.0.parts ≡ 2 }
 {
@@ -184,7 +148,7 @@ fn hold_two<N: WithBody<Six> + Send + Sync, K: Begun + Send + Sync, R: Threads +
     let ((mut all, one), (part, other)) = thread::join(
         rt,
         move || hold_pushing(here, log, mine, stage),
-        move || hold_scanning(there, log, theirs, stage),
+        move || ask_meanwhile(there, theirs, stage),
     );
     all.join(part);
     (all, one, other)
@@ -209,10 +173,10 @@ fn end_log<N: WithBody<Six>, K: Begun>(
     (file.bytes, ended)
 }
 
-// What two sessions heard, and what was written of them.
-type Held = (Heard, Heard, Written);
+// What a session heard, what the hub answered meanwhile, and what was written.
+type Held = (Heard, Asked, Written);
 
-// A hub with a log at which both are held, closed.
+// A hub with a log at which a session is held, and which is asked meanwhile, closed.
 fn hold_logged<N: WithBody<Six> + Send + Sync, K: Begun + Send + Sync, R: Threads + Wait + Sync>(
     rt: &R,
     alloc: Global,
@@ -231,13 +195,14 @@ fn hold_logged<N: WithBody<Six> + Send + Sync, K: Begun + Send + Sync, R: Thread
     requires lists { N.lists ≡ true }
     requires body { N.body ≡ Some body }
     requires start { K.start ≡ None }
+    requires there { K.there ≡ None }
 {
     let (hub, share) = Hub::<Six, N>::new(alloc, limits, body, blank, 2, opened);
     let file = HeldFile {
         stage,
         bytes: Vec::new(alloc),
     };
-    match OperationLog::<N, HeldFile<'_>, K>::begin(rt, alloc, file, &hub, &share) {
+    match OperationLog::<N, HeldFile<'_>, K>::begin(rt, alloc, file, false, &hub, &share) {
         Ok(log) => {
             let log = Mutex::new(log);
             let places = (place_of(rt, alloc, &hub), place_of(rt, alloc, &hub));
@@ -254,7 +219,7 @@ fn hold_logged<N: WithBody<Six> + Send + Sync, K: Begun + Send + Sync, R: Thread
 #[test]
 fn nothing_is_written_under_the_lock(rt: HostRuntime) -> Result<(), Fail> {
     let stage = Stage::new();
-    let (pushing, scanning, written) = hold_logged::<Brand, Brand, _>(
+    let (pushing, asked, written) = hold_logged::<Brand, Brand, _>(
         &rt,
         rt.alloc(),
         Limits::greatest(),
@@ -265,7 +230,11 @@ fn nothing_is_written_under_the_lock(rt: HostRuntime) -> Result<(), Fail> {
     )?;
     assert_same(&rt, &stage.was_kept(), &(true, false));
     assert_heard(&rt, pushing, b"edit 1 at 0\n");
-    assert_heard(&rt, scanning, b"at 1 inc sum 1\n= 5\n");
+    let sum = Answered {
+        edit: 1,
+        value: Shown::Sum(5),
+    };
+    assert_same(&rt, &asked, &Ok(sum));
     let (bytes, ended) = written;
     assert_same(&rt, &ended, &Ok(()));
     let log = b"livevec 1\nj push 5\nend\n".as_slice();

@@ -3,6 +3,7 @@ use Rattle.std.proofs.Common.{◌≡◌, ◌≤◌, [], All, refl, rules, ap, sy
 use Rattle.std.proofs.lemmas.List.Elements.{All-nil}
 use Rattle.std.proofs.lemmas.List.Sorted.{IsNonDecreasingBy-short}
 use Rattle.lv_transcript.specs.Transcript.{AreInOrder, IsTrueAnswer}
+use Rattle.lv_hub.specs.Session.{most_listed}
 use Rattle.lv_hub.proofs.PlainSessionLaws.{session_plain, session_said}
 use Rattle.lv_hub.proofs.SessionLaws.{lines_served_as, given_as}
 use Rattle.lv_hub.proofs.TruthLaws.{lines_served_keeps}
@@ -53,4 +54,4 @@ returns-clause-order g c =
 -- and no more than there may be
 pub returns-clause-few : goal.returns-clause-few
 returns-clause-few g c =
-    given_as (λ answers. vec_len answers ≤ c.args.place.most) c.hold-back.result.2 c.hold-back.result.1 c.listed.result c.listed.ensures c.hold-back.ensures.few
+    given_as (λ answers. vec_len answers ≤ most_listed c.args.place.keeps) c.hold-back.result.2 c.hold-back.result.1 c.listed.result c.listed.ensures c.hold-back.ensures.few

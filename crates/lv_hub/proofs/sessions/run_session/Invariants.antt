@@ -1,5 +1,6 @@
 -- The ghosts that are handed on in `run_session`.
+use Rattle.lv_hub.specs.Session.{most_listed}
 use Rattle.lv_hub.proofs.sessions.run_session.Given as goal
 
 abbrev pub ghosts-hold : goal.ghosts-hold
-ghosts-hold g a = record { holding = a.share; most = a.place.most }
+ghosts-hold g a = record { holding = a.share; most = most_listed a.place.keeps }

@@ -13,4 +13,4 @@ abbrev pub ghosts-hold_logged-N-WithBody : goal.ghosts-hold_logged-N-WithBody
 ghosts-hold_logged-N-WithBody g a = record { body = Some a.body }
 
 abbrev pub ghosts-hold_logged-K-Begun : goal.ghosts-hold_logged-K-Begun
-ghosts-hold_logged-K-Begun g a = record { start = None }
+ghosts-hold_logged-K-Begun g a = record { start = None; there = None }

@@ -10,6 +10,6 @@ invariant_of-result g c =
     let transcript = c.in_ok-transcript.transcript in
     let log = g.K.Begun.there in (
       log_begins log g.K.Begun.start (state_with (g.W.Write.contents c.args.writer) transcript) c.prefix.result c.requires.goes_on (c.prefix.ensures ∙ c.requires.seen)
-      (subst (λ (k : Option (List ℕ)). WasGivenOf (heading_of log) (there_of log) g.K.Begun.start [] (state_with k transcript)) c.requires.start (c.in_ok-transcript.ensures log c.requires.log g.K.Begun.start)),
+          (subst (λ (k : Option (List ℕ)). WasGivenOf (heading_of log) (there_of log) g.K.Begun.start [] (state_with k transcript)) c.requires.start (c.in_ok-transcript.ensures log c.requires.log g.K.Begun.start)),
       c.requires.log,
     )
