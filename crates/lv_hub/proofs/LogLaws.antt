@@ -291,23 +291,23 @@ log_unfinished old new rests log start entries given = (given_still (Some log) s
 pub finished_log : (is_log : Bool) (old : WritingState) (contents : Option (List ℕ)) (result : Result Unit Fault) → is_log ≡ true
     → ((log : LogThere) (start : Option (List ℕ)) (entries : List Entry) → WasGivenOf (Some log.heading) (Some log.entries) start entries old → EndsText (Some log) start contents entries result)
     → (log : Option LogThere) (start : Option (List ℕ)) (entries : List Entry) → is_log ≡ is_some log → WasGivenOf (heading_of log) (there_of log) start entries old → EndsText log start contents entries result
-finished_log is_log old contents result yes ends None start entries same given = absurd (cc (yes, same))
-finished_log is_log old contents result yes ends (Some log) start entries same given = ends log start entries given
+finished_log is_log old contents result so ends None start entries same given = absurd (cc (so, same))
+finished_log is_log old contents result so ends (Some log) start entries same given = ends log start entries given
 
 pub finished_transcript : (is_log : Bool) (old : WritingState) (contents : Option (List ℕ)) (result : Result Unit Fault) → is_log ≡ false
     → ((start : Option (List ℕ)) (entries : List Entry) → WasGiven start entries old → EndsWhole start contents entries result)
     → (log : Option LogThere) (start : Option (List ℕ)) (entries : List Entry) → is_log ≡ is_some log → WasGivenOf (heading_of log) (there_of log) start entries old → EndsText log start contents entries result
-finished_transcript is_log old contents result no ends None start entries same given = ends_transcript start contents entries result (ends start entries given)
-finished_transcript is_log old contents result no ends (Some log) start entries same given = absurd (cc (no, same))
+finished_transcript is_log old contents result so ends None start entries same given = ends_transcript start contents entries result (ends start entries given)
+finished_transcript is_log old contents result so ends (Some log) start entries same given = absurd (cc (so, same))
 
 -- what writes either, and was given nothing
 pub unused_log : (is_log : Bool) → is_log ≡ true → (s : WriterState) → GoesOn s → (log : Option LogThere) → is_log ≡ is_some log → IsUnusedOf (heading_of log) (there_of log) s
-unused_log is_log yes s goes None same = absurd (cc (yes, same))
-unused_log is_log yes s goes (Some log) same = goes (Some log.heading) log.entries
+unused_log is_log so s goes None same = absurd (cc (so, same))
+unused_log is_log so s goes (Some log) same = goes (Some log.heading) log.entries
 
 pub unused_transcript : (is_log : Bool) → is_log ≡ false → (s : WriterState) → IsUnused s → (log : Option LogThere) → is_log ≡ is_some log → IsUnusedOf (heading_of log) (there_of log) s
-unused_transcript is_log no s unused None same = unused
-unused_transcript is_log no s unused (Some log) same = absurd (cc (no, same))
+unused_transcript is_log so s unused None same = unused
+unused_transcript is_log so s unused (Some log) same = absurd (cc (so, same))
 
 -- how a log ends that has all edits, or not all
 ended_so : (log : Option LogThere) (start contents : Option (List ℕ)) (s : LogState) (journal : List Edit) (result : Result Unit Fault) (was : IsLogOf log start s) → s.seen ≡ journal → EndsText log start contents was.entries result → LogEnds log start contents journal result
