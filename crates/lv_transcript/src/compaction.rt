@@ -20,11 +20,7 @@ use std::io::Write;
 ///
 /// O(n) for n edits, and memory for the elements: where there is none, the fault is `NoMemory`, and nothing was written. A failed write,
 /// and one that takes no byte, is `WriteFault`.
-pub fn compact_log<W: Write>(
-    alloc: Global,
-    found: &FoundFront,
-    writer: &mut W,
-) -> Result<(), Fault>
+pub fn compact_log<W: Write>(alloc: Global, found: &FoundFront, writer: &mut W) -> Result<(), Fault>
     requires numbers { base_of found.now.heading ≤ 2 ^ 62 }
     ensures text { Transcribes (W.contents writer.old) (W.contents writer.new) (log_text (compacted found.now.heading found.now.edits.journal) (list_of found.now.edits.journal)) result }
     ensures sound { OnOk result (IsWholeFront (Some (compacted found.now.heading found.now.edits.journal)) (log_text (compacted found.now.heading found.now.edits.journal) (list_of found.now.edits.journal)) (pushes_of_elements (list_of found.now.edits.journal))) }
