@@ -8,7 +8,10 @@ use Rattle.lv_lines.specs.Output.{Writes, WritesFront}
 use Rattle.lv_lines.specs.Texts.{named_text}
 use Rattle.lv_lines.proofs.OutputLemmas.{Writes-all, Writes-sent, Writes-trans, WritesFront-after, WritesFront-longer}
 use Rattle.lv_standing.specs.declared.notes.Note.{Note}
-use Rattle.lv_hub.specs.Noticing.{NoticesState, WritesMore, WroteOrPart, notes_at}
+use Rattle.lv_transcript.specs.declared.log_heading.LogHeading.{LogHeading}
+use Rattle.lv_hub.specs.declared.told.Told.{Told}
+use Rattle.lv_hub.specs.Noticing.{NoticesState, WritesMore, WroteOrPart, notes_at, told_text}
+use Rattle.lv_hub.specs.Numbering.{told_number}
 
 -- the lines of the notes so far, and then that of the next
 notes_more : (edit : ℕ) (notes : List Note) (i : ℕ) (d note : Note) → i < length notes → note ≡ get_or notes i d → notes_at edit (take (i + 1) notes) ≡ notes_at edit (take i notes) ++ named_text edit note.name note.value
@@ -40,6 +43,14 @@ module _ {a b c : Option (List ℕ)} {h k t : List ℕ} (put : Writes a h b k t)
   -- no more than a front of it was
   pub sent_front : WritesFront b k c [] → WritesFront a h c t
   sent_front unsent = rw (append-nil t) at (WritesFront-after put unsent)
+
+module _ {a b : Option (List ℕ)} {h : List ℕ} (numbers : LogHeading) (told : Told) (edit : ℕ) (is : edit ≡ told_number numbers told.edit) where
+  -- notes at an edit of this number are what was told
+  pub told_writes : {k : List ℕ} → Writes a h b k (notes_at edit told.notes.items) → Writes a h b k (told_text numbers told)
+  told_writes {k} put = subst (λ n. Writes a h b k (notes_at n told.notes.items)) is put
+
+  pub told_front : WritesFront a h b (notes_at edit told.notes.items) → WritesFront a h b (told_text numbers told)
+  told_front front = subst (λ n. WritesFront a h b (notes_at n told.notes.items)) is front
 
 module _ (text : List ℕ) (old : NoticesState) where
   -- a write had failed before

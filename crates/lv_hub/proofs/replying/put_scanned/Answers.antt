@@ -22,7 +22,7 @@ returns-in-Ok-clause-ok g c =
     ap₂ text_of c.last_number.ensures c.elements.ensures.same in
     let tells : (answers : List Claimed) → TellsScan g.N.Naming.limits g.N.Naming.numbers g.N.Naming.lists (session_at c.args.share.now answers) asked.inclusive asked.kind asked.lo asked.hi (text_of c.last_number.result c.elements.result.now) (session_at c.copy_range-copied.new.share answers) =
     λ answers. record { body = c.args.place.now.hub.now; result = Ok c.in-Ok.stretch; told = c.in-Ok.ensures.told; text_is = is; state = ap (λ h. session_at h answers) c.copy_range-copied.ensures.share } in
-    on_ok_weaker c.put_running_scan.result (λ puts. (text_of c.last_number.result c.elements.result.now, tells, puts)) c.put_running_scan.ensures.ok
+    on_ok_weaker c.put_recorded_scan.result (λ puts. (text_of c.last_number.result c.elements.result.now, tells, puts)) c.put_recorded_scan.ensures.ok
 
 pub returns-in-Ok-clause-fault : goal.returns-in-Ok-clause-fault
 returns-in-Ok-clause-fault g c =
