@@ -58,11 +58,7 @@ pub fn serve_log<F: Read + Write + Send + Drop, V: Write + Send + Drop, R: Threa
         alloc,
         plan,
         heading,
-        if logs_answers {
-            KeptAnswers::Logged
-        } else {
-            KeptAnswers::Nothing
-        },
+        kept(logs_answers),
         begun,
         Clients { streams, watches },
         file,
@@ -71,6 +67,17 @@ pub fn serve_log<F: Read + Write + Send + Drop, V: Write + Send + Drop, R: Threa
         Opened::new(),
         Six,
     )
+}
+
+// What becomes of answered reductions: none is listed.
+fn kept(logs_answers: bool) -> KeptAnswers
+    ensures { are_listed result ≡ false }
+{
+    if logs_answers {
+        KeptAnswers::Logged
+    } else {
+        KeptAnswers::Nothing
+    }
 }
 
 // Serves them on a hub of this name.
