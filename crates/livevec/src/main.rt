@@ -233,18 +233,20 @@ fn compact<R: AllocGlobal + Clock + Eprint + Files<File = File> + Print, W: Writ
 }
 
 // Writes the line that says what became of a file that was compacted.
-fn write_compacted<W: Write>(
-    file: &str,
-    compacted: Compacted,
-    writer: &mut W,
-) -> io::Result<()> {
+fn write_compacted<W: Write>(file: &str, compacted: Compacted, writer: &mut W) -> io::Result<()> {
     let base = compacted.heading.base;
     let elements = compacted.heading.elements;
     let name = Escaped(file);
     if compacted.is_kept {
-        writeln!(writer, "compacted '{name}': {base} base {elements} elements, '{name}.1' is what it was")
+        writeln!(
+            writer,
+            "compacted '{name}': {base} base {elements} elements, '{name}.1' is what it was"
+        )
     } else {
-        writeln!(writer, "compacted '{name}': {base} base {elements} elements, what it was is dropped")
+        writeln!(
+            writer,
+            "compacted '{name}': {base} base {elements} elements, what it was is dropped"
+        )
     }
 }
 

@@ -33,7 +33,9 @@ impl<'a, E: Eprint + Copy, F: Write + Drop> AnnouncedFile<'a, E, F> {
         }
         self.is_told = true;
         let name = Escaped(self.name);
-        let _ = eprintln!(self.errors; "livevec: '{name}' can't be written, and no session goes on: {error}");
+        let _ = eprintln!(self.errors;
+            "livevec: '{name}' can't be written, and no session goes on: {error}"
+        );
     }
 }
 

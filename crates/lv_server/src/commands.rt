@@ -76,8 +76,7 @@ pub fn serve_logged_files<
     logs_answers: bool,
     names: Names<'_>,
 ) -> Result<(), ProgramError> {
-    let (Clients { streams, watches }, log) =
-        open_with_log(clock, rt, alloc, plan.limits, names)?;
+    let (Clients { streams, watches }, log) = open_with_log(clock, rt, alloc, plan.limits, names)?;
     let StartedLog {
         file,
         heading,

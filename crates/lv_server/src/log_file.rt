@@ -41,11 +41,7 @@ pub fn open_locked<R: Files<File = File>>(
 }
 
 // Opens it.
-fn open_record<R: Files>(
-    rt: &R,
-    how: Access,
-    name: &str,
-) -> Result<(R::File, OutputFile), Reason> {
+fn open_record<R: Files>(rt: &R, how: Access, name: &str) -> Result<(R::File, OutputFile), Reason> {
     match OutputFile::open_by(rt, how, name) {
         Ok(opened) => Ok(opened),
         Err(Reason::Link) => Err(Reason::RecordLink),

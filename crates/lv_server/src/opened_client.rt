@@ -104,7 +104,13 @@ pub fn open_with_log<C: Clock + Copy, R: Eprint + Files<File = File>>(
     alloc: Global,
     limits: Limits,
     names: Names<'_>,
-) -> Result<(Clients<Waited<C, File>>, StartedLog<Waited<C, LogFile<File>>>), ProgramError>
+) -> Result<
+    (
+        Clients<Waited<C, File>>,
+        StartedLog<Waited<C, LogFile<File>>>,
+    ),
+    ProgramError,
+>
     ensures { IfOk result (λ opened. MayStart opened.1.heading opened.1.edits.journal) }
 {
     let (clients, mut all) = room_for(alloc, names)?;
@@ -197,7 +203,13 @@ fn start<C: Clock + Copy, R: Eprint + Files<File = File>>(
         return Err(ProgramError::new(Fault::WriteFault, Reason::RecordTaken, names.clients));
     }
     store.check_log(alloc, limits)?;
-    store.start(clock, rt, alloc, names.of_record().unwrap_or(""), names.syncs)
+    store.start(
+        clock,
+        rt,
+        alloc,
+        names.of_record().unwrap_or(""),
+        names.syncs,
+    )
 }
 
 // Opens them in order, and sees that none is written that is read or written otherwise.
@@ -299,8 +311,7 @@ fn open_unshared<R: Files<File = File>>(
 
 // Whether a client reads or writes a file, or a standard stream leads there.
 fn is_taken<R: Files, F: Drop>(rt: &R, all: &[OpenedClient<F>], output: OutputFile) -> bool {
-    is_used(all, usize::MAX, output.identity)
-        || standard_files(rt).contains(&Some(output.identity))
+    is_used(all, usize::MAX, output.identity) || standard_files(rt).contains(&Some(output.identity))
 }
 
 // Reads what each file asks that comes behind those of so many sessions. The first file that can't be read, or has a line that is wrong, is

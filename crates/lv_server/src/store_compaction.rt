@@ -50,7 +50,17 @@ pub fn compact_file<C: Clock + Copy, R: Files<File = File>>(
     let made = beside(alloc, name, COMPACTING)?;
     see_places(rt, &store, kept.as_str(), made.as_str(), drops_old)?;
     let (file, output) = make(rt, made.as_str())?;
-    match fill_and_replace(clock, rt, alloc, name, &store, kept.as_str(), made.as_str(), file, drops_old) {
+    match fill_and_replace(
+        clock,
+        rt,
+        alloc,
+        name,
+        &store,
+        kept.as_str(),
+        made.as_str(),
+        file,
+        drops_old,
+    ) {
         Ok(heading) => Ok(Compacted {
             heading,
             is_kept: !drops_old,

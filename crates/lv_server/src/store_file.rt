@@ -305,6 +305,10 @@ fn is_single<R: Files>(rt: &R, alloc: Global, name: &str) -> Result<bool, Progra
 // Tells of a line that was cut off.
 fn tell_of_cut<R: Eprint>(rt: &R, name: &str, length: u64, whole: u64) {
     if length > whole {
-        let _ = eprintln!(rt; "livevec: the last line of '{}' isn't whole: {} bytes are cut off", Escaped(name), length - whole);
+        let _ = eprintln!(rt;
+            "livevec: the last line of '{}' isn't whole: {} bytes are cut off",
+            Escaped(name),
+            length - whole
+        );
     }
 }
