@@ -246,6 +246,7 @@ static void tells_of_samples(void)
     IS(livevec_subscriber_next(&alerts, &note, 1, for_ever).edit, 3);
     IS(note.values.sum, 22);
     IS(livevec_free_subscriber(&alerts), 0);
+    IS(livevec_free_queries(&set), 0);
     IS(livevec_free_shared(&shared), 0);
     IS(livevec_free_samples(&load), 0);
 }
