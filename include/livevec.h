@@ -74,13 +74,13 @@ LIVEVEC_MUST_USE const char *livevec_refusal_text(uint32_t refusal);
 
 #include "livevec_vectors.h"
 #include "livevec_reductions.h"
-#include "livevec_queries.h"
 #include "livevec_summaries.h"
 #include "livevec_jobs.h"
 #include "livevec_boards.h"
 #include "livevec_series.h"
 #include "livevec_series_kinds.h"
 #include "livevec_samples.h"
+#include "livevec_queries.h"
 #include "livevec_transcripts.h"
 #include "livevec_shared.h"
 

@@ -274,11 +274,35 @@ typedef enum livevec_kind {
 /** How many queries a set has at most, so that no call tells more notes. */
 #define LIVEVEC_MOST_QUERIES 64
 
-/** That the answer of a standing query is another than it was told last. */
+/** Which elements a standing query is about. */
+typedef enum livevec_span {
+    LIVEVEC_BETWEEN = 0, /**< those from index `lo` up to `hi`, as many of them as there are */
+    LIVEVEC_LAST = 1,    /**< the last `lo`, or all if there are fewer */
+    LIVEVEC_WITHIN = 2   /**< those of the last `lo` of time, as livevec_samples_last has them: of samples only */
+} livevec_span;
+
+/** When a note of a standing query is due. */
+typedef enum livevec_bound {
+    LIVEVEC_EACH_CHANGE = 0, /**< the answer is another than it was told last */
+    LIVEVEC_AT_LEAST = 1,    /**< it begins or ends to be at least `x`. An answer that is no number, or none, never is; a sum is taken as signed */
+    LIVEVEC_AT_MOST = 2      /**< it begins or ends to be at most `x` */
+} livevec_bound;
+
+/** What a standing query asks. Zeros behind the kind are the empty range from 0, and each change. */
+typedef struct livevec_query {
+    uint32_t kind;  /**< a ::livevec_kind */
+    uint32_t span;  /**< a ::livevec_span */
+    uint32_t bound; /**< a ::livevec_bound */
+    uint64_t lo;    /**< of LIVEVEC_BETWEEN the first index, of LIVEVEC_LAST how many, of LIVEVEC_WITHIN how much time */
+    uint64_t hi;    /**< of LIVEVEC_BETWEEN the index behind the last one; else it is not looked at */
+    int64_t x;      /**< of a bound what it is compared with; else it is not looked at */
+} livevec_query;
+
+/** That a note of a standing query is due. */
 typedef struct livevec_note {
     char name[LIVEVEC_NAME_BYTES + 1]; /**< the query's name, and zeros behind it, one at least */
     uint32_t kind;                     /**< its livevec_kind */
-    uint32_t edit;                     /**< after which edit this is its answer */
+    uint32_t edit;                     /**< after which edit this is its answer: the low 32 bits of its number */
     livevec_values values;             /**< its answer: of that kind only, and `any`; the others are 0 */
 } livevec_note;
 

@@ -41,7 +41,8 @@ typedef enum livevec_refusal {
     LIVEVEC_OTHER_TABLE = 111, /**< two summaries by automata of two tables */
     LIVEVEC_TOO_LONG = 112,    /**< summaries of more than 2^62 elements together, a text of more than 2^30 bytes, or an array of more than
                                 * PTRDIFF_MAX */
-    LIVEVEC_BAD_KIND = 113,    /**< a number that is no livevec_kind; or, at a vector of one kind, a query by another or by all six */
+    LIVEVEC_BAD_KIND = 113,    /**< a number that is no livevec_kind (or livevec_span, or livevec_bound); or, at a vector of one kind, a query by another
+                                * or by all six; or a standing query of the last so much time, at what has no times */
     LIVEVEC_BAD_NAME = 114,    /**< bytes that are no name of a query: 1 to 16 of a-z, 0-9 and _ */
     LIVEVEC_NOT_IN_ORDER = 115, /**< recorded answers that don't rise by their edits */
     LIVEVEC_NO_FRONT = 116     /**< bytes that are no front of a transcript */

@@ -47,15 +47,6 @@ typedef struct livevec_told {
     bool is_over;     /**< whether it is closed, and nothing will be told any more */
 } livevec_told;
 
-/** What a subscriber watches at a series: what a kind says of the elements that are kept from index `lo` up to `hi`. What isn't kept there is left
- * out: so 0 and UINT64_MAX are all. */
-typedef struct livevec_watched {
-    char name[LIVEVEC_NAME_BYTES + 1]; /**< its name, ended by a zero, for the notes */
-    uint32_t kind;                     /**< a livevec_kind */
-    uint64_t lo;                       /**< the first index */
-    uint64_t hi;                       /**< the index behind the last one */
-} livevec_watched;
-
 /**@{*/
 /** Puts a lock round a vector, or round a series, into an empty slot. Cost: O(1). Refusals: NULL, IN_USE, those of livevec_edits (or of
  * livevec_series_edits) at the handle, NO_MEMORY. The caller owes a livevec_free_shared, and keeps the handle where it is until then or until the
@@ -94,22 +85,16 @@ LIVEVEC_MUST_USE uint32_t livevec_shared_close(livevec_shared *slot);
  * NO_HANDLE. */
 uint32_t livevec_free_shared(livevec_shared *slot);
 
-/** Puts one into an empty slot who is told which answers of a set by the vector have changed. The set stays where it is and is the subscriber's until
+/** Puts one into an empty slot who is told which answers of a set by the handle have changed. The set stays where it is and is the subscriber's until
  * that is freed: a call at it beside a look of the subscriber's is BUSY, there or here. Before its first look each counts as told what livevec_notes
- * says. Cost: O(1). Refusals: NULL, IN_USE, BUSY, NO_HANDLE (also of a series), NO_MEMORY. The caller owes a livevec_free_subscriber. */
+ * says. Cost: O(1). Refusals: NULL, IN_USE, NO_HANDLE, NO_MEMORY, BUSY. The caller owes a livevec_free_subscriber. */
 LIVEVEC_MUST_USE uint32_t livevec_shared_subscribe(livevec_shared *slot, livevec_subscriber *subscriber, livevec_queries *queries);
-
-/** The same at a series, of at most #LIVEVEC_MOST_QUERIES things that are watched, which are copied: a set of queries is asked of a vector alone.
- * Before its first look each counts as told its answer of no elements. Cost: O(length). Refusals: NULL, IN_USE, TOO_MANY, BAD_KIND and BAD_RANGE (of
- * the first that has one), BUSY, NO_HANDLE (also of a vector), NO_MEMORY. The caller owes a livevec_free_subscriber. */
-LIVEVEC_MUST_USE uint32_t livevec_shared_watch(livevec_shared *slot, livevec_subscriber *subscriber, const livevec_watched *watched, size_t length);
 
 /** Sleeps until an edit changes an answer, and tells of each whose answer differs from the one that was told last, in the order in which they were
  * named, into an array of `room` notes: all of them or none. All are at one edit, and these rise. A change that is undone between two looks is not
  * told. Once it is closed it tells the notes at the last edit, if there are any, and then none: `is_over`. It sleeps at most so many nanoseconds,
- * where UINT64_MAX is without an end: `count` is 0 then. Cost: a look is as livevec_notes, or as livevec_series_value for each that is watched, under
- * the lock. Refusals: NULL, TOO_LONG, NO_HANDLE (of an empty slot), BUSY, and those of livevec_notes or livevec_series_value: nothing counts as told
- * then. */
+ * where UINT64_MAX is without an end: `count` is 0 then. Cost: a look is as livevec_notes or livevec_series_notes, under the lock. Refusals: NULL,
+ * TOO_LONG, NO_HANDLE (of an empty slot), BUSY, and those of livevec_notes: nothing counts as told then. */
 LIVEVEC_MUST_USE livevec_told livevec_subscriber_next(livevec_subscriber *slot, livevec_note *notes, size_t room, uint64_t nanoseconds);
 
 /** The notes that there are now; none if nothing has changed. It neither sleeps nor pauses. Cost and refusals: as livevec_subscriber_next. */

@@ -39,10 +39,6 @@ inline std::uint32_t put_round(livevec_shared *lock, livevec_series *of) { retur
 inline std::uint32_t exchange(livevec_shared *lock, livevec_vector *of) { return livevec_shared_exchange(lock, of); }
 /** Another series within. */
 inline std::uint32_t exchange(livevec_shared *lock, livevec_series *of) { return livevec_shared_exchange_series(lock, of); }
-/** The handle that is shared. */
-inline livevec_vector *handle_of(const vector &of) noexcept { return of.slot(); }
-/** The handle that is shared. */
-template <class Slot, std::uint32_t (*Free)(Slot *)> livevec_series *handle_of(const by_index<Slot, Free> &of) noexcept { return of.series_slot(); }
 
 /** A thread that computes summaries. Its end dismisses it, and waits for it. */
 class shared_worker : public owned<livevec_worker, livevec_free_worker> {
@@ -297,6 +293,15 @@ class shared_form {
         return std::forward<Calls>(calls)(mine.at.of);
     }
 
+    /** One more that is told which answers of these queries change. Before its first look each counts as told what `queries` says. O(1). */
+    subscriber subscribe(queries asked)
+    {
+        subscriber made;
+        made.seat_->asked.emplace(std::move(asked));
+        check(livevec_shared_subscribe(&at().lock, made.slot(), made.seat_->asked->slot()));
+        return made;
+    }
+
     /** Ends edits, workers and subscribers, and waits for the workers; gives what is shared back. Each subscriber has its last notes then, at the last
      * edit. As queries::notes for each subscriber. */
     Of close()
@@ -383,19 +388,6 @@ class shared_form {
         call(mine.at.of);
         return mine.leave();
     }
-    /** One more who is told of changes at a series. */
-    subscriber watch(const std::vector<watched> &all)
-    {
-        std::vector<livevec_watched> asked;
-        for (const watched &it : all) {
-            check(it.name.size() > LIVEVEC_NAME_BYTES ? LIVEVEC_BAD_NAME : LIVEVEC_OK);
-            asked.push_back({{}, number(it.by), it.lo, it.hi});
-            std::copy(it.name.begin(), it.name.end(), asked.back().name);
-        }
-        subscriber made;
-        check(livevec_shared_watch(&at().lock, made.slot(), asked.data(), asked.size()));
-        return made;
-    }
 
   private:
     std::unique_ptr<state> state_;
@@ -478,15 +470,6 @@ class [[nodiscard]] shared<vector> : public inner::shared_form<vector> {
                 throw;
         }
     }
-
-    /** One more that is told which answers of these queries change. Before its first look each counts as told what `queries` says. O(1). */
-    subscriber subscribe(queries asked)
-    {
-        subscriber made;
-        made.seat_->asked.emplace(std::move(asked));
-        inner::check(livevec_shared_subscribe(&at().lock, made.slot(), made.seat_->asked->slot()));
-        return made;
-    }
 };
 
 namespace inner {
@@ -520,8 +503,6 @@ class shared_by_index : public shared_form<Of> {
     {
         return this->reads([](const Of &of) { return of.save(); });
     }
-    /** One more that is told which of these answers change. Before its first look each counts as told its answer of no elements. O(length). */
-    subscriber subscribe(const std::vector<watched> &asked) { return this->watch(asked); }
 
   protected:
     using shared_form<Of>::shared_form;

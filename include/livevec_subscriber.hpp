@@ -10,20 +10,10 @@
 #include <cstdint>
 #include <memory>
 #include <optional>
-#include <string_view>
 #include <utility>
 #include <vector>
 
 namespace livevec {
-
-/** What a subscriber watches at a series or at samples: what a kind says of the elements that are kept from index `lo` up to `hi`; all, if they are left
- * out. */
-struct watched {
-    std::string_view name;         /**< its name, of at most 16 bytes, for the notes */
-    kind by;                       /**< the kind */
-    std::uint64_t lo = 0;          /**< the first index */
-    std::uint64_t hi = UINT64_MAX; /**< the index behind the last one */
-};
 
 /** Notes that a subscriber is told together. Each has the low 32 bits of the edit. */
 class noted : public std::vector<livevec_note> {
@@ -48,8 +38,8 @@ class [[nodiscard]] subscriber {
   public:
     /** Sleeps until an edit changes an answer, and gives a note of each query whose answer differs from the one that was told last, in the order in
      * which they were named. All notes of one list are at one edit, and these rise. A change that is undone between two looks is not told. Once the
-     * shared form is closed it gives the notes at the last edit, if there are any, and then nothing. Refused with LIVEVEC_BAD_KIND if the vector is of
-     * one kind and another is among the queries. A look costs as queries::notes, under the lock. */
+     * shared form is closed it gives the notes at the last edit, if there are any, and then nothing. Refused with LIVEVEC_BAD_KIND if a query is among
+     * them that may not be asked, as queries::notes is. A look costs as queries::notes, under the lock. */
     [[nodiscard]] std::optional<noted> next()
     {
         noted made;

@@ -3,16 +3,49 @@
 
 /* No name is as long as this, and so much of one that is longer is enough to refuse it. */
 #define OF_NAME(length) ((length) > LIVEVEC_NAME_BYTES ? LIVEVEC_NAME_BYTES + 1 : (length))
+#define NAMED const char *name, size_t name_length
 
 BEGUN(queries_new, livevec_queries, NEW_QUERIES)
-AT_ONE(uint32_t, AS_NUMBER, watch, (livevec_queries *slot, const char *name, size_t name_length, uint32_t kind, uint32_t lo, uint32_t hi), THERE(slot && name),
-       slot, enter, (slot, name, OF_NAME(name_length), kind, lo, hi))
-AT_ONE(uint32_t, AS_NUMBER, unwatch, (livevec_queries *slot, const char *name, size_t name_length), THERE(slot && name), slot, enter, (slot, name, OF_NAME(name_length)))
-OVER_PROVED(livevec_reduced, AS_STRUCT, answer, (livevec_queries *slot, livevec_vector *vector, const char *name, size_t name_length),
-            THERE(slot && vector && name), enter_both(&slot->busy_, enter_to_read, &vector->busy_, enter_to_read), LEAVES_BOTH(slot, vector),
-            (slot, vector, name, OF_NAME(name_length)))
-OVER_PROVED(livevec_noted, AS_STRUCT, notes, (livevec_queries *slot, livevec_vector *vector, livevec_note *notes, size_t room),
-            first_of(THERE(slot && vector), ARRAY(notes, room)), enter_both(&slot->busy_, enter, &vector->busy_, enter_to_read), LEAVES_BOTH(slot, vector),
-            (slot, vector, notes ? notes : &(livevec_note){.kind = 0}, room))
-
+uint32_t livevec_proved_watch(livevec_queries *slot, NAMED, uint32_t kind, uint32_t span, uint64_t lo, uint64_t hi, uint32_t bound, int64_t x);
+ENTERED(uint32_t, AS_NUMBER, watch, (livevec_queries *slot, NAMED, uint32_t kind, uint32_t lo, uint32_t hi), THERE(slot && name), slot, enter,
+        watch(slot, name, OF_NAME(name_length), kind, LIVEVEC_BETWEEN, lo, hi, LIVEVEC_EACH_CHANGE, 0))
+ENTERED(uint32_t, AS_NUMBER, watch_query, (livevec_queries *slot, NAMED, const livevec_query *query), THERE(slot && name && query), slot, enter,
+        watch(slot, name, OF_NAME(name_length), query->kind, query->span, query->lo, query->hi, query->bound, query->x))
+AT_ONE(uint32_t, AS_NUMBER, unwatch, (livevec_queries *slot, NAMED), THERE(slot && name), slot, enter, (slot, name, OF_NAME(name_length)))
 FREED(free_queries, livevec_queries, SOME_QUERIES)
+
+/* The proved exports know one type of slot. They are asked of a vector as of a series, in numbers of 64 bits. */
+livevec_series_reduced livevec_proved_answer(livevec_queries *slot, void *target, NAMED);
+livevec_series_noted livevec_proved_notes(livevec_queries *slot, void *target, livevec_note *notes, size_t room);
+
+#define PLACES(notes) ((notes) ? (notes) : &(livevec_note){.kind = 0})
+
+BY_PROVED(livevec_series_reduced, AS_STRUCT, series_answer, (livevec_queries *slot, livevec_series *series, NAMED), THERE(slot && series && name),
+          enter_both(&slot->busy_, enter_to_read, &series->busy_, enter_to_read), LEAVES_BOTH(slot, series), answer(slot, series, name, OF_NAME(name_length)))
+BY_PROVED(livevec_series_noted, AS_STRUCT, series_notes, (livevec_queries *slot, livevec_series *series, livevec_note *notes, size_t room),
+          first_of(THERE(slot && series), ARRAY(notes, room)), enter_both(&slot->busy_, enter, &series->busy_, enter_to_read), LEAVES_BOTH(slot, series),
+          notes(slot, series, PLACES(notes), room))
+
+livevec_reduced livevec_answer(livevec_queries *slot, livevec_vector *vector, NAMED)
+{
+    uint32_t why = THERE(slot && vector && name);
+    if (why)
+        return (livevec_reduced){.refusal = why};
+    if (!enter_both(&slot->busy_, enter_to_read, &vector->busy_, enter_to_read))
+        return (livevec_reduced){.refusal = LIVEVEC_BUSY};
+    LEAVES_BOTH(slot, vector);
+    livevec_series_reduced told = livevec_proved_answer(slot, vector, name, OF_NAME(name_length));
+    return (livevec_reduced){.refusal = told.refusal, .edit = (uint32_t)told.edit, .values = told.values};
+}
+
+livevec_noted livevec_notes(livevec_queries *slot, livevec_vector *vector, livevec_note *notes, size_t room)
+{
+    uint32_t why = first_of(THERE(slot && vector), ARRAY(notes, room));
+    if (why)
+        return (livevec_noted){.refusal = why};
+    if (!enter_both(&slot->busy_, enter, &vector->busy_, enter_to_read))
+        return (livevec_noted){.refusal = LIVEVEC_BUSY};
+    LEAVES_BOTH(slot, vector);
+    livevec_series_noted told = livevec_proved_notes(slot, vector, PLACES(notes), room);
+    return (livevec_noted){.refusal = told.refusal, .detail = told.detail, .edit = (uint32_t)told.edit, .count = told.count};
+}

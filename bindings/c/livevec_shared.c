@@ -167,12 +167,6 @@ uint32_t livevec_shared_renew(livevec_shared *slot, livevec_vector *fresh)
     return LIVEVEC_OK;
 }
 
-/* What is watched at a series, and what was told of it last. */
-typedef struct watch {
-    livevec_watched what;
-    livevec_values told;
-} watch;
-
 /* What a subscriber has at a shared form. */
 typedef struct shared_seat {
     shared_lock *at;
@@ -182,65 +176,25 @@ typedef struct shared_seat {
     uint64_t pause, rested;                 /* how long it pauses after a look, and until when it does */
     livevec_told end;                       /* what it is told at the end, and wasn't given yet, */
     livevec_note last[LIVEVEC_MOST_QUERIES]; /* with the notes */
-    size_t length;                          /* how many are watched at a series */
-    watch each[];
 } shared_seat;
 
 enum { MILLISECOND = 1000000 };
 static const uint64_t a_day = UINT64_C(86400000000000);
 
-static bool is_same(const livevec_values *a, const livevec_values *b)
+/* What a set tells by the handle. */
+static livevec_series_noted noted_by(shared_lock *at, livevec_queries *queries, livevec_note *notes, size_t room)
 {
-    return a->any == b->any && a->sum == b->sum && a->least == b->least && a->greatest == b->greatest && a->best_low == b->best_low &&
-           a->best_high == b->best_high && a->affine_a == b->affine_a && a->affine_b == b->affine_b && !memcmp(a->automaton, b->automaton, sizeof a->automaton);
-}
-
-static uint64_t within(uint64_t index, uint64_t least, uint64_t most)
-{
-    return index < least ? least : index > most ? most : index;
-}
-
-/* The values now of what is watched at a series; tells after which edit, and how many differ from what was told. */
-static livevec_noted values_of_series(shared_seat *seat, livevec_values *values)
-{
-    livevec_series *of = seat->at->series;
-    livevec_noted told = {.refusal = 0};
-    uint64_t first = livevec_series_first(of).value, size = livevec_series_size(of).value;
-    for (size_t i = 0; i < seat->length; i++) {
-        const watch *it = &seat->each[i];
-        livevec_series_reduced now = livevec_series_value(of, it->what.kind, within(it->what.lo, first, size), within(it->what.hi, first, size));
-        if (now.refusal)
-            return AS_STRUCT(livevec_noted, now.refusal);
-        values[i] = now.values;
-        told.edit = (uint32_t)now.edit;
-        told.count += !is_same(&now.values, &it->told);
-    }
-    return told;
-}
-
-/* As livevec_notes, of what is watched at a series. */
-static livevec_noted notes_of_series(shared_seat *seat, livevec_note *notes, size_t room)
-{
-    livevec_values values[LIVEVEC_MOST_QUERIES];
-    livevec_noted told = values_of_series(seat, values);
-    if (told.count > room)
-        return (livevec_noted){.refusal = LIVEVEC_SHORT_BUFFER, .detail = told.count};
-    for (size_t i = 0; i < seat->length && !told.refusal; i++) {
-        watch *it = &seat->each[i];
-        if (is_same(&values[i], &it->told))
-            continue;
-        it->told = values[i];
-        *notes = (livevec_note){.kind = it->what.kind, .edit = told.edit, .values = values[i]};
-        memcpy(notes++->name, it->what.name, LIVEVEC_NAME_BYTES);
-    }
-    return told;
+    if (at->is_series)
+        return livevec_series_notes(queries, at->series, notes, room);
+    livevec_noted noted = livevec_notes(queries, at->vector, notes, room);
+    return (livevec_series_noted){.refusal = noted.refusal, .detail = noted.detail, .count = noted.count};
 }
 
 /* The notes that there are now, under the lock. */
 static livevec_told look(shared_seat *seat, livevec_note *notes, size_t room)
 {
     shared_lock *at = seat->at;
-    livevec_noted noted = at->is_series ? notes_of_series(seat, notes, room) : livevec_notes(seat->queries, at->vector, notes, room);
+    livevec_series_noted noted = noted_by(at, seat->queries, notes, room);
     if (noted.refusal)
         return (livevec_told){.refusal = noted.refusal, .detail = noted.detail};
     seat->seen = at->changes;
@@ -308,71 +262,24 @@ uint32_t livevec_free_shared(livevec_shared *slot)
     return LIVEVEC_OK;
 }
 
-/* Lets a seat in, which is freed where that is refused. */
-static uint32_t sit(livevec_shared *slot, livevec_subscriber *subscriber, shared_seat *seat)
-{
-    shared_lock *at = slot->at_;
-    if (!seat)
-        return LIVEVEC_NO_MEMORY;
-    uint32_t why = take_open(at, !seat->queries);
-    if (why) {
-        free(seat);
-        return why;
-    }
-    seat->at = at;
-    seat->seen = at->changes - 1;
-    seat->pause = MILLISECOND;
-    seat->next = at->seats;
-    at->seats = seat;
-    hold(at);
-    give_lock(at);
-    subscriber->at_ = seat;
-    return LIVEVEC_OK;
-}
-
 uint32_t livevec_shared_subscribe(livevec_shared *slot, livevec_subscriber *subscriber, livevec_queries *queries)
 {
     uint32_t why = first_of(first_of(THERE(slot && queries), IS_EMPTY(subscriber)), LEADS(slot));
     if (why)
         return why;
+    shared_lock *at = slot->at_;
     shared_seat *seat = zeros(sizeof *seat);
-    if (seat)
-        seat->queries = queries;
-    return sit(slot, subscriber, seat);
-}
-
-/* The first of what would be watched that can't be. */
-static uint32_t judge_watched(const livevec_watched *watched, size_t length)
-{
-    if (length > LIVEVEC_MOST_QUERIES)
-        return LIVEVEC_TOO_MANY;
-    for (size_t i = 0; i < length; i++)
-        if (watched[i].kind > LIVEVEC_AUTOMATON || watched[i].lo > watched[i].hi)
-            return watched[i].kind > LIVEVEC_AUTOMATON ? LIVEVEC_BAD_KIND : LIVEVEC_BAD_RANGE;
-    return LIVEVEC_OK;
-}
-
-/* A thing that is watched, which counts as told its answer of no elements. */
-static watch watch_of(const livevec_watched *what)
-{
-    watch made = {.what = *what};
-    made.told.affine_a = what->kind == LIVEVEC_AFFINE;
-    for (uint8_t i = 0; i < 8 && what->kind == LIVEVEC_AUTOMATON; i++)
-        made.told.automaton[i] = i;
-    return made;
-}
-
-uint32_t livevec_shared_watch(livevec_shared *slot, livevec_subscriber *subscriber, const livevec_watched *watched, size_t length)
-{
-    uint32_t why = first_of(THERE(slot && (watched || !length)), IS_EMPTY(subscriber));
-    why = first_of(why, why ? why : judge_watched(watched, length));
-    why = first_of(why, LEADS(slot));
-    if (why)
+    why = seat ? take_open(at, at->is_series) : LIVEVEC_NO_MEMORY;
+    if (why) {
+        free(seat);
         return why;
-    shared_seat *seat = zeros(sizeof *seat + length * sizeof *seat->each);
-    for (size_t i = 0; seat && i < length; i++)
-        seat->each[seat->length++] = watch_of(&watched[i]);
-    return sit(slot, subscriber, seat);
+    }
+    *seat = (shared_seat){.at = at, .next = at->seats, .queries = queries, .seen = at->changes - 1, .pause = MILLISECOND};
+    at->seats = seat;
+    hold(at);
+    give_lock(at);
+    subscriber->at_ = seat;
+    return LIVEVEC_OK;
 }
 
 /* Sleeps under the lock until there is something to tell, or until a time. */

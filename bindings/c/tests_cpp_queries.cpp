@@ -7,17 +7,43 @@
 #include <vector>
 
 /* The notes of a set, in words. */
-static std::string told(livevec::queries &set, const livevec::vector &of)
+template <class Of> static std::string told(livevec::queries &set, const Of &of)
 {
     std::string text;
-    const std::uint32_t edit = set.notes(of, [&text](const livevec_note &note) {
+    const std::uint64_t edit = set.notes(of, [&text](const livevec_note &note) {
         text += std::string(note.name) + " " + (note.kind == LIVEVEC_SUM ? std::to_string(note.values.sum) : std::to_string(note.values.least)) + " at " + std::to_string(note.edit) + "; ";
     });
     return text + std::to_string(edit);
 }
 
+/* The last so many, bounds, and windows of time: values are worked out by hand. */
+static void spans_and_bounds()
+{
+    livevec::queries set{{"two", livevec::query(livevec::kind::sum).last(2)}, {"high", livevec::query(livevec::kind::greatest).last(3).at_least(10)},
+                         {"low", livevec::query(livevec::kind::least).at_most(-1)}};
+    livevec::series feed;
+    IS(set.notes(feed).empty());
+    feed.push(4);
+    IS(told(set, feed) == "two 4 at 1; 1");
+    feed.push(10);
+    const std::vector<livevec_note> notes = set.notes(feed);
+    IS(notes.size() == 2 && notes[0].values.sum == 14 && notes[1].values.greatest == 10 && notes[1].edit == 2);
+    feed.push(4);
+    IS(told(set, feed) == "3");
+    feed.push(-1);
+    IS(told(set, feed) == "two 3 at 4; low -1 at 4; 4");
+    IS(set.answer(feed, "high").values.greatest == 10 && set.answer(feed, "high").edit == 4);
+    livevec::queries windows{{"ten", livevec::query(livevec::kind::sum).within(10)}};
+    livevec::samples load{{0, 7}, {5, 1}, {9, 2}};
+    IS(told(windows, load) == "ten 10 at 3; 3");
+    load.push(15, 3);
+    IS(told(windows, load) == "ten 5 at 4; 4" && windows.answer(load, "ten").values.sum == 5);
+    IS(refusal_of([&] { (void)windows.notes(feed); }) == LIVEVEC_BAD_KIND && refusal_of([&] { (void)windows.answer(livevec::vector(), "ten"); }) == LIVEVEC_BAD_KIND);
+}
+
 void queries()
 {
+    spans_and_bounds();
     livevec::vector feed;
     livevec::queries set;
     set.watch("total", livevec::kind::sum);

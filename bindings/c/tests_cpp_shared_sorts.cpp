@@ -30,7 +30,7 @@ static_assert(std::is_same_v<livevec::shared_vector, shared<livevec::vector>> &&
 static void a_series()
 {
     shared<livevec::series> of(livevec::series{4, 5});
-    livevec::subscriber alerts = of.subscribe({{"all", kind::sum}, {"front", kind::least, 0, 2}}), late = of.subscribe({{"most", kind::greatest}});
+    livevec::subscriber alerts = of.subscribe({{"all", kind::sum}, {"front", livevec::query(kind::least).between(0, 2)}}), late = of.subscribe({{"most", kind::greatest}});
     IS(of.push(6).edit == 3 && of.size() == 3 && of[2] == 6 && of.edits() == 3);
     livevec::noted told = *alerts.next();
     IS(told.edit() == 3 && told.size() == 2 && told[0].name == std::string("all") && told[0].values.sum == 15 && told[1].values.least == 4);
@@ -42,7 +42,7 @@ static void a_series()
     IS(*of.best(1, 3) == 8 && of.value(kind::sum, 1, 2).edit == 12 && of.reduce(1, 4).values.least == 1 && !of.least(2, 2));
     IS(refusal_of([&] { (void)of[0]; }) == LIVEVEC_OUT_OF_RANGE && refusal_of([&] { of.write(4, 1); }) == LIVEVEC_OUT_OF_RANGE);
     IS(refusal_of([&] { (void)of.subscribe({{"seventeen letters", kind::sum}}); }) == LIVEVEC_BAD_NAME);
-    IS(refusal_of([&] { (void)of.subscribe({{"back", kind::sum, 2, 1}}); }) == LIVEVEC_BAD_RANGE);
+    IS(refusal_of([&] { (void)of.subscribe({{"back", livevec::query(kind::sum).between(2, 1)}}); }) == LIVEVEC_BAD_RANGE);
     of.with([&](livevec::series &within) {
         IS(refusal_of([&] { (void)of.size(); }) == LIVEVEC_BUSY);
         within = livevec::series{9};

@@ -260,8 +260,167 @@ static void many(void)
     IS(livevec_free(&v), 0);
 }
 
+/* Values that are worked by hand: the last so many, bounds, and windows of time, by a vector, a series and samples. */
+static void watch_as(livevec_queries *set, const char *name, livevec_query query)
+{
+    IS(livevec_watch_query(set, name, strlen(name), &query), 0);
+}
+
+static livevec_queries three_spans(void)
+{
+    livevec_queries set = {0};
+    IS(livevec_queries_new(&set), 0);
+    watch_as(&set, "last", (livevec_query){.kind = LIVEVEC_SUM, .span = LIVEVEC_LAST, .lo = 2});
+    watch_as(&set, "high", (livevec_query){.kind = LIVEVEC_GREATEST, .span = LIVEVEC_LAST, .lo = 3, .bound = LIVEVEC_AT_LEAST, .x = 10});
+    watch_as(&set, "low", (livevec_query){.kind = LIVEVEC_LEAST, .lo = 1, .hi = UINT64_MAX, .bound = LIVEVEC_AT_MOST, .x = -1});
+    return set;
+}
+
+/* What is pushed one after another, and which notes there are after each: the sum of the last two, whether the greatest of the last three is at
+ * least 10, and whether the least of all but the first is at most -1. */
+static const struct step {
+    int64_t pushed, sum, high, low;
+    const char *told[3];
+} steps[] = {
+    {4, 4, 4, 0, {"last"}},              /* 4 */
+    {10, 14, 10, 10, {"last", "high"}},  /* 4 10: begins to be at least 10 */
+    {4, 14, 10, 4, {NULL}},              /* 4 10 4: the sum is 14 again, and is not told twice */
+    {12, 16, 12, 4, {"last"}},           /* 10 4 12: stays at least 10 */
+    {-1, 11, 12, -1, {"last", "low"}},   /* 4 12 -1: the least of all but the first begins to be at most -1 */
+    {0, -1, 12, -1, {"last"}},           /* 12 -1 0 */
+    {1, 1, 1, -1, {"last", "high"}},     /* -1 0 1: ends to be at least 10 */
+};
+enum { STEPS = sizeof steps / sizeof *steps };
+
+static void told_as(const struct step *step, uint32_t edit, livevec_noted noted, const livevec_note *notes)
+{
+    uint32_t count = 0;
+    IS(noted.refusal, 0);
+    IS(noted.edit, edit);
+    for (; count < 3 && step->told[count]; count++) {
+        IS(strcmp(notes[count].name, step->told[count]), 0);
+        IS(notes[count].edit, edit);
+        const livevec_values *now = &notes[count].values;
+        int64_t value = *step->told[count] == 'h' ? now->greatest : step->told[count][1] == 'o' ? now->least : (int64_t)now->sum;
+        IS(value, *step->told[count] == 'h' ? step->high : step->told[count][1] == 'o' ? step->low : step->sum);
+    }
+    IS(noted.count, count);
+}
+
+static livevec_noted narrow(livevec_series_noted told)
+{
+    return (livevec_noted){.refusal = told.refusal, .detail = told.detail, .edit = (uint32_t)told.edit, .count = told.count};
+}
+
+static void spans_and_bounds(void)
+{
+    livevec_queries of_vector = three_spans(), of_series = three_spans(), of_samples = three_spans();
+    livevec_vector v = {0};
+    livevec_series s = {0};
+    livevec_samples t = {0};
+    livevec_note notes[4];
+    IS(livevec_new(&v, 4, 99), 0);
+    IS(livevec_series_new(&s), 0);
+    IS(livevec_samples_new(&t), 0);
+    for (uint32_t i = 0; i < STEPS; i++) {
+        const struct step *step = &steps[i];
+        IS(livevec_push(&v, step->pushed).refusal + livevec_series_push(&s, step->pushed).refusal + livevec_samples_push(&t, i, step->pushed).refusal, 0);
+        told_as(step, i + 1, livevec_notes(&of_vector, &v, notes, 4), notes);
+        told_as(step, i + 1, narrow(livevec_series_notes(&of_series, &s, notes, 4)), notes);
+        told_as(step, i + 1, narrow(livevec_series_notes(&of_samples, &t.values, notes, 4)), notes);
+        IS(livevec_answer(&of_vector, &v, "last", 4).values.sum, step->sum);
+        livevec_series_reduced told = livevec_series_answer(&of_series, &s, "high", 4);
+        IS(told.values.greatest, step->high);
+        IS(told.edit, i + 1);
+        told = livevec_series_answer(&of_samples, &t.values, "low", 3);
+        IS(told.values.least, step->low);
+        IS(told.values.any, i > 0);
+    }
+    /* an expiry leaves of the range what is kept: 1 alone, behind -1 and 0. So the least ends to be at most -1, and the sum of the last two is 1 */
+    IS(livevec_series_expire(&s, 6).refusal, 0);
+    IS(livevec_series_notes(&of_series, &s, notes, 4).count, 1);
+    IS(strcmp(notes[0].name, "low"), 0);
+    IS(notes[0].values.least, 1);
+    IS(livevec_free_queries(&of_vector) + livevec_free_queries(&of_series) + livevec_free_queries(&of_samples), 0);
+    IS(livevec_free(&v) + livevec_free_series(&s) + livevec_free_samples(&t), 0);
+}
+
+/* Of the last 10 of time: samples at 0, 5, 9, 15 and 30 that are 7, 1, 2, 3 and -4. */
+static void windows_of_time(void)
+{
+    static const int64_t times[] = {0, 5, 9, 15, 30}, values[] = {7, 1, 2, 3, -4};
+    static const uint64_t sums[] = {7, 8, 10, 5, (uint64_t)-4};
+    livevec_queries set = {0};
+    livevec_samples t = {0};
+    livevec_series s = {0};
+    livevec_vector v = {0};
+    livevec_note notes[3];
+    IS(livevec_queries_new(&set), 0);
+    IS(livevec_samples_new(&t), 0);
+    watch_as(&set, "ten", (livevec_query){.kind = LIVEVEC_SUM, .span = LIVEVEC_WITHIN, .lo = 10});
+    watch_as(&set, "busy", (livevec_query){.kind = LIVEVEC_SUM, .span = LIVEVEC_WITHIN, .lo = 10, .bound = LIVEVEC_AT_LEAST, .x = 8});
+    watch_as(&set, "none", (livevec_query){.kind = LIVEVEC_LEAST, .span = LIVEVEC_WITHIN});
+    for (uint32_t i = 0; i < 5; i++) {
+        IS(livevec_samples_push(&t, times[i], values[i]).refusal, 0);
+        livevec_series_noted told = livevec_series_notes(&set, &t.values, notes, 3);
+        IS(told.count, i == 1 || i == 3 ? 2 : 1); /* 8 begins to be at least 8, 5 ends to be */
+        IS(notes[0].values.sum, sums[i]);
+        if (told.count == 2)
+            IS(strcmp(notes[1].name, "busy"), 0);
+        IS(livevec_series_answer(&set, &t.values, "none", 4).values.any, false);
+    }
+    /* what has no times isn't asked, and is told nothing */
+    IS(livevec_series_new(&s), 0);
+    IS(livevec_new(&v, 2, 9), 0);
+    IS(livevec_series_answer(&set, &s, "ten", 3).refusal, LIVEVEC_BAD_KIND);
+    IS(livevec_answer(&set, &v, "busy", 4).refusal, LIVEVEC_BAD_KIND);
+    IS(livevec_unwatch(&set, "ten", 3), 0);
+    watch_as(&set, "all", (livevec_query){.kind = LIVEVEC_SUM, .hi = 9});
+    livevec_series_noted refused = livevec_series_notes(&set, &s, notes, 3);
+    IS(refused.refusal, LIVEVEC_BAD_KIND);
+    IS(refused.detail, 0);
+    IS(livevec_unwatch(&set, "busy", 4), 0);
+    IS(livevec_notes(&set, &v, notes, 3).refusal, LIVEVEC_BAD_KIND);
+    IS(livevec_unwatch(&set, "none", 4), 0);
+    IS(livevec_notes(&set, &v, notes, 3).refusal, 0);
+    IS(livevec_free_queries(&set) + livevec_free_samples(&t) + livevec_free_series(&s) + livevec_free(&v), 0);
+}
+
+/* Numbers that name nothing, and no memory for a tree: the kind goes over the elements then, and the answer is the same. */
+static void refused_by_numbers(void)
+{
+    livevec_queries set = {0};
+    livevec_series s = {0};
+    livevec_note note;
+    IS(livevec_queries_new(&set), 0);
+    IS(livevec_watch_query(&set, "a", 1, NULL), LIVEVEC_NULL);
+    IS(livevec_watch_query(&set, "A", 1, &(livevec_query){.kind = 6}), LIVEVEC_BAD_NAME);
+    IS(livevec_watch_query(&set, "a", 1, &(livevec_query){.kind = 6}), LIVEVEC_BAD_KIND);
+    IS(livevec_watch_query(&set, "a", 1, &(livevec_query){.span = 3}), LIVEVEC_BAD_KIND);
+    IS(livevec_watch_query(&set, "a", 1, &(livevec_query){.bound = 3}), LIVEVEC_BAD_KIND);
+    IS(livevec_watch_query(&set, "a", 1, &(livevec_query){.lo = 2, .hi = 1}), LIVEVEC_BAD_RANGE);
+    IS(livevec_watch_query(&set, "a", 1, &(livevec_query){.span = LIVEVEC_LAST, .lo = 2, .hi = 1}), 0);
+    IS(livevec_series_answer(&set, &s, "a", 1).refusal, LIVEVEC_NO_HANDLE);
+    IS(livevec_series_notes(&set, NULL, &note, 1).refusal, LIVEVEC_NULL);
+    IS(livevec_series_new(&s), 0);
+    for (int64_t x = 1; x <= 100; x++)
+        IS(livevec_series_push(&s, x).refusal, 0);
+    until_failure = 1;
+    IS(livevec_series_notes(&set, &s, &note, 1).count, 1);
+    IS(until_failure, 0);
+    IS(note.values.sum, 99 + 100);
+    IS(livevec_series_notes(&set, &s, &note, 0).detail, 0);
+    IS(livevec_series_push(&s, 6).refusal, 0);
+    IS(livevec_series_notes(&set, &s, &note, 0).refusal, LIVEVEC_SHORT_BUFFER);
+    IS(livevec_series_answer(&set, &s, "a", 1).values.sum, 106);
+    IS(livevec_free_queries(&set) + livevec_free_series(&s), 0);
+}
+
 void queries(void)
 {
+    spans_and_bounds();
+    windows_of_time();
+    refused_by_numbers();
     as_the_model(false);
     as_the_model(true);
     refused();

@@ -60,7 +60,6 @@ static void tells_of_a_vector(void)
     watch(&sum, "sum", LIVEVEC_SUM);
     watch(&least, "least", LIVEVEC_LEAST);
     IS(livevec_shared_subscribe(&shared, &alerts, NULL), LIVEVEC_NULL);
-    IS(livevec_shared_watch(&shared, &alerts, NULL, 0), LIVEVEC_NO_HANDLE);
     IS(livevec_subscriber_look(&alerts, notes, 2).refusal, LIVEVEC_NO_HANDLE);
     IS(livevec_shared_subscribe(&shared, &alerts, &sum), 0);
     IS(livevec_shared_subscribe(&shared, &alerts, &least), LIVEVEC_IN_USE);
@@ -139,14 +138,14 @@ static void tells_what_is_refused(void)
     IS(livevec_free(&v), 0);
 }
 
+static void watch_range(livevec_queries *set, const char *name, uint32_t kind, uint64_t lo, uint64_t hi)
+{
+    IS(livevec_watch_query(set, name, strlen(name), &(livevec_query){.kind = kind, .lo = lo, .hi = hi}), 0);
+}
+
 /* Of a series: what is watched, of which an end may not be kept; and what each kind says of no elements is no news. */
 static void tells_of_a_series(void)
 {
-    static const livevec_watched watched[] = {
-        {"all", LIVEVEC_SUM, 0, UINT64_MAX}, {"front", LIVEVEC_LEAST, 0, 2},        {"later", LIVEVEC_GREATEST, 2, 9},
-        {"run", LIVEVEC_BEST, 5, 9},         {"map", LIVEVEC_AFFINE, 5, UINT64_MAX}, {"states", LIVEVEC_AUTOMATON, 5, 5},
-    };
-    static const livevec_watched strange = {"strange", 6, 0, 0}, backwards = {"back", LIVEVEC_SUM, 2, 1};
     livevec_series s = {0};
     livevec_shared shared = {0};
     livevec_subscriber alerts = {0};
@@ -159,12 +158,14 @@ static void tells_of_a_series(void)
     IS(livevec_shared_enter(&shared), 0);
     IS(livevec_shared_renew(&shared, &(livevec_vector){0}), LIVEVEC_NO_HANDLE);
     IS(livevec_shared_leave(&shared).refusal, 0);
-    IS(livevec_shared_subscribe(&shared, &alerts, &set), LIVEVEC_NO_HANDLE);
-    IS(livevec_shared_watch(&shared, &alerts, NULL, 1), LIVEVEC_NULL);
-    IS(livevec_shared_watch(&shared, &alerts, watched, 65), LIVEVEC_TOO_MANY);
-    IS(livevec_shared_watch(&shared, &alerts, &strange, 1), LIVEVEC_BAD_KIND);
-    IS(livevec_shared_watch(&shared, &alerts, &backwards, 1), LIVEVEC_BAD_RANGE);
-    IS(livevec_shared_watch(&shared, &alerts, watched, 6), 0);
+    IS(livevec_queries_new(&set), 0);
+    watch_range(&set, "all", LIVEVEC_SUM, 0, UINT64_MAX);
+    watch_range(&set, "front", LIVEVEC_LEAST, 0, 2);
+    watch_range(&set, "later", LIVEVEC_GREATEST, 2, 9);
+    watch_range(&set, "run", LIVEVEC_BEST, 5, 9);
+    watch_range(&set, "map", LIVEVEC_AFFINE, 5, UINT64_MAX);
+    watch_range(&set, "states", LIVEVEC_AUTOMATON, 5, 5);
+    IS(livevec_shared_subscribe(&shared, &alerts, &set), 0);
     IS(livevec_subscriber_look(&alerts, notes, 6).count, 0);
     IS(livevec_shared_enter(&shared), 0);
     for (int64_t i = 1; i < 4; i++)
@@ -215,20 +216,23 @@ static void tells_of_a_series(void)
     told = livevec_subscriber_look(&alerts, notes, 6);
     IS(told.is_over, true);
     IS(livevec_free_subscriber(&alerts), 0);
+    IS(livevec_free_queries(&set), 0);
     IS(livevec_free_series(&other), 0);
 }
 
 /* Samples are shared by their values. */
 static void tells_of_samples(void)
 {
-    static const livevec_watched all = {"all", LIVEVEC_SUM, 0, UINT64_MAX};
     livevec_samples load = {0};
     livevec_shared shared = {0};
+    livevec_queries set = {0};
     livevec_subscriber alerts = {0};
     livevec_note note;
+    IS(livevec_queries_new(&set), 0);
+    watch_range(&set, "all", LIVEVEC_SUM, 0, UINT64_MAX);
     IS(livevec_samples_new(&load), 0);
     IS(livevec_shared_new_series(&shared, &load.values), 0);
-    IS(livevec_shared_watch(&shared, &alerts, &all, 1), 0);
+    IS(livevec_shared_subscribe(&shared, &alerts, &set), 0);
     IS(livevec_shared_enter(&shared), 0);
     IS(livevec_samples_push(&load, 100, 20).edit, 1);
     IS(livevec_samples_push(&load, 160, 22).edit, 2);
@@ -242,6 +246,7 @@ static void tells_of_samples(void)
     IS(livevec_subscriber_next(&alerts, &note, 1, for_ever).edit, 3);
     IS(note.values.sum, 22);
     IS(livevec_free_subscriber(&alerts), 0);
+    IS(livevec_free_queries(&set), 0);
     IS(livevec_free_shared(&shared), 0);
     IS(livevec_free_samples(&load), 0);
 }

@@ -64,10 +64,9 @@ static void *work(void *worker)
 
 static void threads_feed_and_listen(void)
 {
-    static const livevec_watched all = {"all", LIVEVEC_SUM, 0, UINT64_MAX};
     static struct feeder feeders[THREADS];
     static struct listener listeners[2];
-    livevec_queries sum = {0};
+    livevec_queries sum = {0}, of_series = {0};
     livevec_worker worker = {0};
     pthread_t works;
     begin(&shared_vector, &vector, 16777215);
@@ -75,7 +74,8 @@ static void threads_feed_and_listen(void)
     IS(livevec_shared_new_series(&shared_series, &series_of_all), 0);
     watch(&sum, "sum", LIVEVEC_SUM);
     IS(livevec_shared_subscribe(&shared_vector, &listeners[0].told_by, &sum), 0);
-    IS(livevec_shared_watch(&shared_series, &listeners[1].told_by, &all, 1), 0);
+    watch(&of_series, "sum", LIVEVEC_SUM);
+    IS(livevec_shared_subscribe(&shared_series, &listeners[1].told_by, &of_series), 0);
     IS(livevec_subscriber_set_pause(&listeners[1].told_by, 0), 0);
     IS(livevec_shared_hire(&shared_vector, &worker), 0);
     IS(pthread_create(&works, NULL, work, &worker), 0);
@@ -103,7 +103,7 @@ static void threads_feed_and_listen(void)
     }
     IS(livevec_free_worker(&worker), 0);
     IS(livevec_free_shared(&shared_vector), 0);
-    IS(livevec_free_queries(&sum), 0);
+    IS(livevec_free_queries(&sum) + livevec_free_queries(&of_series), 0);
     IS(livevec_value(&vector, LIVEVEC_SUM, 0, THREADS * ROUNDS).values.sum, 2 * THREADS * ROUNDS);
     IS(livevec_free(&vector), 0);
     IS(livevec_free_series(&series_of_all), 0);

@@ -72,6 +72,34 @@ class Standing(unittest.TestCase):
             queries.watch("more", "sum")
         self.assertEqual(len(queries.notes(all_kinds)), 62)
 
+    def test_spans_and_bounds(self) -> None:
+        feed, queries = livevec.Series(), livevec.Queries()
+        queries.watch("two", "sum", last=2)
+        queries.watch("high", Kind.GREATEST, last=3, at_least=10)
+        queries.watch("low", "least", at_most=-1)
+        told = []
+        for value in (4, 10, 4, -1):
+            feed.append(value)
+            told.append([(note.name, note.edit, note.value) for note in queries.notes(feed)])
+        self.assertEqual(told, [[("two", 1, 4)], [("two", 2, 14), ("high", 2, 10)], [], [("two", 4, 3), ("low", 4, -1)]])
+        self.assertEqual(queries.answer(feed, "high"), (4, 10))
+        load, windows = livevec.Samples([0, 5, 9], [7, 1, 2]), livevec.Queries()
+        windows.watch("ten", "sum", within=10)
+        self.assertEqual([note.value for note in windows.notes(load)], [10])
+        load.push(15, 3)
+        self.assertEqual((windows.answer(load, "ten").value, [note.value for note in windows.notes(load)]), (5, [5]))
+        for of in (feed, Vector()):
+            for call in (lambda: windows.notes(of), lambda: windows.answer(of, "ten")):
+                with self.assertRaises(livevec.BadKind):
+                    call()
+        for spans in ({"lo": 1, "last": 2}, {"last": 1, "within": 1}, {"at_least": 1, "at_most": 1}, {"last": -1}):
+            with self.assertRaises(ValueError):
+                windows.watch("no", "sum", **spans)
+        shared = livevec.SharedSamples(load)
+        alerts = shared.subscribe(windows)
+        shared.push(16, 4)
+        self.assertEqual([note.value for note in alerts.look()], [9])
+
     def test_it_ends(self) -> None:
         with livevec.Queries() as queries:
             queries.watch("a", "sum")

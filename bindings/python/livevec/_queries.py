@@ -8,9 +8,13 @@ from typing import Callable, NamedTuple, Optional, Union
 from ._calls import _slot
 from ._handle import _Handle
 from ._kinds import Kind, _kind_of
-from ._library import _call, _size, _u32
-from ._limits import _MOST_U32, MOST_QUERIES
+from ._library import _call, _i64, _size, _u32
+from ._limits import _MOST_U64, MOST_QUERIES
+from ._numbers import _as_i64
 from ._refusals import Busy, _refuse
+from ._samples import Samples
+from ._series import Series
+from ._series_calls import _SeriesReduced, _slot as _series_slot, _u64
 from ._structures import _Reduced, _Slot, _Values
 from ._values import _value_of
 from ._vector import Vector
@@ -38,17 +42,32 @@ class _Noted(ctypes.Structure):
     _fields_ = [("refusal", ctypes.c_uint32), ("detail", ctypes.c_uint32), ("edit", ctypes.c_uint32), ("count", ctypes.c_uint32)]
 
 
+class _SeriesNoted(ctypes.Structure):
+    refusal: int
+    detail: int
+    edit: int
+    count: int
+    _fields_ = [("refusal", _u32), ("detail", _u32), ("edit", _u64), ("count", _u32)]
+
+
+class _Query(ctypes.Structure):
+    _fields_ = [("kind", _u32), ("span", _u32), ("bound", _u32), ("lo", _u64), ("hi", _u64), ("x", _i64)]
+
+
 _queries, _bytes = ctypes.POINTER(_QueriesSlot), ctypes.c_char_p
 _new = _call("livevec_queries_new", _u32, _queries)
-_watch = _call("livevec_watch", _u32, _queries, _bytes, _size, _u32, _u32, _u32)
+_watch = _call("livevec_watch_query", _u32, _queries, _bytes, _size, ctypes.POINTER(_Query))
 _unwatch = _call("livevec_unwatch", _u32, _queries, _bytes, _size)
 _answer = _call("livevec_answer", _Reduced, _queries, _slot, _bytes, _size)
 _notes = _call("livevec_notes", _Noted, _queries, _slot, ctypes.POINTER(_Note), _size)
+_series_answer = _call("livevec_series_answer", _SeriesReduced, _queries, _series_slot, _bytes, _size)
+_series_notes = _call("livevec_series_notes", _SeriesNoted, _queries, _series_slot, ctypes.POINTER(_Note), _size)
 _free = _call("livevec_free_queries", _u32, _queries)
 
 
 class Note(NamedTuple):
-    """That the answer of a standing query is another than it was told last: after which edit it is so, and what it is, as `Values` has it."""
+    """That the answer of a standing query is another than it was told last, or has crossed its bound: after which edit it is so, and what it is, as
+    `Values` has it."""
 
     name: str
     kind: Kind
@@ -64,7 +83,7 @@ class Answered(NamedTuple):
 
 
 class Queries(_Handle):
-    """A set of at most 64 standing queries, which may be asked of any vector.
+    """A set of at most 64 standing queries, which may be asked of any `Vector`, `Series` and `Samples`.
 
         >>> from livevec import Queries, Vector
         >>> feed, queries = Vector(), Queries()
@@ -79,8 +98,8 @@ class Queries(_Handle):
         >>> queries.notes(feed)
         []
 
-    `notes` tells which answers are others than were told last, in the order in which the queries were named: called after each edit, it tells the
-    notes of that edit. Before its first note a query counts as told its answer of no elements. A name is 1 to 16 letters of a-z, 0-9 and _.
+    `notes` tells which answers are others than were told last, or have crossed their bound, in the order in which the queries were named: called after
+    each edit, it tells the notes of that edit. Before its first note a query counts as told its answer of no elements. A name is 1 to 16 letters of a-z, 0-9 and _.
 
     Its calls keep the interpreter's lock, as a vector's do. Raises NoMemory. The memory is given back by `close`, at the end of a `with`, or with
     the object.
@@ -101,14 +120,33 @@ class Queries(_Handle):
         """The names of the queries, in order."""
         return tuple(self._kinds)
 
-    def watch(self, name: str, kind: Union[Kind, str], lo: int = 0, hi: Optional[int] = None) -> None:
-        """Registers a query: what a kind, a `Kind` or its name, says of the elements from `lo` up to `hi`, or up to the end however far it is.
+    def watch(self, name: str, kind: Union[Kind, str], lo: int = 0, hi: Optional[int] = None, *, last: Optional[int] = None, within: Optional[int] = None,
+              at_least: Optional[int] = None, at_most: Optional[int] = None) -> None:
+        """Registers a query: what a kind, a `Kind` or its name, says of the elements from `lo` up to `hi`, or up to the end however far it is; of the
+        `last` so many elements, or of all where there are fewer; or of samples `within` the last so much time, as `Samples.last` has them.
 
-        The range may reach past the end: what of it exists is asked. O(q) of q queries. Raises BadName, BadRange, NameTaken, TooMany, NoMemory; ValueError of what
-        is no kind, and of an end below 0, since a query has no end to count from."""
+        The range may reach past the end: what of it exists is asked. With `at_least` or `at_most` it is told of only as its answer begins or ends to be
+        at least, or at most, so much; no elements, a map and states never are.
+
+            >>> from livevec import Queries, Samples
+            >>> load, queries = Samples([0, 30, 60], [40, 95, 99]), Queries()
+            >>> queries.watch("hot", "greatest", within=60, at_least=90)
+            >>> [note.value for note in queries.notes(load)]
+            [99]
+
+        O(q) of q queries. Raises BadName, BadRange, NameTaken, TooMany, NoMemory; ValueError of what is no kind, of an end below 0, since a query has no
+        end to count from, and of two spans or two bounds."""
         of = _kind_of(kind)
-        start, end = _reach(lo), _MOST_U32 if hi is None else _reach(hi)
-        refusal = _watch(self._at, *_named(name), of.value, start, end)
+        if (lo, hi) != (0, None) and (last, within) != (None, None) or None not in (last, within) or None not in (at_least, at_most):
+            raise ValueError("a query has one span, and one bound at most")
+        query = _Query(of.value, 0, 0, _reach(lo), _MOST_U64 if hi is None else _reach(hi), 0)
+        for span, count in enumerate((last, within), 1):
+            if count is not None:
+                query.span, query.lo = span, _reach(count)
+        for bound, x in enumerate((at_least, at_most), 1):
+            if x is not None:
+                query.bound, query.x = bound, _as_i64(x)
+        refusal = _watch(self._at, *_named(name), query)
         if refusal:
             raise _refuse(refusal)
         self._kinds[name] = of
@@ -120,23 +158,22 @@ class Queries(_Handle):
             raise _refuse(refusal)
         del self._kinds[name]
 
-    def answer(self, vector: Vector, name: str) -> Answered:
-        """The answer of a query now, by a vector. Nothing counts as told by it. Costs what `Vector.value` does.
+    def answer(self, of: Union[Vector, Series, Samples], name: str) -> Answered:
+        """The answer of a query now. Nothing counts as told by it. Costs what `value` does.
 
-        Raises BadName, NoSuchName, and BadKind where the vector is of another kind."""
-        did = _answer(self._at, _vector(vector)._at, *_named(name))
+        Raises BadName, NoSuchName, and BadKind where it may not be asked: of a vector of another kind, or of the last so much time at what has no times."""
+        did = (_answer if isinstance(_askable(of), Vector) else _series_answer)(self._at, of._at, *_named(name))
         if did.refusal:
-            raise _refuse(did.refusal, did.detail)
+            raise _refuse(did.refusal)
         return Answered(did.edit, _value_of(self._kinds[name], did.values))
 
-    def notes(self, vector: Vector) -> list[Note]:
-        """A note of each query, in order, whose answer by a vector is another than it was told last. Each then counts as told its answer. Costs
-        what `Vector.value` does, for each query.
+    def notes(self, of: Union[Vector, Series, Samples]) -> list[Note]:
+        """A note of each query, in order, whose answer is another than it was told last, or has crossed its bound. Each then counts as told its answer.
+        Costs what `value` does, for each query.
 
-        Raises BadKind where the vector is of one kind and another is among the queries: nothing is told then, and its `detail` is which query it
-        is, counted from 0."""
+        Raises BadKind where one of the queries may not be asked: nothing is told then, and its `detail` is which query it is, counted from 0."""
         room = (_Note * MOST_QUERIES)()
-        did = _notes(self._at, _vector(vector)._at, room, MOST_QUERIES)
+        did = (_notes if isinstance(_askable(of), Vector) else _series_notes)(self._at, of._at, room, MOST_QUERIES)
         if did.refusal:
             raise _refuse(did.refusal, did.detail)
         return [_note_of(room[at], did.edit) for at in range(did.count)]
@@ -167,18 +204,18 @@ def _named(name: str) -> tuple[bytes, int]:
     return spelled, len(spelled)
 
 
-def _reach(index: int, most: int = _MOST_U32) -> int:
+def _reach(index: int) -> int:
     """An end of a range that none has, where it is greater than C's numbers, is as good as the greatest of them."""
     index = operator.index(index)
     if index < 0:
-        raise ValueError(f"the end {index} of a query's range is below 0")
-    return min(index, most)
+        raise ValueError(f"{index} of a query's span is below 0")
+    return min(index, _MOST_U64)
 
 
-def _vector(vector: Vector) -> Vector:
-    if not isinstance(vector, Vector):
-        raise TypeError(f"a Vector is wanted, not a {type(vector).__name__}")
-    return vector
+def _askable(of: Union[Vector, Series, Samples]) -> Union[Vector, Series, Samples]:
+    if not isinstance(of, (Vector, Series, Samples)):
+        raise TypeError(f"a Vector, a Series or Samples are wanted, not a {type(of).__name__}")
+    return of
 
 
 def _note_of(raw: _Note, edit: int) -> Note:

@@ -177,7 +177,7 @@ class TooLong(Refusal, OverflowError):
 
 
 class BadKind(Refusal, ValueError):
-    """A vector of one kind was asked by another, or by all six."""
+    """A vector of one kind was asked by another, or by all six; or what has no times was asked a query of the last so much time."""
 
     number, says = 113, "a kind that the vector is not of"
 

@@ -15,7 +15,7 @@ from ._calls import _slot
 from ._kinds import Kind
 from ._library import _call, _pointer, _released, _size, _u32
 from ._numbers import _as_i64, _whole
-from ._queries import Queries, _QueriesSlot, _vector
+from ._queries import Queries, _QueriesSlot
 from ._ranges import _as_rows, _as_table
 from ._refusals import Busy, Closed, NoMemory, _refuse
 from ._samples import Samples
@@ -273,8 +273,13 @@ class _Shared(_ByKind, Generic[_Of]):
     def _located(self, what: str, lo: Optional[int], hi: Optional[int], *number: int) -> Any:
         return self._read(lambda of: of._located(what, lo, hi, *number))
 
-    def _subscribed(self, names: Iterable[str], asked: object, sits: Callable[[Any, Any], int]) -> Subscriber:
-        return Subscriber(names, asked, lambda seat: sits(self._at, seat))
+    def subscribe(self, queries: Queries) -> Subscriber:
+        """One more that is told which answers of these queries change. Before its first look each counts as told what `Queries` says.
+
+        The queries are the subscriber's from now on: a call at them beside its look raises Busy there or here. Raises Closed."""
+        if not isinstance(queries, Queries):
+            raise TypeError(f"Queries are wanted, not a {type(queries).__name__}")
+        return Subscriber(queries.names, queries, lambda seat: _subscribe(self._at, seat, queries._at))
 
 
 class SharedVector(_Shared[Vector]):
@@ -403,16 +408,14 @@ class SharedVector(_Shared[Vector]):
             ended, self._workers = self._workers, []
         _ended(ended)
 
-    def subscribe(self, queries: Queries) -> Subscriber:
-        """One more that is told which answers of these queries change. Before its first look each counts as told what `Queries` says.
-
-        The queries are the subscriber's from now on: a call at them beside its look raises Busy there or here. Raises Closed."""
-        if not isinstance(queries, Queries):
-            raise TypeError(f"Queries are wanted, not a {type(queries).__name__}")
-        return self._subscribed(queries.names, queries, lambda at, seat: _subscribe(at, seat, queries._at))
-
     def _valued(self, kind: Kind, lo: Optional[int], hi: Optional[int]) -> _Values:
         return self._read(lambda vector: vector._valued(kind, lo, hi, _value))
+
+
+def _vector(vector: Vector) -> Vector:
+    if not isinstance(vector, Vector):
+        raise TypeError(f"a Vector is wanted, not a {type(vector).__name__}")
+    return vector
 
 
 def _ended(workers: list[_Worker]) -> None:

@@ -1,7 +1,6 @@
 """A series and samples that threads share."""
 from __future__ import annotations
 
-import ctypes
 from array import array
 from typing import Any, Iterable, Mapping, Optional, TypeVar, Union, overload
 
@@ -9,10 +8,8 @@ from ._buffers import _as_buffer
 from ._by_index import LongReduced
 from ._kinds import _Chosen, _kind_of, _Summed, _Value, Kind
 from ._library import _call, _pointer, _released, _size, _u32
-from ._limits import _MOST_U64
 from ._numbers import _as_i64, _whole
-from ._queries import _NAME_BYTES, _named, _reach
-from ._refusals import BadName, _refuse
+from ._queries import Queries
 from ._samples import Sample, Samples, Window
 from ._scans import Column
 from ._series import Series
@@ -22,17 +19,8 @@ from ._structures import _Values
 from ._subscribers import Subscriber, _place
 
 
-class _Watched(ctypes.Structure):
-    name: bytes
-    kind: int
-    lo: int
-    hi: int
-    _fields_ = [("name", ctypes.c_char * (_NAME_BYTES + 1)), ("kind", _u32), ("lo", _u64), ("hi", _u64)]
-
-
 # All these release the interpreter's lock: who has the lock of what is shared may want that one, and the last three take long.
 _new = _call("livevec_shared_new_series", _u32, _place, _slot, by=_released)
-_watch = _call("livevec_shared_watch", _u32, _place, _place, ctypes.POINTER(_Watched), _size, by=_released)
 _reduce = _call("livevec_series_reduce", _SeriesReduced, _slot, _u64, _u64, by=_released)
 _value = _call("livevec_series_value", _SeriesReduced, _slot, _u32, _u64, _u64, by=_released)
 _push_many = _call("livevec_series_push_many", _SeriesPushed, _slot, _pointer, _size, by=_released)
@@ -87,20 +75,18 @@ class _SharedByIndex(_Shared[_Indexed]):
         reduced, edit = self._entered(lambda of: of._reduced(_reduce, lo, hi))
         return LongReduced(edit, reduced.values)
 
-    def subscribe(self, asked: Mapping[str, _Asked]) -> Subscriber:
-        """One more that is told which of some answers change, each of which has a name of at most 16 bytes: what a kind says of all elements that are
-        kept, or of those that are from `lo` up to `hi`, or without an end: `{"total": "sum", "low": ("least", 5, 9), "late": ("best", 70, None)}`.
+    def subscribe(self, asked: Union[Queries, Mapping[str, _Asked]]) -> Subscriber:
+        """As `SharedVector.subscribe`, or by names: what a kind says of all elements that are kept, or of those that are from `lo` up to `hi`, or without
+        an end: `{"total": "sum", "low": ("least", 5, 9), "late": ("best", 70, None)}`.
 
-        Before its first look each counts as told its answer of no elements. Raises TooMany above 64, BadName, BadRange, Closed; ValueError of what is
-        no kind, and of an end below 0."""
-        rows = (_Watched * max(len(asked), 1))()
-        for row, (name, what) in zip(rows, asked.items()):
+        Raises what `Queries.watch` does, and Closed."""
+        if isinstance(asked, Queries):
+            return super().subscribe(asked)
+        queries = Queries()
+        for name, what in asked.items():
             kind, lo, hi = what if isinstance(what, tuple) else (what, 0, None)
-            spelled, length = _named(name)
-            if length > _NAME_BYTES:
-                raise _refuse(BadName.number)
-            row.name, row.kind, row.lo, row.hi = spelled, _kind_of(kind).value, _reach(lo, _MOST_U64), _MOST_U64 if hi is None else _reach(hi, _MOST_U64)
-        return self._subscribed(tuple(asked), rows, lambda at, seat: _watch(at, seat, rows, len(asked)))
+            queries.watch(name, kind, lo, hi)
+        return super().subscribe(queries)
 
     def _valued(self, kind: Kind, lo: Optional[int], hi: Optional[int]) -> _Values:
         return self._read(lambda of: of._valued(kind, lo, hi, _value))

@@ -6,7 +6,7 @@
 mod day;
 
 use day::{HOT, Store, Window};
-use livevec::{Kind, Refusal, Samples, Shared, Subscriber, Value, Watched};
+use livevec::{Kind, Queries, Query, Refusal, Samples, Shared, Subscriber, Value};
 
 struct Kept {
     load: Shared<Samples>,
@@ -28,7 +28,9 @@ impl Store for Kept {
     }
 
     fn alerts(&self) -> Result<Subscriber<Samples>, Refusal> {
-        self.load.subscribe(vec![Watched::new("greatest", Kind::Greatest, ..)?.at_least(HOT)])
+        let mut queries = Queries::new()?;
+        queries.watch_query("greatest", Query::by(Kind::Greatest).at_least(HOT))?;
+        self.load.subscribe(queries)
     }
 
     fn take(&self, time: i64, values: &[i64]) -> Result<u64, Refusal> {

@@ -51,12 +51,6 @@ impl Value {
             Kind::Automaton => Value::Automaton(values.automaton),
         }
     }
-
-    /// What a kind says of no elements.
-    pub(crate) fn of_none(kind: Kind) -> Value {
-        let values = Values { sum: 0, least: None, greatest: None, best: None, affine: (1, 0), automaton: [0, 1, 2, 3, 4, 5, 6, 7] };
-        Value::of(kind, values)
-    }
 }
 
 impl Kind {

@@ -4,12 +4,72 @@ use std::fmt;
 
 use crate::indices::Indices;
 use crate::values::Values;
-use crate::{Kind, Refusal, Value, Vector, raw};
+use crate::{Kind, Refusal, Sharing, Value, raw};
 
-/// A set of standing queries, which may be asked of any vector.
+/// What a standing query asks: `Query::by(Kind::Greatest).last(100).at_least(90)`. Of all, and told of at each change, where nothing is said.
 ///
-/// [`notes`](Queries::notes) tells which answers are others than were told last, in the order in which the queries were named: called
-/// after each edit, it tells the notes of that edit. Before its first note a query counts as told its answer of no elements.
+/// ```
+/// use livevec::{Kind, Queries, Query, Samples, Value};
+///
+/// # fn main() -> Result<(), livevec::Refusal> {
+/// let (mut load, mut queries) = (Samples::new()?, Queries::new()?);
+/// queries.watch_query("hot", Query::by(Kind::Greatest).within(60).at_least(90))?;
+/// let mut told = Vec::new();
+/// for (time, value) in [(0, 40), (30, 95), (60, 99), (119, 70), (121, 60)] {
+///     load.push(time, value)?;
+///     told.extend(queries.notes(&mut load)?.iter().map(|note| (time, note.value)));
+/// }
+/// assert_eq!(told, [(30, Value::Greatest(Some(95))), (121, Value::Greatest(Some(70)))]);
+/// # Ok(())
+/// # }
+/// ```
+#[derive(Clone, Copy, Debug)]
+pub struct Query {
+    kind: Kind,
+    asked: raw::Query,
+}
+
+impl Query {
+    /// By a kind.
+    pub fn by(kind: Kind) -> Query {
+        Query { kind, asked: raw::Query { kind: kind as u32, span: 0, bound: 0, lo: 0, hi: u64::MAX, x: 0 } }
+    }
+
+    fn over(self, span: u32, lo: u64, hi: u64) -> Query {
+        Query { asked: raw::Query { span, lo, hi, ..self.asked }, ..self }
+    }
+
+    /// Of a range, which may reach past the end: what of it exists is asked, also where it has no end.
+    pub fn between(self, range: impl Indices) -> Query {
+        let (lo, hi) = reach(range);
+        self.over(0, lo, hi)
+    }
+
+    /// Of the last so many elements, or of all where there are fewer.
+    pub fn last(self, count: u64) -> Query {
+        self.over(1, count, 0)
+    }
+
+    /// Of the samples of the last so much time, as [`Samples::last`](crate::Samples::last) has them.
+    pub fn within(self, time: u64) -> Query {
+        self.over(2, time, 0)
+    }
+
+    /// Told of only as its answer begins or ends to be at least `x`. No elements, a map and states never are; a sum is signed here.
+    pub fn at_least(self, x: i64) -> Query {
+        Query { asked: raw::Query { bound: 1, x, ..self.asked }, ..self }
+    }
+
+    /// Told of only as its answer begins or ends to be at most `x`.
+    pub fn at_most(self, x: i64) -> Query {
+        Query { asked: raw::Query { bound: 2, x, ..self.asked }, ..self }
+    }
+}
+
+/// A set of standing queries, which may be asked of any [`Vector`](crate::Vector), [`Series`](crate::Series) and [`Samples`](crate::Samples).
+///
+/// [`notes`](Queries::notes) tells which answers are others than were told last, or have crossed their bound, in the order in which the queries were
+/// named: called after each edit, it tells the notes of that edit. Before its first note a query counts as told its answer of no elements.
 ///
 /// ```
 /// use livevec::{Kind, Queries, Value, Vector};
@@ -40,14 +100,14 @@ pub struct Queries {
     kinds: Vec<([u8; raw::NAME_BYTES], Kind)>,
 }
 
-/// That the answer of a standing query is another than it was told last.
+/// That the answer of a standing query is another than it was told last, or has crossed its bound.
 #[derive(Clone, Copy, PartialEq, Eq, Hash)]
 pub struct Note {
     // a zero stands behind it
     name: [u8; raw::NAME_BYTES + 1],
     /// The query's kind.
     pub kind: Kind,
-    /// After which edit this is its answer.
+    /// After which edit this is its answer: the low 32 bits of its number.
     pub edit: u32,
     /// Its answer.
     pub value: Value,
@@ -75,15 +135,19 @@ impl Queries {
     /// O(q) of q queries.
     /// Refused with `BadName`, `BadRange`, `NameTaken`, `TooMany` (past [`MOST`](Queries::MOST)), `NoMemory`, in this order.
     pub fn watch(&mut self, name: &str, kind: Kind, range: impl Indices) -> Result<(), Refusal> {
-        let (lo, hi) = reach(range);
+        self.watch_query(name, Query::by(kind).between(range))
+    }
+
+    /// Registers a query of any span, with or without a bound. O(q), and refused as [`watch`](Queries::watch).
+    pub fn watch_query(&mut self, name: &str, query: Query) -> Result<(), Refusal> {
         let room = self.kinds.try_reserve(1);
         // what is refused for itself is told before want of memory, so that C is asked first
-        self.raw.watch(name.as_bytes(), kind as u32, lo, hi)?;
+        self.raw.watch(name.as_bytes(), &query.asked)?;
         if room.is_err() {
             self.raw.unwatch(name.as_bytes())?;
             return Err(Refusal::NoMemory);
         }
-        self.kinds.push((padded(name), kind));
+        self.kinds.push((padded(name), query.kind));
         Ok(())
     }
 
@@ -95,8 +159,8 @@ impl Queries {
         Ok(())
     }
 
-    /// The answer of a query now, by a vector. Nothing counts as told by it. Costs what [`Vector::value`] does. Refused with `BadName`, `NoSuchName`, and `BadKind` where the
-    /// vector is of another kind, in this order.
+    /// The answer of a query now. Nothing counts as told by it. Costs what `value` does. Refused with `BadName`, `NoSuchName`, and `BadKind` where it may
+    /// not be asked (of a vector of another kind, or of the last so much time at what has no times), in this order.
     ///
     /// ```
     /// use livevec::{Kind, Queries, Refusal, Value, Vector};
@@ -109,21 +173,21 @@ impl Queries {
     /// # Ok(())
     /// # }
     /// ```
-    pub fn answer(&self, vector: &Vector, name: &str) -> Result<Answered, Refusal> {
-        let told = self.raw.answer(&vector.raw, name.as_bytes())?;
+    pub fn answer<T: Sharing>(&self, of: &T, name: &str) -> Result<T::Answered, Refusal> {
+        let (edit, values) = self.raw.answer(of.target(), name.as_bytes())?;
         let name = padded(name);
         let kind = self.kinds.iter().find(|&&(other, _)| other == name).map(|&(_, kind)| kind);
         let kind = kind.expect("a query has a kind");
-        Ok(Answered { edit: told.edit, value: Value::of(kind, Values::of_raw(told.values)) })
+        Ok(T::answered(edit, Value::of(kind, Values::of_raw(values))))
     }
 
-    /// A note of each query, in the order in which they were named, whose answer by a vector is another than it was told last. Each then
-    /// counts as told its answer. Costs what [`Vector::value`] does, for each query. Refused with `BadKind` where the vector is of one kind and another is among the queries, then with
+    /// A note of each query, in the order in which they were named, whose answer is another than it was told last, or has crossed its bound. Each then
+    /// counts as told its answer. Costs what `value` does, for each query. Refused with `BadKind` where one of them may not be asked, then with
     /// `NoMemory`: nothing is told then.
-    pub fn notes(&mut self, vector: &mut Vector) -> Result<Vec<Note>, Refusal> {
+    pub fn notes<T: Sharing>(&mut self, of: &mut T) -> Result<Vec<Note>, Refusal> {
         // room first: what was told once isn't told again
         let mut notes = raw::roomy(self.kinds.len())?;
-        notes.extend(self.raw.notes(&vector.raw)?.iter().map(Note::of_raw));
+        notes.extend(self.raw.notes(of.target())?.iter().map(Note::of_raw));
         Ok(notes)
     }
 }
@@ -131,12 +195,7 @@ impl Queries {
 impl Note {
     fn of_raw(raw: &raw::Note) -> Note {
         let kind = raw.kind();
-        Note { edit: raw.edit, ..Note::of(raw.name, kind, Value::of(kind, Values::of_raw(raw.values))) }
-    }
-
-    /// A note whose edit is told later.
-    pub(crate) fn of(name: [u8; raw::NAME_BYTES + 1], kind: Kind, value: Value) -> Note {
-        Note { name, kind, edit: 0, value }
+        Note { name: raw.name, kind, edit: raw.edit, value: Value::of(kind, Values::of_raw(raw.values)) }
     }
 
     /// The query's name.
@@ -170,13 +229,13 @@ fn padded(name: &str) -> [u8; raw::NAME_BYTES] {
     bytes
 }
 
-/// What of a range any vector may have, or a range that C refuses where it is backwards.
-fn reach(range: impl Indices) -> (u32, u32) {
+/// What of a range there may be, or a range that C refuses where it is backwards.
+fn reach(range: impl Indices) -> (u64, u64) {
     let (lo, hi) = range.ends();
-    let (lo, hi) = (lo.unwrap_or(0), hi.unwrap_or(i128::from(u32::MAX)));
+    let (lo, hi) = (lo.unwrap_or(0), hi.unwrap_or(u64::MAX.into()));
     if lo > hi {
         return (1, 0);
     }
-    let within = |index: i128| index.clamp(0, i128::from(u32::MAX)) as u32;
+    let within = |index: i128| index.clamp(0, u64::MAX.into()) as u64;
     (within(lo), within(hi))
 }

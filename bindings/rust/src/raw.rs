@@ -25,7 +25,8 @@ use std::ptr;
 
 pub(crate) use board::{Board, Seat};
 pub(crate) use jobs::{Job, Outcome};
-pub(crate) use queries::{MOST_QUERIES, NAME_BYTES, Note, Queries};
+pub use queries::Target;
+pub(crate) use queries::{MOST_QUERIES, NAME_BYTES, Note, Queries, Query};
 pub(crate) use questions::{Ends, Found, Sought};
 pub(crate) use summary::{Opened, SummaryBytes, extended, joined, opened, summary_of_nothing, summary_of_nothing_with_table};
 pub(crate) use vector::Vector;

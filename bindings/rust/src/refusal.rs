@@ -98,7 +98,7 @@ pub enum Refusal {
     OtherTable,
     /// 112: summaries of more than 2^62 elements together, or a text of more than 2^30 bytes.
     TooLong,
-    /// 113: a vector of one kind was asked by another, or by all six.
+    /// 113: a vector of one kind was asked by another, or by all six; or what has no times was asked a query of the last so much time.
     BadKind,
     /// 114: what is no name of a query: 1 to 16 bytes of `a-z`, `0-9` and `_`.
     BadName,

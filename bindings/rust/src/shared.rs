@@ -7,8 +7,8 @@ use std::sync::atomic::Ordering;
 use crate::shared_lock::Lock;
 use crate::shared_subscriber::Subscriber;
 use crate::{
-    Answered, AsIndex, BestRun, Column, Filled, Indices, Kind, Note, Placed, Popped, Pushed, Queries, Reduced, Refusal, RefusedAt,
-    Reserved, Scan, Summary, Swapped, Truncated, Value, Vector, Written, shared_workers,
+    Answered, AsIndex, BestRun, Column, Filled, Indices, Kind, Placed, Popped, Pushed, Queries, Reduced, Refusal, RefusedAt,
+    Reserved, Scan, Summary, Swapped, Truncated, Value, Vector, Written, raw, shared_workers,
 };
 
 /// A [`Vector`] that threads share, or a [`Series`](crate::Series), or [`Samples`](crate::Samples): each clone is a handle of the same one.
@@ -65,16 +65,20 @@ pub(crate) const CLOSED: Refusal = Refusal::Other { number: 101 };
 
 /// What threads may share: [`Vector`], [`Series`](crate::Series) and [`Samples`](crate::Samples). It can't be implemented elsewhere.
 pub trait Sharing: Send + Sized + sealed::Sealed {
-    /// What a subscriber asks: [`Queries`] of a vector, [`Watched`](crate::Watched) of a series and samples.
-    type Asked: Send;
+    /// What a standing query is answered, with an edit's number.
+    type Answered;
 
     /// The number of the last edit.
     #[doc(hidden)]
     fn number(&self) -> u64;
 
-    /// A note of each answer that is another than was told last. It counts as told then.
+    /// What is asked.
     #[doc(hidden)]
-    fn notes(&mut self, asked: &mut Self::Asked) -> Result<Vec<Note>, Refusal>;
+    fn target(&self) -> raw::Target<'_>;
+
+    /// An answer after an edit.
+    #[doc(hidden)]
+    fn answered(edit: u64, value: Value) -> Self::Answered;
 
     /// One of its own.
     #[doc(hidden)]
@@ -230,9 +234,9 @@ impl<T: Sharing> Shared<T> {
         self.lock.read(|of, _| of.copied())?
     }
 
-    /// One more that is told which of these answers change: those of [`Queries`] by a vector, or of [`Watched`](crate::Watched) by a series or samples.
-    /// Before its first look each counts as told its answer of no elements. Refused with `CLOSED`, then with `NoMemory`.
-    pub fn subscribe(&self, asked: T::Asked) -> Result<Subscriber<T>, Refusal> {
+    /// One more that is told which answers of these queries change. Before its first look each counts as told what [`Queries`] says. Refused with
+    /// `CLOSED`, then with `NoMemory`.
+    pub fn subscribe(&self, asked: Queries) -> Result<Subscriber<T>, Refusal> {
         Subscriber::new(&self.lock, asked)
     }
 
@@ -278,14 +282,18 @@ impl<T: Sharing> fmt::Debug for Shared<T> {
 
 impl sealed::Sealed for Vector {}
 impl Sharing for Vector {
-    type Asked = Queries;
+    type Answered = Answered;
 
     fn number(&self) -> u64 {
         self.edits().into()
     }
 
-    fn notes(&mut self, asked: &mut Queries) -> Result<Vec<Note>, Refusal> {
-        asked.notes(self)
+    fn target(&self) -> raw::Target<'_> {
+        raw::Target::of_vector(&self.raw)
+    }
+
+    fn answered(edit: u64, value: Value) -> Answered {
+        Answered { edit: edit as u32, value }
     }
 
     fn copied(&self) -> Result<Vector, Refusal> {

@@ -7,7 +7,7 @@ use std::time::Duration;
 
 use crate::shared::CLOSED;
 use crate::shared_sweep::Sweep;
-use crate::{Note, Refusal, Sharing};
+use crate::{Note, Queries, Refusal, Sharing};
 
 /// What each call at what is shared goes through. Nothing is computed while it is held, but in `with`, in a subscriber's look, and by the 256
 /// the summaries above blocks and subtrees that workers went over.
@@ -43,7 +43,7 @@ pub(crate) struct Guarded<T: Sharing> {
     /// Whether a subscriber may sleep.
     pub(crate) unaware: bool,
     pub(crate) workers: Vec<Worker>,
-    pub(crate) seats: Vec<Seat<T>>,
+    pub(crate) seats: Vec<Seat>,
 }
 
 /// A thread that computes summaries, until it is told to stop.
@@ -53,10 +53,10 @@ pub(crate) struct Worker {
 }
 
 /// What a subscriber has here.
-pub(crate) struct Seat<T: Sharing> {
+pub(crate) struct Seat {
     /// Goes with the subscriber.
     pub(crate) whose: Weak<()>,
-    pub(crate) asked: T::Asked,
+    pub(crate) asked: Queries,
     /// The changes that there were when it looked last; others before its first look.
     pub(crate) seen: u64,
     /// Notes of the end, that it wasn't given yet.
@@ -65,13 +65,13 @@ pub(crate) struct Seat<T: Sharing> {
     pub(crate) edit: u64,
 }
 
-impl<T: Sharing> Seat<T> {
+impl Seat {
     /// The notes that there are now.
-    pub(crate) fn notes(&mut self, of: &mut T, base: u64, changes: u64) -> Result<Vec<Note>, Refusal> {
+    pub(crate) fn notes<T: Sharing>(&mut self, of: &mut T, base: u64, changes: u64) -> Result<Vec<Note>, Refusal> {
         if self.seen == changes {
             return Ok(Vec::new());
         }
-        let mut notes = of.notes(&mut self.asked)?;
+        let mut notes = self.asked.notes(of)?;
         self.seen = changes;
         if !notes.is_empty() {
             self.edit = base + of.number();

@@ -4,132 +4,22 @@ use std::ops::Range;
 
 use crate::series::{Answered, BestRun, Dropped, Placed, Popped, Pushed, Reduced, Swapped, Written};
 use crate::shared::{Sharing, forwarded, questions, sealed};
-use crate::{AsIndex, Indices, Kind, Note, Refusal, RefusedAt, Sample, Samples, Series, Shared, Value, Values, raw};
-
-/// What a subscriber watches at a series or at samples: what a kind says of the elements of a range, and of them of those that are kept. What is watched
-/// together is a `Vec`, in the order in which it is told.
-///
-/// ```
-/// use livevec::{Kind, Series, Shared, Value, Watched};
-///
-/// # fn main() -> Result<(), livevec::Refusal> {
-/// let shared = Shared::new(Series::try_from([20, 22])?);
-/// let mut alerts = shared.subscribe(vec![Watched::new("total", Kind::Sum, ..)?, Watched::new("dip", Kind::Least, 1..9)?])?;
-/// shared.push(19)?;
-/// let notes = alerts.look()?;
-/// assert_eq!((notes[0].name(), notes[0].value, alerts.edit()), ("total", Value::Sum(61), 3));
-/// assert_eq!((notes[1].name(), notes[1].value), ("dip", Value::Least(Some(19))));
-/// # Ok(())
-/// # }
-/// ```
-#[derive(Clone, Copy, Debug)]
-pub struct Watched {
-    name: [u8; raw::NAME_BYTES + 1],
-    kind: Kind,
-    lo: u64,
-    hi: u64,
-    bound: Option<Bound>,
-    told: Value,
-}
-
-/// By which crossing an answer is told.
-#[derive(Clone, Copy, Debug)]
-enum Bound {
-    AtLeast(i64),
-    AtMost(i64),
-}
-
-impl Watched {
-    /// Under a name of at most 16 bytes; an end of the range that is left out is that of what is kept. It counts as told its answer of no elements.
-    /// Refused with `BadName`, then with `BadRange`.
-    pub fn new(name: &str, kind: Kind, range: impl Indices) -> Result<Watched, Refusal> {
-        let (lo, hi) = range.ends();
-        let (lo, hi) = (lo.unwrap_or(0), hi.unwrap_or(u64::MAX.into()));
-        let within = |index: i128| index.clamp(0, u64::MAX.into()) as u64;
-        let mut padded = [0; raw::NAME_BYTES + 1];
-        padded[..raw::NAME_BYTES].get_mut(..name.len()).ok_or(Refusal::BadName)?.copy_from_slice(name.as_bytes());
-        if lo > hi {
-            return Err(Refusal::BadRange);
-        }
-        Ok(Watched { name: padded, kind, lo: within(lo), hi: within(hi), bound: None, told: Value::of_none(kind) })
-    }
-
-    /// The same, told only when the answer begins or ceases to be at least `bound`. The least of no elements, a map and states never are.
-    ///
-    /// ```
-    /// use livevec::{Kind, Samples, Shared, Value, Watched};
-    ///
-    /// # fn main() -> Result<(), livevec::Refusal> {
-    /// let load = Shared::new(Samples::new()?);
-    /// let mut hot = load.subscribe(vec![Watched::new("hot", Kind::Greatest, ..)?.at_least(90)])?;
-    /// let mut told = Vec::new();
-    /// for (time, value) in [(0, 40), (30, 95), (60, 99), (119, 70), (121, 60)] {
-    ///     load.push(time, value)?;
-    ///     load.expire_before(time - 60)?;
-    ///     told.extend(hot.look()?.iter().map(|note| (time, note.value)));
-    /// }
-    /// assert_eq!(told, [(30, Value::Greatest(Some(95))), (121, Value::Greatest(Some(70)))]);
-    /// # Ok(())
-    /// # }
-    /// ```
-    pub fn at_least(self, bound: i64) -> Watched {
-        Watched { bound: Some(Bound::AtLeast(bound)), ..self }
-    }
-
-    /// The same, told only when the answer begins or ceases to be at most `bound`.
-    pub fn at_most(self, bound: i64) -> Watched {
-        Watched { bound: Some(Bound::AtMost(bound)), ..self }
-    }
-
-    /// Whether another answer is to be told.
-    fn is_due(&self, now: Value) -> bool {
-        match self.bound {
-            None => self.told != now,
-            Some(bound) => bound.holds(self.told) != bound.holds(now),
-        }
-    }
-}
-
-impl Bound {
-    /// Whether an answer is within it: none is not.
-    fn holds(self, answer: Value) -> bool {
-        let number = match answer {
-            Value::Sum(sum) => Some(sum.into()),
-            Value::Least(some) | Value::Greatest(some) => some.map(i128::from),
-            Value::Best(some) => some,
-            Value::Affine(..) | Value::Automaton(_) => None,
-        };
-        number.is_some_and(|number| match self {
-            Bound::AtLeast(bound) => number >= bound.into(),
-            Bound::AtMost(bound) => number <= bound.into(),
-        })
-    }
-}
-
-/// A note of each that is another by a series than was told last.
-fn notes(series: &Series, asked: &mut [Watched]) -> Result<Vec<Note>, Refusal> {
-    let (mut now, mut notes) = (raw::roomy(asked.len())?, raw::roomy(asked.len())?);
-    let (first, size) = (series.first(), series.size());
-    for it in asked.iter() {
-        now.push(series.value(it.kind, it.lo.clamp(first, size)..it.hi.clamp(first, size))?);
-    }
-    for (it, value) in asked.iter_mut().zip(now).filter(|(it, value)| it.is_due(*value)) {
-        it.told = value;
-        notes.push(Note::of(it.name, it.kind, value));
-    }
-    Ok(notes)
-}
+use crate::{AsIndex, Indices, Kind, Refusal, RefusedAt, Sample, Samples, Series, Shared, Value, Values, raw};
 
 impl sealed::Sealed for Series {}
 impl Sharing for Series {
-    type Asked = Vec<Watched>;
+    type Answered = Answered;
 
     fn number(&self) -> u64 {
         self.edits()
     }
 
-    fn notes(&mut self, asked: &mut Vec<Watched>) -> Result<Vec<Note>, Refusal> {
-        notes(self, asked)
+    fn target(&self) -> raw::Target<'_> {
+        raw::Target::of_series(&self.raw)
+    }
+
+    fn answered(edit: u64, value: Value) -> Answered {
+        Answered { edit, value }
     }
 
     fn copied(&self) -> Result<Series, Refusal> {
@@ -139,14 +29,18 @@ impl Sharing for Series {
 
 impl sealed::Sealed for Samples {}
 impl Sharing for Samples {
-    type Asked = Vec<Watched>;
+    type Answered = Answered;
 
     fn number(&self) -> u64 {
         self.values().edits()
     }
 
-    fn notes(&mut self, asked: &mut Vec<Watched>) -> Result<Vec<Note>, Refusal> {
-        notes(self.values(), asked)
+    fn target(&self) -> raw::Target<'_> {
+        raw::Target::of_series(&self.values().raw)
+    }
+
+    fn answered(edit: u64, value: Value) -> Answered {
+        Answered { edit, value }
     }
 
     fn copied(&self) -> Result<Samples, Refusal> {

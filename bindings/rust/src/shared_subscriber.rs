@@ -5,7 +5,7 @@ use std::sync::{Arc, PoisonError};
 use std::time::{Duration, Instant};
 
 use crate::shared_lock::{Guarded, Lock, Seat};
-use crate::{Note, Refusal, Sharing, Vector};
+use crate::{Note, Queries, Refusal, Sharing, Vector};
 
 /// One who is told by a [`Shared`](crate::Shared) form which of its answers have changed; made by
 /// [`Shared::subscribe`](crate::Shared::subscribe).
@@ -14,7 +14,7 @@ use crate::{Note, Refusal, Sharing, Vector};
 /// in which the queries were named. All notes of one list are at one edit, and these rise. What comes and goes between two looks is not told.
 /// Once it is closed it gives the notes at the last edit, if there are any, and then ends.
 ///
-/// It gives `Err(BadKind)` where the vector is of one kind and another is among the queries, and `Err(NoMemory)` where memory was wanted: nothing
+/// It gives `Err(BadKind)` where one of the queries may not be asked, and `Err(NoMemory)` where memory was wanted: nothing
 /// counts as told then, and it may be asked again. At the close memory is asked for once. It gives `Err(Busy)` within a
 /// [`with`](crate::Shared::with) of its own thread.
 ///
@@ -37,7 +37,7 @@ impl Subscriber {
 }
 
 impl<T: Sharing> Subscriber<T> {
-    pub(crate) fn new(lock: &Arc<Lock<T>>, asked: T::Asked) -> Result<Subscriber<T>, Refusal> {
+    pub(crate) fn new(lock: &Arc<Lock<T>>, asked: Queries) -> Result<Subscriber<T>, Refusal> {
         let me = Arc::new(());
         let mut guarded = lock.enter()?;
         guarded.open()?;
@@ -104,7 +104,7 @@ impl<T: Sharing> Subscriber<T> {
     }
 }
 
-fn is_of<T: Sharing>(seat: &Seat<T>, me: &Arc<()>) -> bool {
+fn is_of(seat: &Seat, me: &Arc<()>) -> bool {
     seat.whose.as_ptr() == Arc::as_ptr(me)
 }
 

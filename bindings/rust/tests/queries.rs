@@ -2,7 +2,7 @@
 
 mod plain;
 
-use livevec::{Kind, Limits, Note, Queries, Refusal, Value, Vector};
+use livevec::{Kind, Limits, Note, Queries, Query as Asked, Refusal, Samples, Series, Value, Vector};
 use plain::{numbers, plain};
 
 struct Query {
@@ -108,4 +108,32 @@ fn what_is_refused_changes_nothing() {
     assert_eq!(sent.join().unwrap(), 0);
     assert_eq!(Refusal::NoSuchName.number(), 11);
     assert_eq!(Refusal::BadName.to_string(), "what is no name of a query");
+}
+
+/// Spans, bounds and windows of time, worked by hand.
+#[test]
+fn spans_and_bounds() {
+    let (mut feed, mut set) = (Series::new().unwrap(), Queries::new().unwrap());
+    set.watch_query("two", Asked::by(Kind::Sum).last(2)).unwrap();
+    set.watch_query("high", Asked::by(Kind::Greatest).last(3).at_least(10)).unwrap();
+    set.watch_query("low", Asked::by(Kind::Least).at_most(-1)).unwrap();
+    let mut after = |value, set: &mut Queries| {
+        feed.push(value).unwrap();
+        set.notes(&mut feed).unwrap().iter().map(|note| (note.name().to_owned(), note.value)).collect::<Vec<_>>()
+    };
+    let one = |name: &str, value| (name.to_owned(), value);
+    assert_eq!(after(4, &mut set), [one("two", Value::Sum(4))]);
+    assert_eq!(after(10, &mut set), [one("two", Value::Sum(14)), one("high", Value::Greatest(Some(10)))]);
+    assert_eq!(after(4, &mut set), []);
+    assert_eq!(after(-1, &mut set), [one("two", Value::Sum(3)), one("low", Value::Least(Some(-1)))]);
+    assert_eq!(set.answer(&feed, "high").map(|told| (told.edit, told.value)), Ok((4, Value::Greatest(Some(10)))));
+
+    let (mut load, mut windows) = (Samples::new().unwrap(), Queries::new().unwrap());
+    windows.watch_query("ten", Asked::by(Kind::Sum).within(10)).unwrap();
+    load.push_many(&[0, 5, 9], &[7, 1, 2]).unwrap();
+    assert_eq!(windows.notes(&mut load).unwrap()[0].value, Value::Sum(10));
+    load.push(15, 3).unwrap();
+    assert_eq!(windows.answer(&load, "ten").unwrap().value, Value::Sum(5));
+    assert_eq!(windows.notes(&mut feed), Err(Refusal::BadKind));
+    assert_eq!(windows.answer(&Vector::new().unwrap(), "ten").err(), Some(Refusal::BadKind));
 }

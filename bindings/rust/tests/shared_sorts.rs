@@ -1,13 +1,11 @@
 //! A series and samples that threads share, and a shared vector that goes on as its copy. Values are worked out by hand.
 
-mod plain;
-
+use std::sync::mpsc;
 use std::thread;
 use std::time::Duration;
 
 use livevec::series::{Dropped, Popped, Pushed, Swapped, Written};
-use livevec::{Kind, Limits, Note, Queries, Refusal, RefusedAt, Sample, Samples, Series, Shared, Subscriber, Value, Vector, Watched, by};
-use plain::until;
+use livevec::{Kind, Limits, Note, Queries, Query, Refusal, RefusedAt, Sample, Samples, Series, Shared, Subscriber, Value, Vector, by};
 
 type Told = Vec<(String, u32, Value)>;
 
@@ -19,14 +17,20 @@ fn one(name: &str, edit: u32, value: Value) -> (String, u32, Value) {
     (name.to_owned(), edit, value)
 }
 
-fn all(kind: Kind) -> Vec<Watched> {
-    vec![Watched::new("all", kind, ..).unwrap()]
+fn asked<const N: usize>(named: [(&str, Query); N]) -> Queries {
+    let mut queries = Queries::new().unwrap();
+    named.iter().for_each(|&(name, query)| queries.watch_query(name, query).unwrap());
+    queries
+}
+
+fn all(kind: Kind) -> Queries {
+    asked([("all", Query::by(kind))])
 }
 
 #[test]
 fn each_call_of_a_series() {
     let shared = Shared::new(Series::try_from([4, 5]).unwrap());
-    let two = vec![Watched::new("all", Kind::Sum, ..).unwrap(), Watched::new("front", Kind::Least, ..2).unwrap()];
+    let two = asked([("all", Query::by(Kind::Sum)), ("front", Query::by(Kind::Least).between(..2))]);
     let (mut alerts, mut late) = (shared.subscribe(two).unwrap(), shared.subscribe(all(Kind::Greatest)).unwrap());
     assert_eq!((shared.push(6), shared.len(), shared.get(2), shared.last_edit()), (Ok(Pushed { edit: 3, index: 2 }), Ok(3), Ok(6), Ok(3)));
     assert_eq!(told(alerts.next().unwrap()), [one("all", 3, Value::Sum(15)), one("front", 3, Value::Least(Some(4)))]);
@@ -53,16 +57,21 @@ fn each_call_of_a_series() {
     // another in its place is edit 13, and its push is 14
     assert_eq!((within, shared.last_edit(), shared.push(50)), (Ok(()), Ok(14), Ok(Pushed { edit: 15, index: 1 })));
     assert_eq!(told(alerts.look()), [one("all", 15, Value::Sum(59)), one("front", 15, Value::Least(Some(9)))]);
-    let sleeping = thread::spawn(move || (told(late.next().unwrap()), told(late.next().unwrap()), late.next().is_none(), late.edit()));
-    thread::sleep(Duration::from_millis(20));
-    until(|| Ok(15) == shared.last_edit());
+    let (tells, has_heard) = mpsc::channel();
+    let sleeping = thread::spawn(move || {
+        let first = told(late.next().unwrap());
+        tells.send(()).unwrap();
+        (first, told(late.next().unwrap()), late.next().is_none(), late.edit())
+    });
+    // however busy the machine is, it has heard of the first edit before the next
+    has_heard.recv().unwrap();
     shared.write(0, 90).unwrap();
     let clone = shared.clone();
     assert!(shared.close().is_none());
     let (first, last, is_over, edit) = sleeping.join().unwrap();
     assert_eq!((first, last), (vec![one("all", 15, Value::Greatest(Some(50)))], vec![one("all", 16, Value::Greatest(Some(90)))]));
     assert!(is_over && edit == 16);
-    assert_eq!((clone.push(1), clone.subscribe(Vec::new()).err()), (Err(Shared::CLOSED), Some(Shared::CLOSED)));
+    assert_eq!((clone.push(1), clone.subscribe(Queries::new().unwrap()).err()), (Err(Shared::CLOSED), Some(Shared::CLOSED)));
     assert_eq!(clone.extend_from_slice(&[1]), Err(RefusedAt { place: 0, done: 0, refusal: Shared::CLOSED }));
     assert_eq!(clone.close().unwrap().to_vec(..).unwrap(), [90, 50]);
 }
@@ -139,10 +148,8 @@ fn each_form_answers_as_alone() {
 #[test]
 fn crossings_alone_are_told() {
     let shared = Shared::new(Series::new().unwrap());
-    let watched = |name, kind| Watched::new(name, kind, ..).unwrap();
-    let asked =
-        vec![watched("low", Kind::Least).at_most(0), watched("sum", Kind::Sum).at_least(10), watched("map", Kind::Affine).at_least(0)];
-    let mut alerts = shared.subscribe(asked).unwrap();
+    let (low, sum) = (Query::by(Kind::Least).at_most(0), Query::by(Kind::Sum).at_least(10));
+    let mut alerts = shared.subscribe(asked([("low", low), ("sum", sum), ("map", Query::by(Kind::Affine).at_least(0))])).unwrap();
     // of no elements there is no least, and the sum is 0
     let mut after = |value| {
         shared.push(value).unwrap();
@@ -160,11 +167,14 @@ fn crossings_alone_are_told() {
 
 #[test]
 fn what_can_not_be_watched() {
-    assert_eq!(Watched::new("seventeen letters", Kind::Sum, ..).err(), Some(Refusal::BadName));
-    assert_eq!(Watched::new("back", Kind::Sum, 2..1).err(), Some(Refusal::BadRange));
+    let mut queries = Queries::new().unwrap();
+    assert_eq!(queries.watch("seventeen letters", Kind::Sum, ..).err(), Some(Refusal::BadName));
+    assert_eq!(queries.watch("back", Kind::Sum, 2..1).err(), Some(Refusal::BadRange));
     // of no elements there is no news, by any kind
     let shared = Shared::new(Series::new().unwrap());
-    let mut nothing = shared.subscribe(Kind::ALL.map(|kind| Watched::new("none", kind, 5..).unwrap()).to_vec()).unwrap();
+    let names = ["a", "b", "c", "d", "e", "f"];
+    Kind::ALL.iter().zip(names).for_each(|(&kind, name)| queries.watch(name, kind, 5..).unwrap());
+    let mut nothing = shared.subscribe(queries).unwrap();
     shared.push(1).unwrap();
     assert_eq!((nothing.look(), nothing.edit()), (Ok(Vec::new()), 0));
 }

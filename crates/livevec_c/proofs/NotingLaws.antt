@@ -1,28 +1,27 @@
 -- The answers and the notes of questions, one after another.
-use Rattle.std.proofs.Common.{◌≡◌, ◌<◌, ◌≤◌, ◌+◌, ℕ, List, [], ◌∷◌, ◌++◌, append_assoc, length, length-append, map, take, take_all, drop, get_or, refl, ap, sym, subst, ◌∙◌, inl, inr, arith, true, true≢false}
+use Rattle.std.proofs.Common.{◌≡◌, ◌<◌, ◌≤◌, ◌+◌, ℕ, List, [], ◌∷◌, ◌++◌, append_assoc, length, length-append, take, take_all, drop, get_or, refl, ap, sym, subst, ◌∙◌, inl, inr, arith, true, true≢false}
 use Rattle.std.proofs.lemmas.List.{length-take-le, take_more}
 use Rattle.std.proofs.lemmas.Slice.{drop-append-drop}
 use Rattle.std.proofs.Math.Seq.{take-append_seam}
 use Rattle.lv_bodies.specs.declared.kinds.Shown.{Shown}
-use Rattle.lv_edits.specs.History.{list_of}
+use Rattle.lv_series.specs.Samples.{SamplesState}
 use Rattle.livevec_c.specs.declared.queries_notes.Note.{Note}
 use Rattle.livevec_c.specs.declared.queries_notes.Noted.{Noted}
-use Rattle.lv_standing.specs.declared.queries.Query.{Query}
+use Rattle.livevec_c.specs.declared.set_queries.SetQuery.{SetQuery}
 use Rattle.lv_standing.specs.Queries.{is_due}
-use Rattle.livevec_c.specs.Behind.{State}
-use Rattle.livevec_c.specs.Queried.{AreNotesOf, NotesInto, NotesOne, PutsNote, Tells, answer_by, note_of}
+use Rattle.livevec_c.specs.Queried.{AreNotesOf, NotesInto, NotesOne, PutsNote, Tells, answers_of, note_of}
 use Rattle.livevec_c.specs.Queries.{QueriesState}
 
 -- a list up to an index, and what stands there
 next_of : {A : Type 0} (xs : List A) (i : ℕ) (x : A) → x ≡ get_or xs i x → i < length xs → take (i + 1) xs ≡ take i xs ++ x ∷ []
 next_of xs i x is inside = take_more xs i x inside ∙ ap (λ y. take i xs ++ y ∷ []) (sym is)
 
-module _ (edit size : ℕ) where
+module _ (s : SamplesState) where
   -- the notes of some questions and those of one more are the notes of all
-  notes_more : (questions : List Query) (told values : List Shown) (notes : List Note) (q : Query) (before value : Shown) (more : List Note) → length told ≡ length questions → length values ≡ length questions
-      → AreNotesOf edit size questions told values notes → AreNotesOf edit size (q ∷ []) (before ∷ []) (value ∷ []) more → AreNotesOf edit size (questions ++ q ∷ []) (told ++ before ∷ []) (values ++ value ∷ []) (notes ++ more)
+  notes_more : (questions : List SetQuery) (told values : List Shown) (notes : List Note) (q : SetQuery) (before value : Shown) (more : List Note) → length told ≡ length questions → length values ≡ length questions
+      → AreNotesOf s questions told values notes → AreNotesOf s (q ∷ []) (before ∷ []) (value ∷ []) more → AreNotesOf s (questions ++ q ∷ []) (told ++ before ∷ []) (values ++ value ∷ []) (notes ++ more)
   notes_more [] [] [] notes q before value more as_told as_values none one =
-      subst (λ ns. AreNotesOf edit size (q ∷ []) (before ∷ []) (value ∷ []) (ns ++ more)) (sym none) one
+      subst (λ ns. AreNotesOf s (q ∷ []) (before ∷ []) (value ∷ []) (ns ++ more)) (sym none) one
   notes_more [] [] (v ∷ values) notes q before value more as_told as_values none one = absurd (omega (arith, as_values))
   notes_more [] (b ∷ told) values notes q before value more as_told as_values none one = absurd (omega (arith, as_told))
   notes_more (p ∷ questions) [] values notes q before value more as_told as_values none one = absurd (omega (arith, as_told))
@@ -33,7 +32,7 @@ module _ (edit size : ℕ) where
       inr (note.0, note.1 ++ more, ap (λ ns. ns ++ more) note.2, notes_more questions told values note.1 q before value more (omega (arith, as_told)) (omega (arith, as_values)) note.3 one)
 
   -- the notes of some values are one list
-  pub notes_alone : (questions : List Query) (told values : List Shown) (notes others : List Note) → AreNotesOf edit size questions told values notes → AreNotesOf edit size questions told values others → notes ≡ others
+  pub notes_alone : (questions : List SetQuery) (told values : List Shown) (notes others : List Note) → AreNotesOf s questions told values notes → AreNotesOf s questions told values others → notes ≡ others
   notes_alone [] told values notes others a b = a ∙ sym b
   notes_alone (q ∷ questions) [] values notes others a b = a ∙ sym b
   notes_alone (q ∷ questions) (before ∷ told) [] notes others a b = a ∙ sym b
@@ -41,10 +40,10 @@ module _ (edit size : ℕ) where
   notes_alone (q ∷ questions) (before ∷ told) (value ∷ values) notes others (inl a) (inr b) = absurd (true≢false (sym b.0 ∙ a.0))
   notes_alone (q ∷ questions) (before ∷ told) (value ∷ values) notes others (inr a) (inl b) = absurd (true≢false (sym a.0 ∙ b.0))
   notes_alone (q ∷ questions) (before ∷ told) (value ∷ values) notes others (inr a) (inr b) =
-      a.2 ∙ ap (λ ns. note_of edit size q value ∷ ns) (notes_alone questions told values a.1 b.1 a.3 b.3) ∙ sym b.2
+      a.2 ∙ ap (λ ns. note_of s q value ∷ ns) (notes_alone questions told values a.1 b.1 a.3 b.3) ∙ sym b.2
 
   -- a note was put behind so many others
-  pub noted_one : (q : Query) (told value : Shown) (count : ℕ) (before after : List Note) (note : Note) → is_due q.bound told value ≡ true → note ≡ note_of edit size q value → PutsNote note count before after → NotesOne edit size q told value count before (count + 1) after
+  pub noted_one : (q : SetQuery) (told value : Shown) (count : ℕ) (before after : List Note) (note : Note) → is_due q.query.bound told value ≡ true → note ≡ note_of s q value → PutsNote note count before after → NotesOne s q told value count before (count + 1) after
   noted_one q told value count before after note other is puts = record {
     added = note ∷ [];
     are = inr (other, [], ap (λ n. n ∷ []) is, refl);
@@ -55,9 +54,9 @@ module _ (edit size : ℕ) where
   }
 
   -- the questions up to an index were noted, and then what stands there
-  pub next_noted : (q : Query) (before value : Shown) (questions : List Query) (told values : List Shown) (old : List Note) (count counted : ℕ) (places next : List Note) (i : ℕ) → NotesOne edit size q before value count places counted next
+  pub next_noted : (q : SetQuery) (before value : Shown) (questions : List SetQuery) (told values : List Shown) (old : List Note) (count counted : ℕ) (places next : List Note) (i : ℕ) → NotesOne s q before value count places counted next
       → length told ≡ length questions → length values ≡ length questions → i < length questions → q ≡ get_or questions i q → before ≡ get_or told i before → value ≡ get_or values i value
-      → NotesInto edit size (take i questions) (take i told) (take i values) old count places → NotesInto edit size (take (i + 1) questions) (take (i + 1) told) (take (i + 1) values) old counted next
+      → NotesInto s (take i questions) (take i told) (take i values) old count places → NotesInto s (take (i + 1) questions) (take (i + 1) told) (take (i + 1) values) old counted next
   next_noted q before value questions told values old count counted places next i one as_told as_values inside q_is before_is value_is so_far =
       let many_told : length (take i told) ≡ length (take i questions) = length-take-le i told (omega arith) ∙ sym (length-take-le i questions (omega arith)) in
       let many_values : length (take i values) ≡ length (take i questions) = length-take-le i values (omega arith) ∙ sym (length-take-le i questions (omega arith)) in
@@ -84,39 +83,38 @@ module _ (edit size : ℕ) where
       }
 
   -- none were noted yet
-  pub none_noted : (questions : List Query) (told values : List Shown) (old : List Note) → NotesInto edit size (take 0 questions) (take 0 told) (take 0 values) old 0 old
+  pub none_noted : (questions : List SetQuery) (told values : List Shown) (old : List Note) → NotesInto s (take 0 questions) (take 0 told) (take 0 values) old 0 old
   none_noted questions told values old = record { notes = []; are = refl; count_is = refl; few = omega arith; places = refl; written = λ room. refl }
 
   -- all were noted
-  pub all_noted : (questions : List Query) (told values : List Shown) (old : List Note) (count : ℕ) (places : List Note) (i : ℕ) → length questions ≤ i → length told ≡ length questions → length values ≡ length questions
-      → NotesInto edit size (take i questions) (take i told) (take i values) old count places → NotesInto edit size questions told values old count places
+  pub all_noted : (questions : List SetQuery) (told values : List Shown) (old : List Note) (count : ℕ) (places : List Note) (i : ℕ) → length questions ≤ i → length told ≡ length questions → length values ≡ length questions
+      → NotesInto s (take i questions) (take i told) (take i values) old count places → NotesInto s questions told values old count places
   all_noted questions told values old count places i end as_told as_values all =
       rw (take_all i questions (omega arith), take_all i told (omega arith), take_all i values (omega arith)) at all
 
 -- the notes of the same questions and values
-notes_as : (edit edits size elements : ℕ) (questions asked : List Query) (told before values now : List Shown) (notes : List Note) → edit ≡ edits → size ≡ elements → questions ≡ asked → told ≡ before → values ≡ now
-    → AreNotesOf edit size questions told values notes → AreNotesOf edits elements asked before now notes
-notes_as edit edits size elements questions asked told before values now notes edit_is size_is questions_are told_are values_are are =
-    subst (λ e. AreNotesOf e elements asked before now notes) edit_is
-    (subst (λ s. AreNotesOf edit s asked before now notes) size_is
-    (subst (λ vs. AreNotesOf edit size asked before vs notes) values_are
-    (subst (λ bs. AreNotesOf edit size asked bs values notes) told_are (subst (λ qs. AreNotesOf edit size qs told values notes) questions_are are))))
+notes_as : (s : SamplesState) (questions asked : List SetQuery) (told before values now : List Shown) (notes : List Note) → questions ≡ asked → told ≡ before → values ≡ now
+    → AreNotesOf s questions told values notes → AreNotesOf s asked before now notes
+notes_as s questions asked told before values now notes questions_are told_are values_are are =
+    subst (λ vs. AreNotesOf s asked before vs notes) values_are
+    (subst (λ bs. AreNotesOf s asked bs values notes) told_are (subst (λ qs. AreNotesOf s qs told values notes) questions_are are))
 
-module _ (old : QueriesState) (state : State) (edit size : ℕ) (edit_is : edit ≡ length state.history.journal) (size_is : size ≡ length (list_of state.history.journal)) where
+module _ (old : QueriesState) (s : SamplesState) where
   -- what was counted fits, and was written
-  pub tells_all : (new : QueriesState) (questions : List Query) (told values : List Shown) (none after places written : List Note) (count counted number : ℕ) (answer : Noted)
-      → NotesInto edit size questions told values none count after → NotesInto edit size questions told values places counted written → questions ≡ old.questions → told ≡ old.told → values ≡ map (answer_by state) old.questions
-      → count ≤ length places → number ≡ count → answer ≡ record { refusal = 0; detail = 0; edit = edit; count = number } → new.questions ≡ old.questions → new.told ≡ map (answer_by state) old.questions
-      → Tells old new state places written answer
-  tells_all new questions told values none after places written count counted number answer first second questions_are told_are values_are room number_is answer_is same told_now =
-      let edits = length state.history.journal in
-      let alike : length first.notes ≡ length second.notes = ap length (notes_alone edit size questions told values first.notes second.notes first.are second.are) in
+  pub tells_all : (t : SamplesState) → t ≡ s → (new : QueriesState) (questions : List SetQuery) (told values : List Shown) (none after places written : List Note) (count counted edit number : ℕ) (answer : Noted)
+      → NotesInto t questions told values none count after → NotesInto t questions told values places counted written → questions ≡ old.questions → told ≡ old.told → values ≡ answers_of s old.questions
+      → count ≤ length places → edit ≡ t.series.edits → number ≡ count → answer ≡ record { refusal = 0; detail = 0; edit = edit; count = number } → new.questions ≡ old.questions → new.told ≡ answers_of s old.questions
+      → Tells old new s places written answer
+  tells_all t is new questions told values none after places written count counted edit number answer counts writes questions_are told_are values_are room edit_is number_is answer_is same told_now =
+      let first = subst (λ u. NotesInto u questions told values none count after) is counts in
+      let second = subst (λ u. NotesInto u questions told values places counted written) is writes in
+      let alike : length first.notes ≡ length second.notes = ap length (notes_alone s questions told values first.notes second.notes first.are second.are) in
       let fits : length second.notes ≤ length places = omega (arith, room, first.count_is, alike) in
       let many : number ≡ length second.notes = number_is ∙ first.count_is ∙ alike in (
         second.notes,
-        notes_as edit edits size (length (list_of state.history.journal)) questions old.questions told old.told values (map (answer_by state) old.questions) second.notes edit_is size_is questions_are told_are values_are second.are,
+        notes_as s questions old.questions told old.told values (answers_of s old.questions) second.notes questions_are told_are values_are second.are,
         inl (record {
-          answer_is = answer_is ∙ ap (λ e. record { refusal = 0; detail = 0; edit = e; count = number }) edit_is ∙ ap (λ n. record { refusal = 0; detail = 0; edit = edits; count = n }) many;
+          answer_is = answer_is ∙ ap (λ e. record { refusal = 0; detail = 0; edit = e; count = number }) (edit_is ∙ ap (λ (u : SamplesState). u.series.edits) is) ∙ ap (λ n. record { refusal = 0; detail = 0; edit = s.series.edits; count = n }) many;
           room = fits;
           written = second.written fits;
           questions = same;

@@ -39,6 +39,7 @@ pub mod SeriesWritten
 pub mod SpreadLaws
 pub mod Subtrees
 pub mod Summed
+pub mod Targets
 pub mod Transcribed
 pub mod Valued
 pub mod Wanted

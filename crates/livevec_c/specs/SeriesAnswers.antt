@@ -23,6 +23,10 @@ granted = record { refusal = 0; first = 0; size = 0 }
 abbrev pub unheld : Why
 unheld = record { refusal = 101; first = 0; size = 0 }
 
+-- that there is no query to ask for, by the number for why
+abbrev pub unnamed : ℕ → Why
+unnamed refusal = record { refusal = refusal; first = 0; size = 0 }
+
 -- why the library refused a call: of an index that isn't kept, with what is
 abbrev pub refused_by : LongRefusal → Why
 refused_by (OutOfRange first size) = record { refusal = 3; first = first; size = size }

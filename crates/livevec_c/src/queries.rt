@@ -4,13 +4,13 @@ ghost use Rattle.lv_edits.specs.Verdict.{IsRefusal};
 ghost use Rattle.livevec_c.specs.Queried.{ForgetsAt, Tells, TellsUnless, first_refused, found_at};
 ghost use Rattle.livevec_c.specs.Queries.{place_of, question_refusal, with_question};
 
-use crate::kind_vectors::KindVector;
-use crate::only::may_ask;
 use crate::queries_notes::{Note, Noted, not_noted, note_all};
 use crate::results::{BAD_KIND, SHORT_BUFFER};
+use crate::set_queries::SetQuery;
+use crate::targets::Target;
 use lv_bodies::{Kind, Name};
 use lv_geometry::Refusal;
-use lv_standing::{Query, QuerySet};
+use lv_standing::QuerySet;
 use std::alloc::Global;
 use std::marker::Model;
 
@@ -24,7 +24,7 @@ const NO_SUCH_NAME: u32 = 11;
 /// its answer of no elements. Contracts don't see what the questions were answered and not told.
 #[derive(Drop)]
 pub struct Queries {
-    set: QuerySet<Query>,
+    set: QuerySet<SetQuery>,
 }
 
 impl Model for Queries {
@@ -49,7 +49,7 @@ impl Queries {
     }
 
     /// Registers a question. Refused with `BadRange`, `NameTaken`, `TooMany`, then `NoMemory`, and nothing has changed then.
-    pub fn watch(&mut self, question: &Query) -> Result<(), Refusal>
+    pub fn watch(&mut self, question: &SetQuery) -> Result<(), Refusal>
         ensures ok { OnOk result ((question_refusal self.old.questions question.now ≡ None) × (self.new ≡ with_question self.old question.now)) }
         ensures err { IfErr result (λ refusal. IsRefusal (question_refusal self.old.questions question.now) refusal) }
         ensures unchanged { OnErr result (self.new ≡ self.old) }
@@ -71,7 +71,7 @@ impl Queries {
     }
 
     /// The question of a name.
-    pub fn find(&self, name: &Name) -> Result<Query, u32>
+    pub fn find(&self, name: &Name) -> Result<SetQuery, u32>
         ensures { result ≡ found_at (place_of self.now.questions name.now) self.now.questions }
     {
         match self.set.place(name) {
@@ -80,30 +80,36 @@ impl Queries {
         }
     }
 
-    // The first question that a vector, of one kind or of all six, may not be asked, if there is one.
-    fn first_refused(&self, only: Option<Kind>) -> Option<usize>
-        ensures place { result ≡ first_refused only self.now.questions }
+    /// Its questions, in the order in which they were named.
+    pub fn questions(&self) -> &[SetQuery]
+        ensures { result.now ≡ self.now.questions }
+    {
+        self.set.queries()
+    }
+
+    // The first question that may not be asked of what is of one kind, or of all six, and has times or not, if there is one.
+    fn first_refused(&self, only: Option<Kind>, timed: bool) -> Option<usize>
+        ensures place { result ≡ first_refused only timed self.now.questions }
         ensures few { IfSome result (λ place. place < 64) }
     {
         let mut questions = self.set.queries().iter();
-        questions.position(|q| !may_ask(only, Some(q.kind)))
+        questions.position(|q| !q.may_be_asked(only, timed))
     }
 
-    // Tells of each question, in order, whose answer by a vector is another than it was told, where there is room for all notes.
-    fn tell(&mut self, vector: &mut KindVector, notes: &mut [Note]) -> Noted
-        ensures told { Tells self.old self.new vector.old notes.old notes.new result }
-        ensures same { vector.new ≡ vector.old }
+    // Tells of each question, in order, of whose answer a note is due, where there is room for all notes.
+    fn tell<A: Target>(&mut self, asked: &mut A, notes: &mut [Note]) -> Noted
+        ensures told { Tells self.old self.new (A.seen asked.old) notes.old notes.new result }
+        ensures same { asked.new ≡ asked.old }
     {
-        self.set.ask(vector);
-        let size = vector.live().size();
-        let edit = vector.live().edit();
+        self.set.ask(asked);
         let (questions, told, answers) = (self.set.queries(), self.set.told(), self.set.answers());
-        let count = note_all(questions, told, answers, size, edit, &mut []);
+        let count = note_all(asked, questions, told, answers, &mut []);
         if notes.len() < count {
             return not_noted(SHORT_BUFFER, count as u32);
         }
-        note_all(questions, told, answers, size, edit, notes);
+        note_all(asked, questions, told, answers, notes);
         self.set.mark_told();
+        let edit = asked.edits();
         Noted {
             refusal: 0,
             detail: 0,
@@ -112,19 +118,20 @@ impl Queries {
         }
     }
 
-    /// The same where the vector, which is of one kind or of all six, may be asked all of them.
-    pub fn tell_asked(
+    /// The same where all of them may be asked of it: of what is of one kind, or of all six, and has times or not.
+    pub fn tell_asked<A: Target>(
         &mut self,
-        vector: &mut KindVector,
+        asked: &mut A,
         only: Option<Kind>,
+        timed: bool,
         notes: &mut [Note],
     ) -> Noted
-        ensures told { TellsUnless (first_refused only self.old.questions) self.old self.new vector.old notes.old notes.new result }
-        ensures same { vector.new ≡ vector.old }
+        ensures told { TellsUnless (first_refused only timed self.old.questions) self.old self.new (A.seen asked.old) notes.old notes.new result }
+        ensures same { asked.new ≡ asked.old }
     {
-        match self.first_refused(only) {
+        match self.first_refused(only, timed) {
             Some(place) => not_noted(BAD_KIND, place as u32),
-            None => self.tell(vector, notes),
+            None => self.tell(asked, notes),
         }
     }
 }

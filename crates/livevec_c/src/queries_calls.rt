@@ -1,15 +1,17 @@
 //! Sets of standing queries: how they begin, and how their questions come and go.
 ghost use Rattle.std.specs.Prelude.{◌≡◌, IfOk};
 ghost use Rattle.livevec_c.specs.Begun.{IsNewQueries};
-ghost use Rattle.livevec_c.specs.Queried.{Unwatches, UnwatchesBehind, UnwatchesObject, Watches, WatchesBehind, WatchesObject, question_in};
+ghost use Rattle.livevec_c.specs.Queried.{Unwatches, UnwatchesBehind, UnwatchesObject, Watches, WatchesBehind, WatchesObject, question_by, question_in};
 
 use crate::boards::kind_of;
 use crate::objects::Object;
 use crate::queries::Queries;
 use crate::results::{BAD_KIND, NO_HANDLE};
+use crate::set_queries::{SetQuery, bound_of, span_of};
 use crate::slots::{Slot, put, take};
-use lv_bodies::Name;
-use lv_standing::Query;
+use lv_bodies::{Kind, Name};
+use lv_script::{SampleQuery, SampleSpan};
+use lv_tree::Bound;
 use std::alloc::{AllocError, Global};
 
 /// The number for bytes that are no name.
@@ -22,21 +24,57 @@ pub fn new_queries(alloc: Global) -> Result<Box<Object>, AllocError>
     Ok(Box::new(alloc, Object::Queries(Queries::new(alloc)))?)
 }
 
-// The question that a caller asks for, or the number for why there is none.
-fn question_in(name: &[u8], kind: u32, lo: u32, hi: u32) -> Result<Query, u32>
-    ensures { result ≡ question_in name.now kind lo hi }
+// The question of a name by what numbers name, or the number for what they don't.
+fn question_by(
+    name: Name,
+    kind: Option<Kind>,
+    span: Option<SampleSpan>,
+    bound: Option<Option<Bound>>,
+) -> Result<SetQuery, u32>
+    ensures { result ≡ question_by name kind span bound }
 {
-    let Some(name) = Name::new(name) else {
-        return Err(BAD_NAME);
-    };
-    let Some(kind) = kind_of(kind) else {
+    let Some(kind) = kind else {
         return Err(BAD_KIND);
     };
-    Ok(Query::between(name, kind, lo, hi))
+    let Some(span) = span else {
+        return Err(BAD_KIND);
+    };
+    let Some(bound) = bound else {
+        return Err(BAD_KIND);
+    };
+    Ok(SetQuery {
+        query: SampleQuery {
+            name,
+            kind,
+            span,
+            bound,
+        },
+    })
+}
+
+// The question that a caller asks for, or the number for why there is none.
+fn question_in(
+    name: &[u8],
+    kind: u32,
+    span: u32,
+    lo: u64,
+    hi: u64,
+    bound: u32,
+    x: i64,
+) -> Result<SetQuery, u32>
+    ensures { result ≡ question_in name.now kind span lo hi bound x }
+{
+    let kind = kind_of(kind);
+    let span = span_of(span, lo, hi);
+    let bound = bound_of(bound, x);
+    match Name::new(name) {
+        None => Err(BAD_NAME),
+        Some(name) => question_by(name, kind, span, bound),
+    }
 }
 
 // Registers a question at an object.
-fn watch_object(object: &mut Object, question: &Query) -> u32
+fn watch_object(object: &mut Object, question: &SetQuery) -> u32
     ensures { WatchesObject question.now result object.old object.new }
 {
     match object {
@@ -49,7 +87,7 @@ fn watch_object(object: &mut Object, question: &Query) -> u32
 }
 
 // Registers a question at what lies behind a slot.
-fn watch_held(alloc: Global, slot: &mut Slot, question: &Query) -> u32
+fn watch_held(alloc: Global, slot: &mut Slot, question: &SetQuery) -> u32
     ensures { WatchesBehind question.now result slot.old.raw.inner slot.new.raw.inner }
 {
     match take(alloc, slot) {
@@ -62,19 +100,22 @@ fn watch_held(alloc: Global, slot: &mut Slot, question: &Query) -> u32
     }
 }
 
-/// Registers a question by a name: what a kind says of a range, which may reach past the end.
+/// Registers a question by a name: what a kind says of the elements in a span, which numbers name, and the bound by which it is told of.
 #[unsafe(no_mangle)]
 pub extern "C" fn livevec_proved_watch(
     alloc: Global,
     slot: &mut Slot,
     name: &[u8],
     kind: u32,
-    lo: u32,
-    hi: u32,
+    span: u32,
+    lo: u64,
+    hi: u64,
+    bound: u32,
+    x: i64,
 ) -> u32
-    ensures { Watches (question_in name.now kind lo hi) result slot.old.raw.inner slot.new.raw.inner }
+    ensures { Watches (question_in name.now kind span lo hi bound x) result slot.old.raw.inner slot.new.raw.inner }
 {
-    match question_in(name, kind, lo, hi) {
+    match question_in(name, kind, span, lo, hi, bound, x) {
         Err(number) => number,
         Ok(question) => watch_held(alloc, slot, &question),
     }

@@ -1,15 +1,17 @@
 //! Notes of standing queries, as C has them.
-ghost use Rattle.std.specs.Prelude.{◌≡◌, ◌≤◌, false, true, length, IfNone, IfSome};
+ghost use Rattle.std.specs.Prelude.{◌≡◌, ◌≤◌, ◌%◌, false, true, length, IfNone, IfSome};
 ghost use Rattle.lv_standing.specs.Queries.{is_due};
-ghost use Rattle.livevec_c.specs.Queried.{NotesInto, NotesOne, PutsNote, has_some, name_for, note_of, unnoted};
+ghost use Rattle.livevec_c.specs.Queried.{NotesInto, NotesOne, PutsNote, name_for, note_of, unnoted};
 
 use crate::only::number_of;
 use crate::said::shown_values;
+use crate::set_queries::SetQuery;
+use crate::targets::Target;
 use crate::values::PlainValues;
 use lv_bodies::{Name, Shown};
-use lv_standing::{Query, Question, Span};
+use lv_standing::Question;
 
-/// That the answer of a query is another than it was told: its name, a zero behind it, its kind, after which edit, and its answer.
+/// That a note of a query is due: its name, a zero behind it, its kind, after which edit, and its answer. Of the edit it has the low 32 bits.
 #[repr(C)]
 #[derive(Clone, Copy)]
 pub struct Note {
@@ -25,7 +27,7 @@ pub struct Note {
 pub struct Noted {
     pub refusal: u32,
     pub detail: u32,
-    pub edit: u32,
+    pub edit: u64,
     pub count: u32,
 }
 
@@ -41,16 +43,6 @@ pub fn not_noted(refusal: u32, detail: u32) -> Noted
     }
 }
 
-/// Whether a question's span has an element of a vector of this size.
-pub fn has_some(question: &Query, size: u32) -> bool
-    ensures { result ≡ has_some size question.now }
-{
-    match question.span {
-        Span::Between { lo, hi } => lo < hi.min(size.into()),
-        Span::Last(count) => 0 < count.min(size.into()),
-    }
-}
-
 // The bytes of a name for C, which end in a zero.
 fn name_for(name: &Name) -> [u8; 17]
     ensures { result ≡ name_for name.now }
@@ -61,15 +53,25 @@ fn name_for(name: &Name) -> [u8; 17]
     padded
 }
 
-// The note of a value, by a vector of this size after this edit.
-fn note_of(question: &Query, value: Shown, size: u32, edit: u32) -> Note
-    ensures { result ≡ note_of edit size question.now value }
+// The low 32 bits of an edit's number.
+fn low_bits(edit: u64) -> u32
+    ensures { result ≡ edit % 4294967296 }
 {
+    (edit % 4294967296) as u32
+}
+
+// The note of a value, by what was asked.
+fn note_of<A: Target>(asked: &A, question: &SetQuery, value: Shown) -> Note
+    ensures { result ≡ note_of (A.seen asked.now) question.now value }
+{
+    let name = name_for(&question.query.name);
+    let edit = low_bits(asked.edits());
+    let any = asked.has_some(question.query.span);
     Note {
-        name: name_for(&question.name),
-        kind: number_of(question.kind),
+        name,
+        kind: number_of(question.query.kind),
         edit,
-        values: shown_values(has_some(question, size), value),
+        values: shown_values(any, value),
     }
 }
 
@@ -83,32 +85,36 @@ fn put_note(notes: &mut [Note], place: usize, note: Note)
 }
 
 // The note of a question that was told a value before and has another now, if one is due.
-fn due_note(question: &Query, before: &Shown, value: &Shown, size: u32, edit: u32) -> Option<Note>
-    ensures due { IfSome result (λ note. is_due question.now.bound before.now value.now ≡ true) }
-    ensures note { IfSome result (λ note. note ≡ note_of edit size question.now value.now) }
-    ensures idle { IfNone result (is_due question.now.bound before.now value.now ≡ false) }
+fn due_note<A: Target>(
+    asked: &A,
+    question: &SetQuery,
+    before: &Shown,
+    value: &Shown,
+) -> Option<Note>
+    ensures due { IfSome result (λ note. is_due question.now.query.bound before.now value.now ≡ true) }
+    ensures note { IfSome result (λ note. note ≡ note_of (A.seen asked.now) question.now value.now) }
+    ensures idle { IfNone result (is_due question.now.query.bound before.now value.now ≡ false) }
 {
     if !question.is_due(before, value) {
         return None;
     }
-    Some(note_of(question, *value, size, edit))
+    Some(note_of(asked, question, *value))
 }
 
 // Notes a question if a note of its value is due, behind so many notes, and tells how many there are then. If there is no room for it, it
 // is counted only.
-fn note_one(
-    question: &Query,
+fn note_one<A: Target>(
+    asked: &A,
+    question: &SetQuery,
     before: &Shown,
     value: &Shown,
-    size: u32,
-    edit: u32,
     count: usize,
     notes: &mut [Note],
 ) -> usize
     requires { count ≤ 64 }
-    ensures { NotesOne edit size question.now before.now value.now count notes.old result notes.new }
+    ensures { NotesOne (A.seen asked.now) question.now before.now value.now count notes.old result notes.new }
 {
-    match due_note(question, before, value, size, edit) {
+    match due_note(asked, question, before, value) {
         None => count,
         Some(note) => {
             put_note(notes, count, note);
@@ -119,30 +125,21 @@ fn note_one(
 
 /// Notes each question of whose value a note is due, at the front of the notes' places, and tells how many these are. If there are more
 /// than places, what is in the places is nothing to rely on.
-pub fn note_all(
-    questions: &[Query],
+pub fn note_all<A: Target>(
+    asked: &A,
+    questions: &[SetQuery],
     told: &[Shown],
     values: &[Shown],
-    size: u32,
-    edit: u32,
     notes: &mut [Note],
 ) -> usize
     requires told { length told.now ≡ length questions.now }
     requires values { length values.now ≡ length questions.now }
     requires few { length questions.now ≤ 64 }
-    ensures { NotesInto edit size questions.now told.now values.now notes.old result notes.new }
+    ensures { NotesInto (A.seen asked.now) questions.now told.now values.now notes.old result notes.new }
 {
     let mut count = 0;
     for i in 0..questions.len() {
-        count = note_one(
-            &questions[i],
-            &told[i],
-            &values[i],
-            size,
-            edit,
-            count,
-            notes,
-        );
+        count = note_one(asked, &questions[i], &told[i], &values[i], count, notes);
     }
     count
 }

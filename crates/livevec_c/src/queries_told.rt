@@ -1,15 +1,16 @@
-//! What a vector answers a standing query.
-ghost use Rattle.std.specs.Prelude.{◌≡◌, Some};
-ghost use Rattle.livevec_c.specs.Only.{is_asked_by};
-ghost use Rattle.livevec_c.specs.Queried.{answer_by, answered_if};
+//! What a target answers a standing query.
+ghost use Rattle.std.specs.Prelude.{◌≡◌};
+ghost use Rattle.livevec_c.specs.Targets.{is_asked};
+ghost use Rattle.livevec_c.specs.Queried.{answered_if};
 
 use crate::kind_vectors::KindVector;
-use crate::only::may_ask;
-use crate::queries_notes::has_some;
-use crate::results::{BAD_KIND, Reduced, not_reduced};
 use crate::said::shown_values;
+use crate::series_kinds::no_kind;
+use crate::series_results::{SeriesReduced, not_reduced, not_refused};
+use crate::set_queries::SetQuery;
+use crate::targets::Target;
 use lv_bodies::{Kind, Shown};
-use lv_standing::{Askable, Asks, Query};
+use lv_standing::{Askable, Asks};
 
 impl Askable for KindVector {
     ghost use Rattle.lv_bodies.specs.Automata.{table_of};
@@ -35,30 +36,25 @@ impl Askable for KindVector {
     }
 }
 
-/// What a question is answered by a vector, which is of one kind or of all six.
-pub fn answer_asked(vector: &mut KindVector, only: Option<Kind>, question: &Query) -> Reduced
-    ensures answer { result ≡ answered_if (is_asked_by only (Some question.now.kind)) question.now vector.old }
-    ensures same { vector.new ≡ vector.old }
+/// What a question is answered by what is of one kind, or of all six, and has times or not.
+pub fn answer_asked<A: Target>(
+    asked: &mut A,
+    only: Option<Kind>,
+    timed: bool,
+    question: &SetQuery,
+) -> SeriesReduced
+    ensures answer { result ≡ answered_if (is_asked only timed question.now.query) question.now (A.seen asked.old) }
+    ensures same { asked.new ≡ asked.old }
 {
-    if !may_ask(only, Some(question.kind)) {
-        return not_reduced(BAD_KIND, 0);
+    if !question.may_be_asked(only, timed) {
+        return not_reduced(no_kind());
     }
-    let value = plain_answer(vector, question);
-    let live = vector.live();
-    Reduced {
-        refusal: 0,
-        detail: 0,
-        edit: live.edit(),
-        cells: 0,
-        summaries: 0,
-        values: shown_values(has_some(question, live.size()), value),
+    let value = question.answer_by(asked);
+    let edit = asked.edits();
+    let any = asked.has_some(question.query.span);
+    SeriesReduced {
+        why: not_refused(),
+        edit,
+        values: shown_values(any, value),
     }
-}
-
-// The plain value of what it asks.
-fn plain_answer(vector: &mut KindVector, question: &Query) -> Shown
-    ensures value { result ≡ answer_by vector.old question.now }
-    ensures same { vector.new ≡ vector.old }
-{
-    question.answer_by(vector)
 }

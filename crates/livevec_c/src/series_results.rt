@@ -1,6 +1,6 @@
 //! What the calls at a series answer, in the layouts of the header, and the words that make them.
 ghost use Rattle.std.specs.Prelude.{◌≡◌};
-ghost use Rattle.livevec_c.specs.SeriesAnswers.{granted, long_edited, long_element, refused_by, sample_edited, unedited_by, unelement, unheld, unreduced_by, unscanned_by};
+ghost use Rattle.livevec_c.specs.SeriesAnswers.{granted, long_edited, long_element, refused_by, sample_edited, unedited_by, unelement, unheld, unnamed, unreduced_by, unscanned_by};
 
 use crate::results::{EARLIER, NO_HANDLE};
 use crate::values::{PlainValues, no_values};
@@ -79,6 +79,17 @@ pub fn not_held() -> Refused
 {
     Refused {
         refusal: NO_HANDLE,
+        first: 0,
+        size: 0,
+    }
+}
+
+/// Of a call that asks for a query that isn't there, by the number for why.
+pub fn unnamed(refusal: u32) -> Refused
+    ensures { result ≡ unnamed refusal }
+{
+    Refused {
+        refusal,
         first: 0,
         size: 0,
     }

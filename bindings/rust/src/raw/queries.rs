@@ -2,6 +2,7 @@
 
 use std::cell::UnsafeCell;
 
+use super::series::{Reduced as SeriesReduced, Series};
 use super::{Reduced, SixValues, Slot, Vector, answered, boxed, roomy};
 use crate::{Kind, Refusal};
 
@@ -34,12 +35,51 @@ struct Noted {
     count: u32,
 }
 
+#[repr(C)]
+struct SeriesNoted {
+    refusal: u32,
+    detail: u32,
+    _edit: u64,
+    count: u32,
+}
+
+/// What a query asks: `livevec_query`.
+#[repr(C)]
+#[derive(Clone, Copy, Debug)]
+pub(crate) struct Query {
+    pub(crate) kind: u32,
+    pub(crate) span: u32,
+    pub(crate) bound: u32,
+    pub(crate) lo: u64,
+    pub(crate) hi: u64,
+    pub(crate) x: i64,
+}
+
+/// What is asked: a vector, or a series, or samples, whose slot is one of a series.
+#[allow(missing_debug_implementations)]
+pub struct Target<'a> {
+    slot: &'a UnsafeCell<Slot>,
+    is_vector: bool,
+}
+
+impl Target<'_> {
+    pub(crate) fn of_vector(vector: &Vector) -> Target<'_> {
+        Target { slot: &vector.slot, is_vector: true }
+    }
+
+    pub(crate) fn of_series(series: &Series) -> Target<'_> {
+        Target { slot: &series.slot, is_vector: false }
+    }
+}
+
 unsafe extern "C" {
     fn livevec_queries_new(slot: *mut Slot) -> u32;
-    fn livevec_watch(slot: *mut Slot, name: *const u8, name_length: usize, kind: u32, lo: u32, hi: u32) -> u32;
+    fn livevec_watch_query(slot: *mut Slot, name: *const u8, name_length: usize, query: *const Query) -> u32;
     fn livevec_unwatch(slot: *mut Slot, name: *const u8, name_length: usize) -> u32;
     fn livevec_answer(slot: *mut Slot, vector: *mut Slot, name: *const u8, name_length: usize) -> Reduced;
     fn livevec_notes(slot: *mut Slot, vector: *mut Slot, notes: *mut Note, room: usize) -> Noted;
+    fn livevec_series_answer(slot: *mut Slot, series: *mut Slot, name: *const u8, name_length: usize) -> SeriesReduced;
+    fn livevec_series_notes(slot: *mut Slot, series: *mut Slot, notes: *mut Note, room: usize) -> SeriesNoted;
     fn livevec_free_queries(slot: *mut Slot) -> u32;
 }
 
@@ -59,12 +99,12 @@ impl Queries {
         Ok(Queries { slot })
     }
 
-    // For each call below: the slots are full, since `self` and the vector were made, and no other call is at them, since neither is `Sync`
+    // For each call below: the slots are full, since `self` and what is asked were made, and no other call is at them, since neither is `Sync`
     // and C never calls back. So many bytes of a name are read from a slice that has them.
 
-    pub(crate) fn watch(&mut self, name: &[u8], kind: u32, lo: u32, hi: u32) -> Result<(), Refusal> {
+    pub(crate) fn watch(&mut self, name: &[u8], query: &Query) -> Result<(), Refusal> {
         // SAFETY: see above.
-        answered(unsafe { livevec_watch(self.slot.get(), name.as_ptr(), name.len(), kind, lo, hi) }, 0, ())
+        answered(unsafe { livevec_watch_query(self.slot.get(), name.as_ptr(), name.len(), query) }, 0, ())
     }
 
     pub(crate) fn unwatch(&mut self, name: &[u8]) -> Result<(), Refusal> {
@@ -72,18 +112,33 @@ impl Queries {
         answered(unsafe { livevec_unwatch(self.slot.get(), name.as_ptr(), name.len()) }, 0, ())
     }
 
-    pub(crate) fn answer(&self, vector: &Vector, name: &[u8]) -> Result<Reduced, Refusal> {
+    /// The last edit, and the values.
+    pub(crate) fn answer(&self, of: Target<'_>, name: &[u8]) -> Result<(u64, SixValues), Refusal> {
+        let (set, at, bytes, length) = (self.slot.get(), of.slot.get(), name.as_ptr(), name.len());
+        if of.is_vector {
+            // SAFETY: see above.
+            let did = unsafe { livevec_answer(set, at, bytes, length) };
+            return answered(did.refusal, did.detail, (did.edit.into(), did.values));
+        }
         // SAFETY: see above.
-        let did = unsafe { livevec_answer(self.slot.get(), vector.slot.get(), name.as_ptr(), name.len()) };
-        answered(did.refusal, did.detail, did)
+        let did = unsafe { livevec_series_answer(set, at, bytes, length) };
+        answered(did.refusal, 0, (did.edit, did.values))
     }
 
     /// The notes that there are, all of them.
-    pub(crate) fn notes(&mut self, vector: &Vector) -> Result<Vec<Note>, Refusal> {
+    pub(crate) fn notes(&mut self, of: Target<'_>) -> Result<Vec<Note>, Refusal> {
         let mut notes = roomy::<Note>(MOST_QUERIES)?;
-        // SAFETY: see above; at most so many notes are written as the buffer has room for.
-        let did = unsafe { livevec_notes(self.slot.get(), vector.slot.get(), notes.as_mut_ptr(), MOST_QUERIES) };
-        let count = answered(did.refusal, did.detail, did.count as usize)?;
+        let (set, at, places) = (self.slot.get(), of.slot.get(), notes.as_mut_ptr());
+        let (refusal, detail, count) = if of.is_vector {
+            // SAFETY: see above; at most so many notes are written as the buffer has room for.
+            let did = unsafe { livevec_notes(set, at, places, MOST_QUERIES) };
+            (did.refusal, did.detail, did.count)
+        } else {
+            // SAFETY: the same.
+            let did = unsafe { livevec_series_notes(set, at, places, MOST_QUERIES) };
+            (did.refusal, did.detail, did.count)
+        };
+        let count = answered(refusal, detail, count as usize)?;
         assert!(count <= MOST_QUERIES);
         // SAFETY: C has written so many notes, and the buffer has room for them.
         unsafe { notes.set_len(count) };

@@ -49,7 +49,7 @@ struct Count {
 
 #[repr(C)]
 pub(crate) struct Reduced {
-    refusal: u32,
+    pub(crate) refusal: u32,
     first: u64,
     size: u64,
     pub(crate) edit: u64,
@@ -101,7 +101,7 @@ fn edited(did: Edited) -> Result<Edited, Refusal> {
 
 /// A series of C. Its slot is full from `new` to the drop.
 pub(crate) struct Series {
-    slot: Box<UnsafeCell<Slot>>,
+    pub(super) slot: Box<UnsafeCell<Slot>>,
 }
 
 // SAFETY: as of a vector: between calls a slot may go to another thread, and it is not `Sync`, by its cell.

@@ -5,9 +5,9 @@ use Rattle.livevec_c.proofs.NotingLaws.{noted_one}
 use Rattle.livevec_c.proofs.queries_notes.note_one.Goals as goal
 
 pub returns-in-None : goal.returns-in-None
-returns-in-None c =
+returns-in-None g c =
     record { added = []; are = inl (c.in-None.ensures.idle, refl); count_is = omega arith; few = omega arith; places = refl; written = λ fits. sym (take-append-drop c.args.count c.args.notes.now) }
 
 pub returns-in-Some : goal.returns-in-Some
-returns-in-Some c =
-    noted_one c.args.edit c.args.size c.args.question.now c.args.before.now c.args.value.now c.args.count c.args.notes.now c.put_note.new.notes c.in-Some.note c.in-Some.ensures.due c.in-Some.ensures.note c.put_note.ensures
+returns-in-Some g c =
+    noted_one (g.A.Target.seen c.args.asked.now) c.args.question.now c.args.before.now c.args.value.now c.args.count c.args.notes.now c.put_note.new.notes c.in-Some.note c.in-Some.ensures.due c.in-Some.ensures.note c.put_note.ensures
