@@ -1,5 +1,6 @@
 -- Names the files of lemmas of `lv_server`.
 mod BesideLaws
+mod LogEdits
 mod LogServedLaws
 mod PlainServedLaws
 mod RecordingLaws

@@ -19,7 +19,7 @@ use Rattle.lv_hub.specs.Session.{SessionState, kept_by}
 use Rattle.lv_hub.specs.Told.{IsVector, history_of}
 use Rattle.lv_hub.specs.Watched.{WatchState}
 use Rattle.lv_hub.specs.Watchers.{AllTellLast, AreLeft, LeftState}
-use Rattle.lv_hub.proofs.LogLaws.{edits_of_edits}
+use Rattle.lv_server.proofs.LogEdits.{edits_of_edits}
 use Rattle.lv_hub.proofs.WatchedLaws.{watched_each}
 use Rattle.lv_server.specs.Closing.{ClosesLog}
 use Rattle.lv_server.specs.PlainLogged.{LogGoesOn, LogServed}
