@@ -3,7 +3,7 @@ mod AcceptedLaws
 mod AsScriptsLaws
 mod AskingLaws
 mod BeginLaws
-mod LogLaws
+pub mod LogLaws
 mod NoticeLaws
 pub mod Noticed
 mod OrderLaws

@@ -6,4 +6,5 @@ mod PlainServedLaws
 mod RecordingLaws
 mod Seats
 mod ServedLaws
+mod StoreLaws
 mod WaitedStreams

@@ -1,5 +1,7 @@
 //! A file whose failure is told at once.
 
+ghost use Rattle.std.specs.Prelude.{◌≡◌};
+
 use crate::escaped::Escaped;
 use std::io;
 use std::io::{Error, Write};
@@ -27,7 +29,9 @@ impl<'a, E: Eprint + Copy, F: Write + Drop> AnnouncedFile<'a, E, F> {
     }
 
     // Tells of a failure, if it is the first.
-    fn tell(&mut self, error: &Error) {
+    fn tell(&mut self, error: &Error)
+        ensures { self.new.file ≡ self.old.file }
+    {
         if self.is_told {
             return;
         }

@@ -1,7 +1,8 @@
 //! The log that a server goes on from: how it is opened and looked at, and how it begins.
 
-ghost use Rattle.std.specs.Prelude.{◌≡◌, IfOk, OnOk};
+ghost use Rattle.std.specs.Prelude.{◌≡◌, ◌≤◌, ◌^◌, IfOk, OnOk, true};
 ghost use Rattle.lv_server.specs.Stores.{IsFit, IsRightStore, MayStart};
+ghost use Rattle.lv_transcript.specs.Logs.{base_of};
 
 use crate::escaped::Escaped;
 use crate::folders::{Found, KEPT, beside, found_at, sync_folder};
@@ -101,10 +102,12 @@ impl StoreFile {
         let reason = match self.found.verdict {
             FrontVerdict::No(line) => Reason::FalseLog(line),
             FrontVerdict::Bad(line) => Reason::MisspeltLog(line),
-            FrontVerdict::Front { .. } => match self.found.heading {
-                Some(heading) if heading.base > HIGHEST_BASE => Reason::HighBase,
-                _ => return Ok(()),
-            },
+            FrontVerdict::Front { .. } => {
+                if has_low_base(self.found.heading) {
+                    return Ok(());
+                }
+                Reason::HighBase
+            }
         };
         Err(ProgramError::new(Fault::ReadFault, reason, self.number))
     }
@@ -226,6 +229,16 @@ impl StoreFile {
             heading,
             edits,
         })
+    }
+}
+
+// Whether the updates behind a file that begins so can be numbered.
+fn has_low_base(heading: Option<LogHeading>) -> bool
+    ensures { result ≡ true → base_of heading ≤ 2 ^ 62 }
+{
+    match heading {
+        Some(heading) => heading.base <= HIGHEST_BASE,
+        None => true,
     }
 }
 
