@@ -3,7 +3,7 @@ mod AcceptedLaws
 mod AsScriptsLaws
 mod AskingLaws
 mod BeginLaws
-pub mod LogLaws
+mod LogLaws
 mod NoticeLaws
 pub mod Noticed
 mod OrderLaws
