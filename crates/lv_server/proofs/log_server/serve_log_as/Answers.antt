@@ -8,13 +8,13 @@ use Rattle.lv_server.proofs.log_server.serve_log_as.Goals as goal
 
 -- it goes on behind the edits of the log
 pub serve_all-served-requires-clause-log : goal.serve_all-served-requires-clause-log
-serve_all-served-requires-clause-log g c = sym (ap is_some c.requires.there)
+serve_all-served-requires-clause-log g c = λ _ _. sym (ap is_some c.requires.there)
 
 pub serve_all-served-requires-clause-goes_on : goal.serve_all-served-requires-clause-goes_on
-serve_all-served-requires-clause-goes_on g c = subst MayGoOn (sym c.requires.there) c.requires.log
+serve_all-served-requires-clause-goes_on g c = λ _ _. subst MayGoOn (sym c.requires.there) c.requires.log
 
 pub serve_all-served-requires-clause-begins : goal.serve_all-served-requires-clause-begins
-serve_all-served-requires-clause-begins g c = sym (edits_of_edits c.args.begun.now) ∙ sym (ap edits_there c.requires.there)
+serve_all-served-requires-clause-begins g c = λ _ _. sym (edits_of_edits c.args.begun.now) ∙ sym (ap edits_there c.requires.there)
 
 pub returns-in-Ok-clause-back : goal.returns-in-Ok-clause-back
 returns-in-Ok-clause-back g c =

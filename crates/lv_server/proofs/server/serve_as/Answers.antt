@@ -31,10 +31,10 @@ returns-in-Ok-clause-watched g c =
 
 -- no log was there
 pub serve_all-served-requires-clause-log : goal.serve_all-served-requires-clause-log
-serve_all-served-requires-clause-log g c = sym (ap is_some c.requires.transcript)
+serve_all-served-requires-clause-log g c = λ _ _. sym (ap is_some c.requires.transcript)
 
 pub serve_all-served-requires-clause-goes_on : goal.serve_all-served-requires-clause-goes_on
-serve_all-served-requires-clause-goes_on g c = subst MayGoOn (sym c.requires.transcript) no_log_goes_on
+serve_all-served-requires-clause-goes_on g c = λ _ _. subst MayGoOn (sym c.requires.transcript) no_log_goes_on
 
 pub serve_all-served-requires-clause-begins : goal.serve_all-served-requires-clause-begins
-serve_all-served-requires-clause-begins g c = if_some c.args.file (λ _ none. none ∙ sym (ap edits_there c.requires.transcript)) c.requires.fresh
+serve_all-served-requires-clause-begins g c = λ _ _. if_some c.args.file (λ _ none. none ∙ sym (ap edits_there c.requires.transcript)) c.requires.fresh
