@@ -20,7 +20,7 @@ use std::test::Fail;
 use std::thread::Threads;
 use std::{io, thread};
 
-// Where the first write of a log's file stands, until the hub was asked. Whether a write has ended, and whether a reply to
+// Where the first write behind the first line of a log's file stands, until the hub was asked. Whether a write has ended, and whether a reply to
 // what it records came first.
 #[derive(Drop)]
 struct Stage {
@@ -44,7 +44,7 @@ impl Stage {
     }
 }
 
-// The file of a log, whose first write stands until it is released.
+// The file of a log, whose first line is written at once, and whose next write stands until it is released.
 #[derive(Drop)]
 struct HeldFile<'a> {
     stage: &'a Stage,
@@ -53,6 +53,9 @@ struct HeldFile<'a> {
 
 impl Write for HeldFile<'_> {
     fn write(&mut self, buf: &[u8]) -> io::Result<usize> {
+        if self.bytes.is_empty() {
+            return self.bytes.write(buf);
+        }
         self.stage.latch.stand();
         let written = self.bytes.write(buf);
         self.stage.written.store(true, Ordering::SeqCst);
