@@ -20,9 +20,6 @@ COUNTED(livevec_series_count, series_size, livevec_series, A_SERIES, BEHIND_LAST
 COUNTED(livevec_series_count, series_edits, livevec_series, A_SERIES, SERIES_ACCEPTED)
 COUNTED(livevec_series_count, series_saved_length, livevec_series, A_SERIES, SAVED_BYTES)
 
-/* An element of a series, or of samples with its time. */
-livevec_sample livevec_proved_series_get(livevec_series *slot, uint64_t index, bool timed);
-
 livevec_series_element livevec_series_get(livevec_series *slot, uint64_t index)
 {
     if (!slot)

@@ -298,6 +298,28 @@ livevec_series_count livevec_proved_count(void *slot, uint32_t sort, uint32_t wh
         return (answer){.refusal = told.refusal, .value = told.value};      \
     }
 
+/* What refuses a range of a vector whose slot is entered, for a buffer of so many values. */
+static inline livevec_scanned judge_range(livevec_vector *slot, uint32_t lo, uint32_t hi, size_t length)
+{
+    livevec_scanned answer = {LIVEVEC_OK, 0, 0, 0};
+    livevec_series_count size = livevec_proved_count(slot, A_VECTOR, ELEMENTS);
+    if (size.refusal) {
+        answer.refusal = size.refusal;
+    } else if (hi < lo) {
+        answer.refusal = LIVEVEC_BAD_RANGE;
+    } else if (hi > size.value) {
+        answer.refusal = LIVEVEC_OUT_OF_RANGE;
+        answer.detail = (uint32_t)size.value;
+    } else if (length < hi - lo) {
+        answer.refusal = LIVEVEC_SHORT_BUFFER;
+        answer.detail = hi - lo;
+    } else {
+        answer.edit = (uint32_t)livevec_proved_count(slot, A_VECTOR, ACCEPTED).value;
+        answer.length = hi - lo;
+    }
+    return answer;
+}
+
 /* The plain values of a range: by one kind; by all six, each by its tree; or by all six, as they are kept. */
 #define BY_KIND false, false
 #define BY_TREES true, true
@@ -308,5 +330,8 @@ livevec_series_reduced livevec_proved_series_value(livevec_series *slot, bool si
 
 /* An element of a vector, or of a closed board. */
 livevec_element livevec_proved_get(void *slot, uint32_t sort, uint32_t index);
+
+/* An element of a series, or of samples with its time. */
+livevec_sample livevec_proved_series_get(livevec_series *slot, uint64_t index, bool timed);
 
 #endif

@@ -300,6 +300,7 @@ int main(void)
     series_places();
     lent();
     samples();
+    exact_sums();
     saved();
     transcripts();
     shared_forms();

@@ -28,6 +28,9 @@ void beside(void);
 /* The tests of questions by one kind, one or many at once. */
 void kinds(void);
 
+/* The tests of exact sums. */
+void exact_sums(void);
+
 /* The tests of many writes and pushes at once. */
 void many_writes(void);
 
