@@ -31,7 +31,7 @@ const char *livevec_refusal_text(uint32_t refusal)
     case LIVEVEC_CONTENDED: return "contended: another seat's edit came first";
     case LIVEVEC_OVERTAKEN: return "overtaken: a later edit wrote there";
     case LIVEVEC_EARLIER: return "a time before that of the last sample";
-    case LIVEVEC_NOT_SAVED: return "bytes that are no saved series, or no saved samples";
+    case LIVEVEC_NOT_SAVED: return "bytes that are no saved vector, series or samples";
     case LIVEVEC_NO_HANDLE: return "an empty slot, or one that holds something else";
     case LIVEVEC_NULL: return "a null pointer";
     case LIVEVEC_SHORT_BUFFER: return "a buffer shorter than the values";

@@ -62,8 +62,9 @@ void lent(void);
 /* The tests of samples and windows of time. */
 void samples(void);
 
-/* The tests of series and samples as bytes. */
+/* The tests of series and samples as bytes, and of vectors. */
 void saved(void);
+void saved_vectors(void);
 
 /* The tests of standing queries. */
 void queries(void);

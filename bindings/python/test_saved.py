@@ -96,7 +96,7 @@ class Saved(unittest.TestCase):
             self.assertRaises(NotSaved, of.load, saved + b"\0")
         with self.assertRaises(NotSaved) as caught:
             Series.load(of_samples)
-        self.assertEqual((caught.exception.number, str(caught.exception)), (22, "bytes that are no saved series, or no saved samples"))
+        self.assertEqual((caught.exception.number, str(caught.exception)), (22, "bytes that are no saved vector, series or samples"))
         self.assertIsInstance(caught.exception, ValueError)
         self.assertRaises(NotSaved, Samples.load, of_series)
         self.assertRaises(NotSaved, Samples.load_pieces, [])
