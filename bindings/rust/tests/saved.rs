@@ -146,7 +146,9 @@ fn a_vector_is_saved_as_a_series_of_its_elements() {
         assert_eq!(pieces, bytes);
         let mut written = Vec::new();
         assert_eq!((vector.save_to(&mut written).unwrap(), written), (bytes.len() as u64, bytes.clone()));
-        for mut back in [Vector::load(&bytes).unwrap(), Vector::load_from(&*bytes).unwrap(), Vector::load_from(Slow(&bytes, false)).unwrap()] {
+        for mut back in
+            [Vector::load(&bytes).unwrap(), Vector::load_from(&*bytes).unwrap(), Vector::load_from(Slow(&bytes, false)).unwrap()]
+        {
             assert_eq!((back.to_vec().unwrap(), back.edits() as usize), (values.clone(), count));
             assert_eq!((back.push_saved(&bytes).unwrap() as usize, back.len() as usize), (2 * count, 2 * count));
             assert_eq!(back.elements(count..).unwrap().collect::<Vec<_>>(), values);
