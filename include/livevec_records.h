@@ -180,8 +180,8 @@ typedef struct livevec_scanned {
     uint32_t length; /**< how many values were written; 0 if it was refused */
 } livevec_scanned;
 
-/** The cells of the columns that scans by one kind write, where a number isn't enough, and an exact sum. A total has 128 bits in two's complement: its
- * low 64 bits, and its high 64 bits, which have the sign. */
+/** The cells of the columns that scans by one kind write, where a number isn't enough, and an exact sum. A total has 128 bits in two's complement:
+ * its low 64 bits, and its high 64 bits, which have the sign. */
 typedef struct livevec_total {
     uint64_t low; /**< the low 64 bits */
     int64_t high; /**< the high 64 bits, which have the sign */

@@ -27,9 +27,9 @@ LIVEVEC_MUST_USE livevec_many livevec_value_many(livevec_vector *slot, uint32_t 
 
 /** The exact sum of the elements of a range, in 128 bits: it never wraps, as that of livevec_value may. It follows from the sums modulo 2^64, the
  * minimum and the maximum, which are asked as livevec_value asks them, all after one edit. A vector of one kind has its elements added up instead.
- * Takes no memory, changes no answer. Reads. Cost: as three calls of livevec_value if the length of the range times the difference of its maximum and
- * minimum is below 2^64; else as one sum more for each 2^64 of that product, and at most O(hi - lo). At a vector of one kind O(hi - lo). Refusals:
- * NULL, NO_HANDLE, BAD_RANGE, OUT_OF_RANGE. */
+ * Takes no memory, changes no answer. Reads. Cost: as three calls of livevec_value if the length of the range times the difference of its maximum
+ * and minimum is below 2^64; else as one sum more for each 2^64 of that product, and at most O(hi - lo). At a vector of one kind O(hi - lo).
+ * Refusals: NULL, NO_HANDLE, BAD_RANGE, OUT_OF_RANGE. */
 LIVEVEC_MUST_USE livevec_summed livevec_exact_sum(livevec_vector *slot, uint32_t lo, uint32_t hi);
 
 /**@{*/

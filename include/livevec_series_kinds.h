@@ -36,11 +36,11 @@ typedef struct livevec_series_summed {
     livevec_total sum; /**< the sum */
 } livevec_series_summed;
 
-/** The exact sum of the elements of a range, in 128 bits: it never wraps, as that of livevec_series_value may. It follows from the sums modulo 2^64, the
- * minimum and the maximum, which are asked as livevec_series_value asks them, all after one edit; so the first call makes those three trees. Of the
- * values of samples: at `&samples.values`. Changes no answer. Reads. Cost: O(log n) if the length of the range times the difference of its maximum and
- * minimum is below 2^64, else O(log n) more for each 2^64 of that product, and at most O(hi - lo); the first call is O(n). Refusals: NULL, NO_HANDLE,
- * BAD_RANGE, OUT_OF_RANGE, NO_MEMORY, with which some of the trees may have been made. */
+/** The exact sum of the elements of a range, in 128 bits: it never wraps, as that of livevec_series_value may. It follows from the sums modulo
+ * 2^64, the minimum and the maximum, which are asked as livevec_series_value asks them, all after one edit; so the first call makes those three
+ * trees. Of the values of samples: at `&samples.values`. Changes no answer. Reads. Cost: O(log n) if the length of the range times the difference
+ * of its maximum and minimum is below 2^64, else O(log n) more for each 2^64 of that product, and at most O(hi - lo); the first call is O(n).
+ * Refusals: NULL, NO_HANDLE, BAD_RANGE, OUT_OF_RANGE, NO_MEMORY, with which some of the trees may have been made. */
 LIVEVEC_MUST_USE livevec_series_summed livevec_series_exact_sum(livevec_series *slot, uint64_t lo, uint64_t hi);
 
 /** Where something stands in a range of a series: from `lo` up to `hi`. If it was refused, all but the first three is 0. */
