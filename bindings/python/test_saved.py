@@ -83,7 +83,26 @@ class Saved(unittest.TestCase):
         class Readings(Series):
             pass
 
+        class Prices(Vector):
+            pass
+
         self.assertIs(type(Readings.load(Series([1]).save())), Readings)
+        self.assertIs(type(Prices.load(Series([1]).save())), Prices)
+
+    def test_a_push_after_the_length_was_told_is_saved_too(self) -> None:
+        def pushed_late(of: Any) -> Any:
+            class Late(of):  # type: ignore[misc, valid-type]
+                @property
+                def saved_length(self) -> int:
+                    length: int = super().saved_length
+                    if len(self) < 5:
+                        self.extend([7, 8])
+                    return length
+
+            return Late([1, 2])
+
+        for of in (Vector, Series):
+            self.assertEqual(list(of.load(pushed_late(of).save())), [1, 2, 7, 8, 7, 8])
 
     def test_other_bytes_are_refused(self) -> None:
         (_, of_series), (_, of_samples) = self.both(9, 2)

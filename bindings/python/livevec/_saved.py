@@ -26,9 +26,12 @@ class _Saved:
     def save(self) -> bytes:
         """It as bytes, which `load` takes. Linear. Of a vector they are those of a series of its elements: its limits, table, kind and edits aren't
         saved. Trees aren't, either. The layout is told in docs/formats.md of livevec's repository. Other threads run meanwhile. Raises MemoryError."""
-        saved = bytearray(self.saved_length)
-        self.save_into(saved)
-        return bytes(saved)
+        while True:
+            saved = bytearray(self.saved_length + 8)
+            length = self.save_into(saved)
+            # a buffer that is full may not have all, where another thread pushed after the length was told
+            if length < len(saved):
+                return bytes(memoryview(saved)[:length])
 
     def save_into(self, buffer: WriteableBuffer, at: int = 0) -> int:
         """Fills a buffer of bytes with those from the place `at` on, as many as it takes in whole numbers of 8, and gives how many they are, 0 at
