@@ -272,7 +272,7 @@ static void want_of_memory(void)
         loads += failed;
         IS(did.refusal, failed ? LIVEVEC_NO_MEMORY : 0);
         if (failed)
-            holds(&v, NULL, 0, 0);
+            holds(&v, t.values, 0, 0);
         else
             holds(&v, t.values, 2100, 2100);
         IS(livevec_free(&v), 0);
