@@ -94,6 +94,15 @@ class vector : public inner::with_jobs {
         push_many(first, last);
     }
 
+    /** One with the elements of the bytes that `save` gave, of a vector or of a series, as `push_saved` pushes them: into a vector of another kind, or
+     * with a table, by that. O(n). */
+    [[nodiscard]] static vector load(byte_view saved, limits most = {})
+    {
+        vector made(most);
+        made.push_saved(saved);
+        return made;
+    }
+
     /** One of its own with the same elements, limits, table and kind. Its edits are the pushes of its elements, so their numbers begin anew. O(n). */
     [[nodiscard]] vector clone() const
     {
@@ -164,6 +173,15 @@ class vector : public inner::with_jobs {
         return write_many(index_view(indices.begin(), indices.size()), array_view(inner::copied(values)));
     }
 
+    /** Pushes the elements of the bytes that `save` gave, of a vector or of a series: all are pushed, or `stopped` is thrown and none is, also if no
+     * such has these bytes (LIVEVEC_NOT_SAVED). O(length) amortised. */
+    void push_saved(byte_view saved)
+    {
+        livevec_pushed pushed = livevec_push_saved(slot(), saved.data(), saved.size());
+        if (pushed.refusal)
+            inner::raise(stopped(pushed));
+    }
+
     /** Why that push would be refused, out of memory apart: a ::livevec_refusal, 0 if it would be accepted, with its detail. O(1). */
     [[nodiscard]] livevec_verdict verdict_push(element value) const { return inner::judged(livevec_verdict_push(slot(), value)); }
     /** The same of a pop. O(1). */
@@ -219,6 +237,17 @@ class vector : public inner::with_jobs {
         return inner::checked(livevec_read(slot(), lo, hi, buffer.data(), buffer.size()), lo, hi).length;
     }
 
+    /** How many bytes `save` gives: 88, and 8 for each element. O(1). */
+    [[nodiscard]] std::uint32_t saved_length() const { return inner::counted(livevec_saved_length(slot())); }
+    /** The saved bytes from a place on, in whole numbers of 8, as many as a buffer takes, and how many they are; 0 at the end. `from` starts at 0, and goes
+     * on by what was told. O(n) for each piece. */
+    std::size_t save_into(std::uint64_t from, view<std::uint8_t> buffer) const
+    {
+        return inner::checked(livevec_save(slot(), from, buffer.data(), buffer.size())).length;
+    }
+    /** The elements as bytes, which `load` takes, and that of a series; limits, table, kind and edits aren't saved. O(n). */
+    [[nodiscard]] std::vector<std::uint8_t> save() const { return inner::saved(*this); }
+
     /** Through a copy of the elements as they are now. O(n). */
     [[nodiscard]] const_iterator begin() const { return const_iterator(elements()); }
     /** The end of each copy. O(1). */
@@ -262,15 +291,11 @@ class vector : public inner::with_jobs {
     [[nodiscard]] std::int64_t sum(position lo, position hi) const { return static_cast<std::int64_t>(unsigned_sum(lo, hi)); }
     /** The sum of a range modulo 2^64, from 0 up. O(log n), and more after edits. */
     [[nodiscard]] std::uint64_t unsigned_sum(position lo, position hi) const { return value(livevec::kind::sum, lo, hi).values.sum; }
-    /** The exact sum of a range. It follows from the sum modulo 2^64 and the bounds that the minimum and the maximum give, if these leave one number:
-     * if the length times their difference is below 2^64. O(log n) then, and more after edits; else as `summarise`. A vector of one kind refuses it. */
+    /** The exact sum of a range, by its sums modulo 2^64, its minimum and its maximum. O(log n), and more after edits; and as much again for each 2^64 of
+     * the length times the difference of the maximum and the minimum, at most O(length). Of a vector of one kind O(length). */
     [[nodiscard]] int128 total(position lo, position hi) const
     {
-        const std::optional<std::int64_t> lowest = least(lo, hi);
-        if (!lowest)
-            return 0;
-        const std::optional<int128> told = inner::exact(int128(hi) - lo, unsigned_sum(lo, hi), *lowest, *greatest(lo, hi));
-        return told ? *told : summarise(lo, hi).total();
+        return livevec::total(inner::checked(livevec_exact_sum(slot(), lo, hi), lo, hi).sum);
     }
     /** The minimum of a range, if it isn't empty. O(log n), and more after edits. */
     [[nodiscard]] std::optional<std::int64_t> least(position lo, position hi) const
@@ -391,6 +416,18 @@ class vector : public inner::with_jobs {
     limits limits_;
     std::optional<livevec_table> table_;
     std::optional<livevec::kind> only_;
+};
+
+/** Loads a vector in pieces, as `loading` says, from the bytes of a vector or of a series. */
+template <> class loading<vector> {
+  public:
+    /** Takes the next piece. O(length) amortised. */
+    void give(byte_view bytes) { elements_.give(bytes); }
+    /** Gives a vector of these limits, of the elements. O(n). */
+    [[nodiscard]] vector end(limits most = {}) { return vector(elements_.end().elements(), most); }
+
+  private:
+    loading<series> elements_;
 };
 
 } // namespace livevec

@@ -341,12 +341,12 @@ template <class Row> std::vector<std::int64_t> elements_of_row(Row &row)
 template <class Iterator, class = typename std::iterator_traits<Iterator>::iterator_category>
 constexpr bool gives_elements = std::is_convertible_v<typename std::iterator_traits<Iterator>::reference, element>;
 
-/** The exact sum of so many elements from their sum modulo 2^64, the minimum and the maximum, if these leave one number: if the length times their
- * difference is below 2^64. */
-inline std::optional<int128> exact(int128 length, std::uint64_t sum, std::int64_t least, std::int64_t greatest) noexcept
+/** All bytes of what is saved in pieces. */
+template <class Of> std::vector<std::uint8_t> saved(const Of &of)
 {
-    const int128 lowest = length * least, highest = length * greatest;
-    return highest - lowest < int128(1) << 64 ? std::optional<int128>(lowest + (sum - static_cast<std::uint64_t>(lowest))) : std::nullopt;
+    std::vector<std::uint8_t> bytes(of.saved_length());
+    of.save_into(0, bytes);
+    return bytes;
 }
 
 /** One of the values, if there is one. */

@@ -206,19 +206,11 @@ class by_index : public owned<Slot, Free> {
     [[nodiscard]] std::int64_t sum(std::uint64_t lo, std::uint64_t hi) const { return static_cast<std::int64_t>(unsigned_sum(lo, hi)); }
     /** The sum of a range modulo 2^64, from 0 up. O(log n), by a tree. */
     [[nodiscard]] std::uint64_t unsigned_sum(std::uint64_t lo, std::uint64_t hi) const { return value(kind::sum, lo, hi).values.sum; }
-    /** The exact sum of a range, by three trees: those of the sum, the minimum and the maximum. O(log n); O(length) only if elements are so far apart that
-     * these leave it open, of n elements by 2^64 / n or more. */
+    /** The exact sum of a range, by three trees: those of the sum, the minimum and the maximum. O(log n), and as much again for each 2^64 of the length
+     * times the difference of the maximum and the minimum, at most O(length). */
     [[nodiscard]] int128 total(std::uint64_t lo, std::uint64_t hi) const
     {
-        const std::optional<std::int64_t> lowest = least(lo, hi);
-        if (!lowest)
-            return 0;
-        if (const std::optional<int128> told = exact(int128(hi) - lo, unsigned_sum(lo, hi), *lowest, *greatest(lo, hi)))
-            return *told;
-        int128 sum = 0;
-        for (std::int64_t each : read(lo, hi))
-            sum += each;
-        return sum;
+        return livevec::total(kept(livevec_series_exact_sum(series_slot(), lo, hi), lo, hi).sum);
     }
     /** The minimum of a range, if it isn't empty. O(log n), by a tree. */
     [[nodiscard]] std::optional<std::int64_t> least(std::uint64_t lo, std::uint64_t hi) const
@@ -341,12 +333,7 @@ class by_index : public owned<Slot, Free> {
         return told.length;
     }
     /** All of it as bytes, which `load` takes. O(n). */
-    [[nodiscard]] std::vector<std::uint8_t> save() const
-    {
-        std::vector<std::uint8_t> bytes(saved_length());
-        save_into(0, bytes);
-        return bytes;
-    }
+    [[nodiscard]] std::vector<std::uint8_t> save() const { return saved(*this); }
 
     /** The handle of the elements, for calls of livevec.h; null if this was moved from. */
     [[nodiscard]] livevec_series *series_slot() const noexcept { return elements_of(this->slot()); }

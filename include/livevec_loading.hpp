@@ -1,5 +1,5 @@
 /** @file
- * Part of livevec.hpp, which is what programs include: loading of saved bytes, for livevec::series and livevec::samples. */
+ * Part of livevec.hpp, which is what programs include: loading of saved bytes, for livevec::vector, livevec::series and livevec::samples. */
 #ifndef LIVEVEC_LOADING_HPP
 #define LIVEVEC_LOADING_HPP
 
@@ -29,8 +29,8 @@ inline std::uint32_t end_load(livevec_samples *slot) { return livevec_samples_en
 
 } // namespace inner
 
-/** Loads what was saved, as loading<series> or loading<samples>: bytes are given in order, in pieces of any length, and `end` gives the whole. Bytes
- * that no series, or no samples, have are refused with LIVEVEC_NOT_SAVED. After the end, refused or not, every call is refused. What was given is in
+/** Loads what was saved, as loading<series>, loading<samples> or loading<vector>: bytes are given in order, in pieces of any length, and `end` gives the
+ * whole. Bytes that no such has are refused with LIVEVEC_NOT_SAVED. After the end, refused or not, every call is refused. What was given is in
  * memory until then. */
 template <class Whole>
 class loading {

@@ -32,8 +32,9 @@ class query {
     query last(std::uint64_t count) const noexcept { return over(LIVEVEC_LAST, count, 0); }
     /** Of the samples of the last so much time, as samples::last has them. */
     query within(std::uint64_t time) const noexcept { return over(LIVEVEC_WITHIN, time, 0); }
-    /** Told of only as its answer begins or ends to be at least, or at most, so much. No elements, a map and states never are; a sum is signed here. */
+    /** Told of only as its answer begins or ends to be at least so much. No elements, a map and states never are; a sum is signed here. */
     query at_least(std::int64_t x) const noexcept { return by(LIVEVEC_AT_LEAST, x); }
+    /** The same of at most so much. */
     query at_most(std::int64_t x) const noexcept { return by(LIVEVEC_AT_MOST, x); }
 
   private:

@@ -180,12 +180,20 @@ typedef struct livevec_scanned {
     uint32_t length; /**< how many values were written; 0 if it was refused */
 } livevec_scanned;
 
-/** The cells of the columns that scans by one kind write, where a number isn't enough. A best total has 128 bits in two's complement: its low 64
- * bits, and its high 64 bits, which have the sign. */
+/** The cells of the columns that scans by one kind write, where a number isn't enough, and an exact sum. A total has 128 bits in two's complement:
+ * its low 64 bits, and its high 64 bits, which have the sign. */
 typedef struct livevec_total {
     uint64_t low; /**< the low 64 bits */
     int64_t high; /**< the high 64 bits, which have the sign */
 } livevec_total;
+
+/** An exact sum. If it was refused, all but `refusal` and `detail` is 0. */
+typedef struct livevec_summed {
+    uint32_t refusal;  /**< why the call was refused, a ::livevec_refusal; 0 if it was not */
+    uint32_t detail;   /**< of LIVEVEC_OUT_OF_RANGE the size, else 0 */
+    uint32_t edit;     /**< after which edit it is the sum of the range */
+    livevec_total sum; /**< the sum */
+} livevec_summed;
 
 /** The map y -> a * y + b modulo 2^32. */
 typedef struct livevec_map {

@@ -25,6 +25,13 @@ LIVEVEC_MUST_USE livevec_reduced livevec_value(livevec_vector *slot, uint32_t ki
 LIVEVEC_MUST_USE livevec_many livevec_value_many(livevec_vector *slot, uint32_t kind, const livevec_range *ranges,
                                                  livevec_values *answers, size_t length);
 
+/** The exact sum of the elements of a range, in 128 bits: it never wraps, as that of livevec_value may. It follows from the sums modulo 2^64, the
+ * minimum and the maximum, which are asked as livevec_value asks them, all after one edit. A vector of one kind has its elements added up instead.
+ * Takes no memory, changes no answer. Reads. Cost: as three calls of livevec_value if the length of the range times the difference of its maximum
+ * and minimum is below 2^64; else as one sum more for each 2^64 of that product, and at most O(hi - lo). At a vector of one kind O(hi - lo).
+ * Refusals: NULL, NO_HANDLE, BAD_RANGE, OUT_OF_RANGE. */
+LIVEVEC_MUST_USE livevec_summed livevec_exact_sum(livevec_vector *slot, uint32_t lo, uint32_t hi);
+
 /**@{*/
 /** Where the first of the least elements of a range stands, and the first of the greatest. There is none of an empty range. It is found in steps of
  * the tree, and what is computed for it is kept by that kind, until an edit touches it. Takes no memory, changes no answer. Reads. Cost: as

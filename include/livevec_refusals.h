@@ -27,7 +27,7 @@ typedef enum livevec_refusal {
     LIVEVEC_NO_JOB = 19,       /**< as 13 */
     LIVEVEC_NOT_NOW = 20,      /**< as 13 */
     LIVEVEC_EARLIER = 21,      /**< a sample's time is before that of the last sample; `value` is that time */
-    LIVEVEC_NOT_SAVED = 22,    /**< bytes that no saved series, or samples, have: they were changed, or are too few or too many */
+    LIVEVEC_NOT_SAVED = 22,    /**< bytes that no saved vector, series or samples have: they were changed, or are too few or too many */
     LIVEVEC_NO_HANDLE = 101,   /**< a slot that should be full is empty: never filled, or freed, or moved from */
     LIVEVEC_NULL = 102,        /**< a null pointer */
     LIVEVEC_SHORT_BUFFER = 103, /**< a buffer shorter than what it should take; `detail` is the wanted length */

@@ -27,6 +27,22 @@ LIVEVEC_MUST_USE livevec_series_reduced livevec_series_value(livevec_series *slo
 LIVEVEC_MUST_USE livevec_series_many livevec_series_value_many(livevec_series *slot, uint32_t kind, const livevec_series_range *ranges,
                                                                livevec_values *answers, size_t length);
 
+/** An exact sum of a series. If it was refused, all but the first three is 0. */
+typedef struct livevec_series_summed {
+    uint32_t refusal;  /**< why the call was refused, a ::livevec_refusal; 0 if it was not */
+    uint64_t first;    /**< of LIVEVEC_OUT_OF_RANGE the first index that is kept, else 0 */
+    uint64_t size;     /**< and the index behind the last one, else 0 */
+    uint64_t edit;     /**< after which edit it is the sum of the range */
+    livevec_total sum; /**< the sum */
+} livevec_series_summed;
+
+/** The exact sum of the elements of a range, in 128 bits: it never wraps, as that of livevec_series_value may. It follows from the sums modulo
+ * 2^64, the minimum and the maximum, which are asked as livevec_series_value asks them, all after one edit; so the first call makes those three
+ * trees. Of the values of samples: at `&samples.values`. Changes no answer. Reads. Cost: O(log n) if the length of the range times the difference
+ * of its maximum and minimum is below 2^64, else O(log n) more for each 2^64 of that product, and at most O(hi - lo); the first call is O(n).
+ * Refusals: NULL, NO_HANDLE, BAD_RANGE, OUT_OF_RANGE, NO_MEMORY, with which some of the trees may have been made. */
+LIVEVEC_MUST_USE livevec_series_summed livevec_series_exact_sum(livevec_series *slot, uint64_t lo, uint64_t hi);
+
 /** Where something stands in a range of a series: from `lo` up to `hi`. If it was refused, all but the first three is 0. */
 typedef struct livevec_series_found {
     uint32_t refusal; /**< why the call was refused, a ::livevec_refusal; 0 if it was not */

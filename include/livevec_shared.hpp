@@ -219,6 +219,12 @@ class shared_form {
         return reads([=](const Of &of) { return of.total(lo, hi); });
     }
 
+    /** All of it as bytes, after one edit, which `load` takes. O(n). */
+    [[nodiscard]] std::vector<std::uint8_t> save() const
+    {
+        return reads([](const Of &of) { return of.save(); });
+    }
+
     /** The position of the first minimum of a range. O(log n), and more after edits. */
     [[nodiscard]] auto where_least(position_type lo, position_type hi) const
     {
@@ -497,11 +503,6 @@ class shared_by_index : public shared_form<Of> {
     void prepare(kind by)
     {
         this->edit_many([=](Of &of) { of.prepare(by); });
-    }
-    /** All of it as bytes, after one edit, which `load` takes. O(n). */
-    [[nodiscard]] std::vector<std::uint8_t> save() const
-    {
-        return this->reads([](const Of &of) { return of.save(); });
     }
 
   protected:

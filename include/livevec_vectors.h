@@ -74,6 +74,25 @@ LIVEVEC_MUST_USE livevec_many livevec_write_many(livevec_vector *slot, const uin
  * Refusals: NULL, NO_HANDLE, BAD_RANGE, OUT_OF_RANGE, SHORT_BUFFER. */
 LIVEVEC_MUST_USE livevec_scanned livevec_read(livevec_vector *slot, uint32_t lo, uint32_t hi, int64_t *buffer, size_t length);
 
+/** How many bytes livevec_save gives in all: 88, and 8 for each element. Reads. Cost: O(1). Refusals: NULL, NO_HANDLE. */
+LIVEVEC_MUST_USE livevec_count livevec_saved_length(livevec_vector *slot);
+
+/** Puts the bytes of a vector, from the place `from` on, into a buffer, as many as it takes in whole numbers of 8: `length` is how many, 0 at the
+ * end. They are those of a series of its elements, which livevec_series_load takes too: limits, kind, table and edits aren't saved. The next piece
+ * starts at `from` and so many. `edit` is the number of the vector's last edit: pieces between which it rose are not of one vector. A call copies
+ * all elements, and frees the copy at its end: so a buffer of livevec_saved_length, which takes all bytes at once, is quickest.
+ * If it was refused the buffer is as it was. Reads. Cost: O(n) for each piece. Refusals: NULL, NO_HANDLE, NO_MEMORY, BAD_RANGE (`from` is no
+ * multiple of 8). */
+LIVEVEC_MUST_USE livevec_scanned livevec_save(livevec_vector *slot, uint64_t from, uint8_t *buffer, size_t length);
+
+/** Pushes the elements of what was saved, all of them or none, as livevec_push_many does: `bytes` are all the bytes of a vector, or of a series, in
+ * order. The vector is one that the caller has made, so with limits, kind and table of the caller's choice, and each element is an edit: a new
+ * vector has the saved elements then, under the indices from 0 on, whatever their indices in a series were. The bytes stay the caller's. While it
+ * works it holds them once more, and the elements. Bytes that come in pieces are loaded as a series (livevec_series_load), whose elements are
+ * pushed where they lie (livevec_series_lend, livevec_push_many). If it was refused nothing has changed. Cost: O(length) amortised. Refusals: NULL,
+ * NO_HANDLE, NOT_SAVED (also of samples), and, of the first push that is refused, WORN, FULL; NO_MEMORY. */
+LIVEVEC_MUST_USE livevec_pushed livevec_push_saved(livevec_vector *slot, const uint8_t *bytes, size_t length);
+
 /**@{*/
 /** How many elements there are; how many fit into the memory that is held; how many edits were accepted. Reads. Cost: O(1). Refusals: NULL,
  * NO_HANDLE. */

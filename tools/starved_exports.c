@@ -22,6 +22,8 @@ static livevec_series_many series_written;
 static livevec_series_reduced series_told;
 static livevec_series_found series_found;
 static livevec_series_scanned series_saved;
+static livevec_scanned vector_saved;
+static livevec_series_summed series_summed;
 
 static uint32_t made(livevec_edited answer)
 {
@@ -55,6 +57,9 @@ static uint32_t note(void) { return (noted = livevec_notes(&queries, &vector, no
 
 static uint32_t push_many(void) { return (pushed_many = livevec_push_many(&vector, ones, 100)).refusal; }
 
+static uint32_t save(void) { return (vector_saved = livevec_save(&vector, 0, saved, sizeof saved)).refusal; }
+static uint32_t push_saved(void) { return (pushed_many = livevec_push_saved(&vector, saved, sizeof saved)).refusal; }
+
 static uint32_t write_many(void)
 {
     static const uint32_t indices[100] = {7, 3, 7};
@@ -78,6 +83,7 @@ static uint32_t series_push_many(void) { return (series_pushed = livevec_series_
 static uint32_t series_push_all(void) { return (series_pushed = livevec_series_push_many(&series, ones, MANY)).refusal; }
 static uint32_t series_prepare(void) { return livevec_series_prepare(&series, LIVEVEC_BEST); }
 static uint32_t series_value(void) { return (series_told = livevec_series_value(&series, LIVEVEC_SUM, 0, 100)).refusal; }
+static uint32_t series_sum(void) { return (series_summed = livevec_series_exact_sum(&series, 0, 100)).refusal; }
 static uint32_t series_ask(void) { return (series_told = livevec_series_ask(&series, 0, 100)).refusal; }
 
 static uint32_t series_write_many(void)
@@ -114,6 +120,8 @@ static bool is_run_subtree(void) { return livevec_accept_subtree(&vector, &batch
 static bool is_board(void) { return livevec_board_sit(&board, &seat) == LIVEVEC_OK; }
 static bool is_seat(void) { return livevec_seat_push(&seat, 42, 1).edit == 1; }
 static bool is_pushed_many(void) { return pushed_many.pushed == 100 && pushed_many.edit == 108 && seen().sum == 108; }
+static bool is_saved(void) { return vector_saved.length == sizeof saved && vector_saved.edit == 8 && saved[0] == 'l'; }
+static bool is_pushed_saved(void) { return pushed_many.pushed == 8 && pushed_many.edit == 16 && seen().sum == 16; }
 static bool is_written_many(void) { return written_many.done == 100 && written_many.edit == 108 && seen().sum == 8; }
 static bool is_series(void) { return seen().has_series && livevec_series_edits(&series).value == 0; }
 static bool is_series_first(void) { return series_edited.edit == 1 && series_edited.place == 0 && livevec_series_size(&series).value == 1; }
@@ -121,6 +129,7 @@ static bool is_series_ninth(void) { return series_edited.edit == 9 && livevec_se
 static bool is_series_expired(void) { return series_edited.edit == MANY + 1 && livevec_series_first(&series).value == MANY - 1; }
 static bool is_series_written_many(void) { return series_written.done == 100 && series_written.edit == 108 && seen().series_sum == 8; }
 static bool is_series_told(void) { return series_told.values.sum == 100 && series_told.edit == 100; }
+static bool is_series_summed(void) { return series_summed.sum.low == 100 && series_summed.sum.high == 0 && series_summed.edit == 100; }
 static bool is_series_prepared(void) { return livevec_series_value(&series, LIVEVEC_BEST, 0, 100).values.best_low == 100; }
 
 static bool is_series_found(void) { return series_found.lo == 0 && series_found.hi == 100 && series_found.sum_low == 100; }
@@ -176,6 +185,8 @@ static const struct {
     {"livevec_board_close", pushed, close_board, is_closed},
     {"livevec_push_many", eight, push_many, is_pushed_many},
     {"livevec_write_many", eight, write_many, is_written_many},
+    {"livevec_save", eight, save, is_saved},
+    {"livevec_push_saved", eight_saved, push_saved, is_pushed_saved},
     {"livevec_series_new", nothing, new_series, is_series},
     {"livevec_series_push, the first", with_series, series_push, is_series_first},
     {"livevec_series_push_many from nothing", with_series, series_push_many, is_series_pushed},
@@ -190,6 +201,7 @@ static const struct {
     {"livevec_series_prepare", treeless, series_prepare, is_series_prepared},
     {"livevec_series_value, the first", treeless, series_value, is_series_told},
     {"livevec_series_ask, the first", treeless, series_ask, is_series_told},
+    {"livevec_series_exact_sum, the first", treeless, series_sum, is_series_summed},
     {"livevec_series_where_best, the first", treeless, series_where, is_series_found},
     {"livevec_series_save", eight_in_series, series_save, is_series_saved},
     {"livevec_series_begin_load", nothing, begin_load, is_begun},

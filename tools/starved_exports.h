@@ -197,6 +197,13 @@ static void with_loader(void)
     livevec_series_begin_load(&series);
 }
 
+/* A vector of eight elements 1, and their bytes. */
+static void eight_saved(void)
+{
+    eight();
+    livevec_save(&vector, 0, saved, sizeof saved);
+}
+
 /* A vector of eight elements, and a set of one query, of their sum. */
 static void watched(void)
 {

@@ -1,8 +1,9 @@
 /* The functions of livevec.h: each answers LIVEVEC_NULL where a pointer is null, and else calls the proved export of its name, or one that is
  * told by a number or a choice what is meant: which edit, kind, count or sort of slot. Where that answers more, the function copies its part.
- * Here stand those of vectors, jobs and outcomes; the others in livevec_many.c, livevec_scans.c and the files of summaries, queries, boards,
- * series, samples and transcripts. Those of many elements at once are one proved call, but for questions, which walk over their ranges, and
- * pushes of many samples; and two of summaries make a proved call for up to 1,024. These files are C, so no proof covers them. */
+ * Here stand those of vectors, jobs and outcomes; the others in livevec_many.c, livevec_scans.c and the files of exact sums, saved vectors,
+ * summaries, queries, boards, series, samples and transcripts. Those of many elements at once are one proved call, but for questions, which walk
+ * over their ranges, and pushes of many samples; two of summaries make a proved call for up to 1,024. An exact sum computes with what several
+ * proved calls answer, and a vector's bytes go by way of a series. These files are C, so no proof covers them. */
 #include "livevec_slots.h"
 
 const char *livevec_version(void)
@@ -31,7 +32,7 @@ const char *livevec_refusal_text(uint32_t refusal)
     case LIVEVEC_CONTENDED: return "contended: another seat's edit came first";
     case LIVEVEC_OVERTAKEN: return "overtaken: a later edit wrote there";
     case LIVEVEC_EARLIER: return "a time before that of the last sample";
-    case LIVEVEC_NOT_SAVED: return "bytes that are no saved series, or no saved samples";
+    case LIVEVEC_NOT_SAVED: return "bytes that are no saved vector, series or samples";
     case LIVEVEC_NO_HANDLE: return "an empty slot, or one that holds something else";
     case LIVEVEC_NULL: return "a null pointer";
     case LIVEVEC_SHORT_BUFFER: return "a buffer shorter than the values";

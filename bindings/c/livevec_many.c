@@ -1,8 +1,6 @@
 /* Many pushes, writes and questions of a vector by one call. */
 #include "livevec_slots.h"
 
-/* All pushes at once, or all writes, or none. As many values as indices are handed over. A proved call is never given a null pointer. */
-livevec_many livevec_proved_edit_all(livevec_vector *slot, bool pushes, const uint32_t *indices, size_t places, const int64_t *values, size_t length);
 static const uint32_t no_index[1];
 static const int64_t no_value[1];
 
@@ -14,10 +12,7 @@ livevec_pushed livevec_push_many(livevec_vector *slot, const int64_t *values, si
     if (!enter(&slot->busy_))
         return (livevec_pushed){.refusal = LIVEVEC_BUSY};
     LEAVES(left, slot);
-    if (!length)
-        return (livevec_pushed){.refusal = livevec_proved_count(slot, A_VECTOR, ELEMENTS).refusal};
-    livevec_many told = livevec_proved_edit_all(slot, true, no_index, 0, values, length);
-    return (livevec_pushed){.refusal = told.refusal, .detail = told.detail, .edit = told.edit, .pushed = (uint32_t)told.done};
+    return push_all(slot, values, length);
 }
 
 livevec_many livevec_write_many(livevec_vector *slot, const uint32_t *indices, const int64_t *values, size_t length)

@@ -3,12 +3,8 @@
 
 /* What samples and a series have in common is done at `values`. The proved exports know one type of slot. */
 livevec_series_edited livevec_proved_samples_edit(livevec_series *slot, bool expires, int64_t time, int64_t value);
-livevec_sample livevec_proved_series_get(livevec_series *slot, uint64_t index, bool timed);
 livevec_series_scanned livevec_proved_series_read(livevec_series *slot, bool times, uint64_t lo, uint64_t hi, int64_t *buffer, size_t length);
 livevec_window livevec_proved_samples_window(livevec_series *slot, bool last, int64_t since, int64_t until, uint64_t span);
-livevec_series_scanned livevec_proved_series_save(livevec_series *slot, uint64_t from, uint8_t *buffer, size_t length);
-uint32_t livevec_proved_series_load(livevec_series *slot, const uint8_t *bytes, size_t length);
-uint32_t livevec_proved_series_end_load(livevec_series *slot, bool timed);
 
 /* `livevec_NAME` at the values of samples. */
 #define AT_VALUES(answer, as, name, parameters, as_slot, call) ENTERED(answer, as, name, parameters, THERE(slot), &slot->values, as_slot, call)

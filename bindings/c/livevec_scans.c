@@ -1,28 +1,6 @@
 /* The elements of a range, and its running values, into buffers. */
 #include "livevec_slots.h"
 
-/* What refuses a range of a slot that is entered, for a buffer of so many values. */
-static livevec_scanned judge(livevec_vector *slot, uint32_t lo, uint32_t hi, size_t length)
-{
-    livevec_scanned answer = {LIVEVEC_OK, 0, 0, 0};
-    livevec_series_count size = livevec_proved_count(slot, A_VECTOR, ELEMENTS);
-    if (size.refusal) {
-        answer.refusal = size.refusal;
-    } else if (hi < lo) {
-        answer.refusal = LIVEVEC_BAD_RANGE;
-    } else if (hi > size.value) {
-        answer.refusal = LIVEVEC_OUT_OF_RANGE;
-        answer.detail = (uint32_t)size.value;
-    } else if (length < hi - lo) {
-        answer.refusal = LIVEVEC_SHORT_BUFFER;
-        answer.detail = hi - lo;
-    } else {
-        answer.edit = (uint32_t)livevec_proved_count(slot, A_VECTOR, ACCEPTED).value;
-        answer.length = hi - lo;
-    }
-    return answer;
-}
-
 /* `livevec_NAME` fills a buffer, each place i by `value`. A null buffer takes no values. */
 #define FILLED(name, type, filling)                                                                            \
     livevec_scanned livevec_##name(livevec_vector *slot, uint32_t lo, uint32_t hi, type *buffer, size_t length) \
@@ -34,7 +12,7 @@ static livevec_scanned judge(livevec_vector *slot, uint32_t lo, uint32_t hi, siz
         if (!enter_to_read(&slot->busy_))                                                                              \
             return answer;                                                                                     \
         LEAVES(left, slot);                                                                                    \
-        answer = judge(slot, lo, hi, length);                                                                  \
+        answer = judge_range(slot, lo, hi, length);                                                            \
         for (uint32_t i = 0; i < answer.length; i++)                                                           \
             buffer[i] = filling;                                                                               \
         return answer;                                                                                         \

@@ -20,9 +20,6 @@ COUNTED(livevec_series_count, series_size, livevec_series, A_SERIES, BEHIND_LAST
 COUNTED(livevec_series_count, series_edits, livevec_series, A_SERIES, SERIES_ACCEPTED)
 COUNTED(livevec_series_count, series_saved_length, livevec_series, A_SERIES, SAVED_BYTES)
 
-/* An element of a series, or of samples with its time. */
-livevec_sample livevec_proved_series_get(livevec_series *slot, uint64_t index, bool timed);
-
 livevec_series_element livevec_series_get(livevec_series *slot, uint64_t index)
 {
     if (!slot)
@@ -37,9 +34,7 @@ livevec_series_element livevec_series_get(livevec_series *slot, uint64_t index)
 /* Of arrays a proved call is never given a null pointer: where there are no places, they begin anywhere. */
 livevec_series_scanned livevec_proved_series_read(livevec_series *slot, bool times, uint64_t lo, uint64_t hi, int64_t *buffer, size_t length);
 
-/* All pushes at once, or all writes, or none. As many values as indices are handed over. */
-livevec_series_many livevec_proved_series_edit_all(livevec_series *slot, bool pushes, const uint64_t *indices, size_t places, const int64_t *values,
-                                                   size_t length);
+/* All pushes at once, or all writes, or none. */
 static const uint64_t no_index[1];
 static const int64_t no_value[1];
 
@@ -77,13 +72,6 @@ livevec_series_scanned livevec_series_read(livevec_series *slot, uint64_t lo, ui
     LEAVES(left, slot);
     return livevec_proved_series_read(slot, false, lo, hi, buffer ? buffer : &nowhere, length);
 }
-
-/* The elements that a proved call lends. It is given some to begin with, of which there are none. */
-struct lent {
-    const int64_t *elements;
-    size_t length;
-};
-livevec_series_scanned livevec_proved_series_lend(livevec_series *slot, uint64_t lo, uint64_t hi, struct lent *lent);
 
 livevec_series_view livevec_series_lend(livevec_series *slot, uint64_t lo, uint64_t hi)
 {

@@ -298,6 +298,57 @@ livevec_series_count livevec_proved_count(void *slot, uint32_t sort, uint32_t wh
         return (answer){.refusal = told.refusal, .value = told.value};      \
     }
 
+/* What refuses a range of a vector whose slot is entered, for a buffer of so many values. */
+static inline livevec_scanned judge_range(livevec_vector *slot, uint32_t lo, uint32_t hi, size_t length)
+{
+    livevec_scanned answer = {LIVEVEC_OK, 0, 0, 0};
+    livevec_series_count size = livevec_proved_count(slot, A_VECTOR, ELEMENTS);
+    if (size.refusal) {
+        answer.refusal = size.refusal;
+    } else if (hi < lo) {
+        answer.refusal = LIVEVEC_BAD_RANGE;
+    } else if (hi > size.value) {
+        answer.refusal = LIVEVEC_OUT_OF_RANGE;
+        answer.detail = (uint32_t)size.value;
+    } else if (length < hi - lo) {
+        answer.refusal = LIVEVEC_SHORT_BUFFER;
+        answer.detail = hi - lo;
+    } else {
+        answer.edit = (uint32_t)livevec_proved_count(slot, A_VECTOR, ACCEPTED).value;
+        answer.length = hi - lo;
+    }
+    return answer;
+}
+
+/* All pushes at once, or all writes, or none. As many values as indices are handed over. A proved call is never given a null pointer. */
+livevec_many livevec_proved_edit_all(livevec_vector *slot, bool pushes, const uint32_t *indices, size_t places, const int64_t *values, size_t length);
+
+/* Pushes some elements at a vector whose slot is entered: all or none. */
+static inline livevec_pushed push_all(livevec_vector *slot, const int64_t *values, size_t length)
+{
+    static const uint32_t no_index[1];
+    if (!length)
+        return (livevec_pushed){.refusal = livevec_proved_count(slot, A_VECTOR, ELEMENTS).refusal};
+    livevec_many told = livevec_proved_edit_all(slot, true, no_index, 0, values, length);
+    return (livevec_pushed){.refusal = told.refusal, .detail = told.detail, .edit = told.edit, .pushed = (uint32_t)told.done};
+}
+
+/* The same of a series, in 64 bits. */
+livevec_series_many livevec_proved_series_edit_all(livevec_series *slot, bool pushes, const uint64_t *indices, size_t places, const int64_t *values,
+                                                   size_t length);
+
+/* The elements that a proved call lends. It is given some to begin with, of which there are none. */
+struct lent {
+    const int64_t *elements;
+    size_t length;
+};
+livevec_series_scanned livevec_proved_series_lend(livevec_series *slot, uint64_t lo, uint64_t hi, struct lent *lent);
+
+/* Series and samples as bytes, and back. */
+livevec_series_scanned livevec_proved_series_save(livevec_series *slot, uint64_t from, uint8_t *buffer, size_t length);
+uint32_t livevec_proved_series_load(livevec_series *slot, const uint8_t *bytes, size_t length);
+uint32_t livevec_proved_series_end_load(livevec_series *slot, bool timed);
+
 /* The plain values of a range: by one kind; by all six, each by its tree; or by all six, as they are kept. */
 #define BY_KIND false, false
 #define BY_TREES true, true
@@ -308,5 +359,8 @@ livevec_series_reduced livevec_proved_series_value(livevec_series *slot, bool si
 
 /* An element of a vector, or of a closed board. */
 livevec_element livevec_proved_get(void *slot, uint32_t sort, uint32_t index);
+
+/* An element of a series, or of samples with its time. */
+livevec_sample livevec_proved_series_get(livevec_series *slot, uint64_t index, bool timed);
 
 #endif

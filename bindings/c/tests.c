@@ -270,7 +270,7 @@ static void words(void)
     IS(strcmp(livevec_refusal_text(LIVEVEC_BUSY), "another call is under way at the slot"), 0);
     IS(strcmp(livevec_refusal_text(LIVEVEC_BAD_KIND), "a number that is no kind, or a kind that the vector is not of"), 0);
     IS(strcmp(livevec_refusal_text(LIVEVEC_EARLIER), "a time before that of the last sample"), 0);
-    IS(strcmp(livevec_refusal_text(LIVEVEC_NOT_SAVED), "bytes that are no saved series, or no saved samples"), 0);
+    IS(strcmp(livevec_refusal_text(LIVEVEC_NOT_SAVED), "bytes that are no saved vector, series or samples"), 0);
     IS(strcmp(livevec_refusal_text(99), "unknown"), 0);
 }
 
@@ -300,7 +300,9 @@ int main(void)
     series_places();
     lent();
     samples();
+    exact_sums();
     saved();
+    saved_vectors();
     transcripts();
     shared_forms();
     printf("%d checks, %d failed\n", checks, failures);

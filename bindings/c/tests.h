@@ -28,6 +28,9 @@ void beside(void);
 /* The tests of questions by one kind, one or many at once. */
 void kinds(void);
 
+/* The tests of exact sums. */
+void exact_sums(void);
+
 /* The tests of many writes and pushes at once. */
 void many_writes(void);
 
@@ -59,8 +62,9 @@ void lent(void);
 /* The tests of samples and windows of time. */
 void samples(void);
 
-/* The tests of series and samples as bytes. */
+/* The tests of series and samples as bytes, and of vectors. */
 void saved(void);
+void saved_vectors(void);
 
 /* The tests of standing queries. */
 void queries(void);

@@ -56,8 +56,9 @@ static uint32_t read_nth(int i)
     livevec_values values[2] = {{.sum = 0}};
     int64_t elements[9];
     uint64_t sums[9];
+    uint8_t bytes[88];
     livevec_reduced r = {.refusal = 0};
-    switch (i % 8) {
+    switch (i % 10) {
     case 0: r = livevec_reduce(&shared, 1, ELEMENTS); return r.refusal ? r.refusal : r.values.sum != ELEMENTS - 1;
     case 1: r = livevec_ask(&shared, 0, 7); return r.refusal ? r.refusal : r.values.sum != 7;
     case 2: r = livevec_value(&shared, LIVEVEC_BEST, 5, 605); return r.refusal ? r.refusal : r.values.best_low != 600;
@@ -76,6 +77,14 @@ static uint32_t read_nth(int i)
     case 6: {
         livevec_scanned scan = livevec_scan_inclusive_sum(&shared, 2, 11, sums, 9);
         return scan.refusal ? scan.refusal : sums[8] != 9;
+    }
+    case 7: {
+        livevec_summed sum = livevec_exact_sum(&shared, 3, 700);
+        return sum.refusal ? sum.refusal : sum.sum.low != 697 || sum.sum.high;
+    }
+    case 8: {
+        livevec_scanned did = livevec_save(&shared, 0, bytes, sizeof bytes);
+        return did.refusal ? did.refusal : did.length != sizeof bytes || bytes[80] != 1;
     }
     default: {
         livevec_count size = livevec_size(&shared);

@@ -142,9 +142,51 @@ static void adds_up_exactly()
     IS(wide.total(3, 5) == livevec::int128(least) - 1 && wide.summarise(0, 3).total() == livevec::int128(most) * 3);
     IS(livevec::vector(numbers(1000, most)).total(0, 1000) == livevec::int128(most) * 1000);
     IS(livevec::vector(numbers(1000, least)).total(0, 1000) == livevec::int128(least) * 1000);
+    // two sums of 16,384 and of some more tell this one; of one kind, the elements are gone through
+    const std::int64_t far = std::int64_t(1) << 50;
+    numbers apart(20000, far);
+    apart[7] = 0;
+    IS(livevec::vector(apart).total(0, 20000) == livevec::int128(far) * 19999 && livevec::series(apart).total(0, 20000) == livevec::int128(far) * 19999);
+    livevec::vector only(livevec::kind::sum);
+    only.push_many({most, most, least});
+    IS(only.total(0, 2) == livevec::int128(most) * 2 && only.total(1, 3) == -1 && refusal_of([&] { (void)only.total(2, 1); }) == LIVEVEC_BAD_RANGE);
     IS(said_by<std::out_of_range>([&] { (void)wide.total(0, 6); }) == "out of range: past the end (range 0 to 6, size 5)");
     livevec::shared_vector shared(livevec::vector{most, most, -5});
     IS(shared.total(0, 3) == livevec::int128(most) * 2 - 5 && shared.sum(1, 3) == most - 5 && shared.unsigned_sum(2, 3) == std::uint64_t(-5));
+}
+
+/* A vector as bytes: all, in pieces, and back; into a series, and from one. */
+static void as_bytes()
+{
+    const numbers elements{9, -20, INT64_MIN, 19};
+    livevec::vector vector(elements);
+    vector.push(1);
+    vector.pop();
+    const std::vector<std::uint8_t> bytes = vector.save();
+    IS(bytes.size() == 88 + 4 * 8 && vector.saved_length() == bytes.size() && bytes[16] == 1 && bytes[24] == 0 && bytes[32] == 4 && bytes[80] == 9);
+    std::vector<std::uint8_t> pieces, room(37);
+    for (std::size_t took; (took = vector.save_into(pieces.size(), room));)
+        pieces.insert(pieces.end(), room.begin(), room.begin() + static_cast<std::ptrdiff_t>(took));
+    IS(pieces == bytes && refusal_of([&] { (void)vector.save_into(4, room); }) == LIVEVEC_BAD_RANGE);
+    const livevec::vector back = livevec::vector::load(bytes, {1, 5});
+    IS(back.elements() == elements && back.edits() == 4 && back.save() == bytes && livevec::series::load(bytes).elements() == elements);
+    livevec::loading<livevec::vector> loading;
+    for (std::uint8_t byte : bytes)
+        loading.give(livevec::byte_view(&byte, 1));
+    IS(loading.end() == back && refusal_of([&] { (void)loading.end(); }) != 0);
+    livevec::series readings(elements);
+    readings.expire(1);
+    livevec::vector two(livevec::limits{1, 9});
+    two.push_saved(readings.save());
+    two.push_saved(bytes);
+    IS((two.elements() == numbers{-20, INT64_MIN, 19, 9, -20, INT64_MIN, 19}) && two.edits() == 7);
+    IS(refusal_of([&] { two.push_saved(bytes); }) == LIVEVEC_FULL && two.edits() == 7);
+    IS(refusal_of([&] { (void)livevec::vector::load(bytes, {1, 3}); }) == LIVEVEC_WORN);
+    std::vector<std::uint8_t> wrong = bytes;
+    wrong[81] ^= 1;
+    IS(refusal_of([&] { two.push_saved(wrong); }) == LIVEVEC_NOT_SAVED && refusal_of([] { (void)livevec::vector::load({}); }) == LIVEVEC_NOT_SAVED);
+    IS(refusal_of([] { (void)livevec::vector::load(livevec::samples{{1, 2}}.save()); }) == LIVEVEC_NOT_SAVED && two.size() == 7);
+    IS(said_by<std::runtime_error>([&] { (void)livevec::vector::load(wrong); }) == "bytes that are no saved vector, series or samples");
 }
 
 static void is_asked_by_one_kind()
@@ -330,6 +372,7 @@ int main()
     takes_ranges_of_integers();
     throws_what_the_library_throws();
     adds_up_exactly();
+    as_bytes();
     is_cloned_and_compared();
     is_scanned();
     is_scanned_into_columns();

@@ -169,13 +169,14 @@ static void each_form_as_alone()
     as_alone(livevec::samples(times, elements));
     const shared<livevec::vector> vector{livevec::vector(elements)};
     IS(vector.capacity() == 8 && vector.summarise(0, 3).total() == 6 && vector.at(5) == 9);
+    IS(livevec::vector::load(vector.save()) == vector.clone() && vector.edits() == 8);
     shared<livevec::series> series{livevec::series(elements)};
     series.prepare(kind::best);
     IS(livevec::series::load(series.save()) == series.clone() && series.length() == 8);
     const shared<livevec::samples> load{livevec::samples(times, elements)};
     IS((load.times(1, 4) == list{5, 5, 10} && load.between(5, 10).lo == 1 && load.last(10).lo == 6 && load.last(10).edit == 8));
     IS(livevec::samples::load(load.save()) == load.clone() && load.clone() != livevec::samples(times, list(8)));
-    // sums that 64 bits don't hold, told by bounds, and by reading where the bounds leave it open
+    // sums that 64 bits don't hold, told by bounds, and element by element where these leave it open
     const list large{INT64_MAX, INT64_MAX - 7, INT64_MAX}, apart{INT64_MAX, INT64_MIN, INT64_MAX};
     IS(livevec::series(large).total(0, 3) == livevec::int128(INT64_MAX) * 3 - 7 && livevec::vector(large).total(0, 3) == livevec::int128(INT64_MAX) * 3 - 7);
     IS(livevec::series(apart).total(0, 3) == livevec::int128(INT64_MAX) - 1 && livevec::vector(apart).total(0, 3) == livevec::int128(INT64_MAX) - 1);

@@ -99,6 +99,11 @@ static void of_bytes(size_t length)
     IS(livevec_series_begin_load(&s), 0);
     IS(livevec_series_load(&s, byte, length), LIVEVEC_TOO_LONG);
     IS(livevec_free_series(&s), 0);
+    IS(livevec_new(&v, 2, 9), 0);
+    IS(livevec_push_saved(&v, byte, length).refusal, LIVEVEC_TOO_LONG);
+    IS(livevec_save(&v, 0, &(uint8_t){0}, length).refusal, LIVEVEC_TOO_LONG);
+    IS(livevec_edits(&v).value, 0);
+    IS(livevec_free(&v), 0);
 }
 
 void lengths(void)

@@ -1,29 +1,23 @@
 /* Series and samples as bytes: beside bytes that are laid out here by loops, as docs/formats.md says. */
 #include "tests.h"
 #include "tests_plain.h"
+#include "tests_saved.h"
 
 #include <stdlib.h>
 #include <string.h>
 
-enum { ROOM = 88 + 16 * 600, KINDS = 6 };
+enum { KINDS = 6 };
 
 static uint64_t state = 41;
 
-/* What a slot should be saved as: so many elements from `first` on after so many edits, with times or without. */
-typedef struct twin {
-    uint64_t first, size, edits;
-    bool timed;
-    int64_t values[600], times[600];
-} twin;
-
-static uint64_t put(uint8_t *bytes, uint64_t at, uint64_t number)
+uint64_t put_number(uint8_t *bytes, uint64_t at, uint64_t number)
 {
     for (int i = 0; i < 8; i++)
         bytes[at + i] = (uint8_t)(number >> 8 * i);
     return at + 8;
 }
 
-static uint64_t checksum(const uint8_t *bytes, uint64_t length)
+uint64_t checksum_of(const uint8_t *bytes, uint64_t length)
 {
     uint64_t sum = 14695981039346656037u;
     for (uint64_t i = 0; i < length; i++)
@@ -31,24 +25,23 @@ static uint64_t checksum(const uint8_t *bytes, uint64_t length)
     return sum;
 }
 
-/* Its bytes, and how many they are. */
-static uint64_t laid_out(const twin *t, uint8_t *bytes)
+uint64_t laid_out(const twin *t, uint8_t *bytes)
 {
     uint64_t count = t->size - t->first, at = 0;
     memcpy(bytes, "livevec:", 8);
-    at = put(bytes, 8, 1);
-    at = put(bytes, at, t->timed ? 2 : 1);
-    at = put(bytes, at, t->first);
-    at = put(bytes, at, t->edits);
-    at = put(bytes, at, count);
+    at = put_number(bytes, 8, 1);
+    at = put_number(bytes, at, t->timed ? 2 : 1);
+    at = put_number(bytes, at, t->first);
+    at = put_number(bytes, at, t->edits);
+    at = put_number(bytes, at, count);
     for (int rest = 0; rest < 4; rest++)
         for (int q = 0; q < 8; q++)
             bytes[at++] = (uint8_t)((2 * q + rest) % 8);
     for (uint64_t i = 0; i < count; i++)
-        at = put(bytes, at, (uint64_t)t->values[t->first + i]);
+        at = put_number(bytes, at, (uint64_t)t->values[t->first + i]);
     for (uint64_t i = 0; t->timed && i < count; i++)
-        at = put(bytes, at, (uint64_t)t->times[t->first + i]);
-    return put(bytes, at, checksum(bytes, at));
+        at = put_number(bytes, at, (uint64_t)t->times[t->first + i]);
+    return put_number(bytes, at, checksum_of(bytes, at));
 }
 
 /* Some series, or samples, and its twin: so many pushes, then an expiry, a pop and a write. */
@@ -106,17 +99,17 @@ static uint32_t load(livevec_samples *s, bool timed, const uint8_t *bytes, uint6
 /* What a slot holds is the twin's, by all that it can be asked. */
 static void holds(livevec_samples *s, const twin *t)
 {
-    int64_t read[600];
+    int64_t read[TWIN_ROOM];
     uint64_t count = t->size - t->first;
     livevec_table table = usual_table();
     livevec_values all = plainly(t->values + t->first, count, &table);
     IS(livevec_series_first(&s->values).value, t->first);
     IS(livevec_series_size(&s->values).value, t->size);
     IS(livevec_series_edits(&s->values).value, t->edits);
-    IS(livevec_series_read(&s->values, t->first, t->size, read, 600).length, count);
+    IS(livevec_series_read(&s->values, t->first, t->size, read, TWIN_ROOM).length, count);
     IS(memcmp(read, t->values + t->first, count * 8), 0);
     if (t->timed) {
-        IS(livevec_samples_times(s, t->first, t->size, read, 600).length, count);
+        IS(livevec_samples_times(s, t->first, t->size, read, TWIN_ROOM).length, count);
         IS(memcmp(read, t->times + t->first, count * 8), 0);
     }
     alike(livevec_series_reduce(&s->values, t->first, t->size).values, all);
@@ -212,8 +205,8 @@ static void false_bytes(void)
     livevec_samples s = {0};
     for (size_t i = 0; i < sizeof numbers / sizeof *numbers; i++) {
         uint64_t length = laid_out(&t, bytes);
-        put(bytes, numbers[i].at, numbers[i].number);
-        put(bytes, length - 8, checksum(bytes, length - 8));
+        put_number(bytes, numbers[i].at, numbers[i].number);
+        put_number(bytes, length - 8, checksum_of(bytes, length - 8));
         is_not_saved(false, bytes, length);
         is_not_saved(true, bytes, length);
     }
@@ -222,8 +215,8 @@ static void false_bytes(void)
     holds(&s, &t);
     IS(livevec_free_samples(&s), 0);
     t.first = (1ull << 62) - 5;
-    put(bytes, 24, t.first);
-    put(bytes, length - 8, checksum(bytes, length - 8));
+    put_number(bytes, 24, t.first);
+    put_number(bytes, length - 8, checksum_of(bytes, length - 8));
     IS(load(&s, true, bytes, length, 100), 0);
     IS(livevec_series_size(&s.values).value, 1ull << 62);
     IS(livevec_samples_push(&s, 9, 9).refusal, LIVEVEC_FULL);

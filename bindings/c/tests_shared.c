@@ -48,6 +48,46 @@ static void enters_and_leaves(void)
     IS(livevec_free(&v), 0);
 }
 
+/* A thread that has entered takes exact sums, saves the elements, and pushes what was saved: a subscriber is told of that as of any edit. */
+static void saves_and_adds_up(void)
+{
+    livevec_vector v = {0};
+    livevec_shared shared = {0};
+    livevec_queries sum = {0};
+    livevec_subscriber alerts = {0};
+    livevec_note notes[1];
+    uint8_t bytes[88 + 8 * 2];
+    begin(&shared, &v, 100);
+    watch(&sum, "sum", LIVEVEC_SUM);
+    IS(livevec_shared_subscribe(&shared, &alerts, &sum), 0);
+    IS(push(&shared, &v, INT64_MAX), 1);
+    IS(push(&shared, &v, 4), 2);
+    IS(livevec_shared_enter(&shared), 0);
+    livevec_summed all = livevec_exact_sum(&v, 0, 2);
+    IS(all.edit, 2);
+    IS(all.sum.low, (uint64_t)INT64_MAX + 4);
+    IS(all.sum.high, 0);
+    IS(livevec_save(&v, 0, bytes, sizeof bytes).length, sizeof bytes);
+    livevec_left left = livevec_shared_leave(&shared);
+    IS(left.is_edited, false);
+    IS(livevec_shared_enter(&shared), 0);
+    IS(livevec_push_saved(&v, bytes, sizeof bytes).pushed, 2);
+    all = livevec_exact_sum(&v, 0, 4);
+    IS(all.sum.low, 6); /* twice the greatest is 2^64 - 2 */
+    IS(all.sum.high, 1);
+    left = livevec_shared_leave(&shared);
+    IS(left.is_edited, true);
+    IS(left.edit, 4);
+    livevec_told told = livevec_subscriber_look(&alerts, notes, 1);
+    IS(told.edit, 4);
+    IS(told.count, 1);
+    IS(notes[0].values.sum, 6);
+    IS(livevec_free_subscriber(&alerts), 0);
+    IS(livevec_free_queries(&sum), 0);
+    IS(livevec_free_shared(&shared), 0);
+    IS(livevec_free(&v), 0);
+}
+
 /* Subscribers of a vector: what they look at, what they are refused, and what they are told at the end. */
 static void tells_of_a_vector(void)
 {
@@ -348,6 +388,7 @@ static void wants_memory(void)
 void shared_forms(void)
 {
     enters_and_leaves();
+    saves_and_adds_up();
     tells_of_a_vector();
     tells_what_is_refused();
     tells_of_a_series();

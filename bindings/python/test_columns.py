@@ -98,6 +98,13 @@ class Many(unittest.TestCase):
         high = [2**62 + k for k in range(1000)]
         self.assertEqual((Series(high).total(), Vector(high, kind="sum").total(), Vector([-it for it in high]).total()), (sum(high), sum(high), -sum(high)))
         self.assertNotEqual(Series(high).sum(), sum(high))
+        # told in pieces: of 16,384 elements, of 128, of 64, and of one
+        for far in (2**50, 2**57, 2**58, 2**60, 2**63):
+            apart = [-5 if k % 7 else far - 5 for k in range(20000)]
+            for holder in (Vector(apart), Series(apart), Vector(apart, kind="best")):
+                self.assertEqual((holder.total(), holder.total(3, 19999), holder.total(9, 9)), (sum(apart), sum(apart[3:19999]), 0))
+                self.assertRaises((OutOfRange, NotKept), holder.total, 0, 20001)
+                self.assertRaises(BadRange, holder.total, 3, 2)
         for elements in (high, [-it for it in high], self.all, [5], []):
             self.assertEqual((Summary(elements).total, Summary(elements[:3]).join(Vector(elements[3:]).summary()).total), (sum(elements),) * 2)
         self.assertRaises(BadRange, self.series.total, 9, 8)

@@ -1,4 +1,4 @@
-"""Series and samples as bytes, beside bytes that are laid out here as docs/formats.md of the repository says.
+"""Vectors, series and samples as bytes, beside bytes that are laid out here as docs/formats.md of the repository says.
 
 usage: python3 -m unittest test_saved
 """
@@ -9,7 +9,7 @@ from array import array
 from typing import Any
 
 import livevec
-from livevec import BadRange, Earlier, NotSaved, Samples, Series
+from livevec import BadRange, Earlier, NotSaved, Samples, Series, SharedVector, Vector
 
 
 USUAL = bytes((2 * state + rest) % 8 for rest in range(4) for state in range(8))
@@ -83,7 +83,26 @@ class Saved(unittest.TestCase):
         class Readings(Series):
             pass
 
+        class Prices(Vector):
+            pass
+
         self.assertIs(type(Readings.load(Series([1]).save())), Readings)
+        self.assertIs(type(Prices.load(Series([1]).save())), Prices)
+
+    def test_a_push_after_the_length_was_told_is_saved_too(self) -> None:
+        def pushed_late(of: Any) -> Any:
+            class Late(of):  # type: ignore[misc, valid-type]
+                @property
+                def saved_length(self) -> int:
+                    length: int = super().saved_length
+                    if len(self) < 5:
+                        self.extend([7, 8])
+                    return length
+
+            return Late([1, 2])
+
+        for of in (Vector, Series):
+            self.assertEqual(list(of.load(pushed_late(of).save())), [1, 2, 7, 8, 7, 8])
 
     def test_other_bytes_are_refused(self) -> None:
         (_, of_series), (_, of_samples) = self.both(9, 2)
@@ -96,12 +115,68 @@ class Saved(unittest.TestCase):
             self.assertRaises(NotSaved, of.load, saved + b"\0")
         with self.assertRaises(NotSaved) as caught:
             Series.load(of_samples)
-        self.assertEqual((caught.exception.number, str(caught.exception)), (22, "bytes that are no saved series, or no saved samples"))
+        self.assertEqual((caught.exception.number, str(caught.exception)), (22, "bytes that are no saved vector, series or samples"))
         self.assertIsInstance(caught.exception, ValueError)
         self.assertRaises(NotSaved, Samples.load, of_series)
         self.assertRaises(NotSaved, Samples.load_pieces, [])
         self.assertRaises(TypeError, Series.load, "livevec:")
         self.assertRaises(TypeError, Series.load_pieces, [of_series, 7])
+
+    def test_a_vector_is_saved_as_a_series_of_its_elements(self) -> None:
+        drawn = random.Random(19)
+        for count in (0, 1, 9, 1025):
+            values = [drawn.choice((2**63 - 1, -2**63, *range(-9, 10))) for _ in range(count)]
+            saved = laid_out(0, count, values)
+            vector = Vector([*values, 7], most_buckets=9, most_edits=5000)
+            vector.pop()
+            self.assertEqual((vector.save(), vector.saved_length, SharedVector(vector.copy()).save()), (saved, len(saved), saved))
+            room, pieces = bytearray(3001), b""
+            while many := vector.save_into(room, len(pieces)):
+                pieces += room[:many]
+            self.assertEqual(pieces, saved)
+            for back in (Vector.load(saved), Vector.load(bytearray(saved)), Vector.load(array("q", saved)), Vector.load_pieces([saved, b""]),
+                         Vector.load_pieces(saved[at : at + 7] for at in range(0, len(saved), 7))):
+                self.assertEqual((list(back), back.edits, back.sum()), (values, count, (sum(values) + 2**63) % 2**64 - 2**63))
+                back.push_saved(memoryview(saved))
+                self.assertEqual((list(back), back.edits), (values * 2, count * 2))
+            self.assertEqual(list(Series.load(saved)), values)
+
+    def test_a_vector_takes_what_a_series_has_kept(self) -> None:
+        (series, of_series), (_, of_samples) = self.both(70, 12)
+        self.assertEqual(list(Vector.load(of_series)), list(series))
+        table = [[3] * 4] * 8
+        for made in (Vector(kind="least", most_edits=58), Vector(table=table, most_edits=58)):
+            made.push_saved(of_series)
+            self.assertEqual((made.to_array(), made.least()), (series.to_array(), min(series)))
+            self.assertRaises(livevec.Worn, made.push_saved, of_series)
+            self.assertEqual((len(made), made.edits), (58, 58))
+        small = Vector([7], most_buckets=3)
+        through = iter(small)
+        with self.assertRaises(livevec.Full) as caught:
+            small.push_saved(of_series)
+        self.assertEqual((caught.exception.pushed, next(through), list(small), small.edits), (0, 7, [7], 1))
+        for at in range(len(of_series)):
+            wrong = bytearray(of_series)
+            wrong[at] ^= 1 << at % 8
+            self.assertRaises(NotSaved, small.push_saved, wrong)
+            self.assertRaises(NotSaved, Vector.load, of_series[:at])
+        self.assertRaises(NotSaved, Vector.load, of_series + b"\0")
+        self.assertRaises(NotSaved, small.push_saved, of_samples)
+        self.assertRaises(NotSaved, Vector.load_pieces, [])
+        self.assertRaises(TypeError, small.push_saved, "livevec:")
+        self.assertRaises(BadRange, small.save_into, bytearray(8), 4)
+        self.assertRaises(TypeError, small.save_into, bytes(8))
+        self.assertEqual((small.save_into(bytearray(8), 96), small.save_into(bytearray(7)), small.save_into(bytearray())), (0, 0, 0))
+        small.close()
+        for call in (small.save, lambda: small.save_into(bytearray(8)), lambda: small.saved_length, lambda: small.push_saved(of_series)):
+            self.assertRaises(livevec.Closed, call)
+
+    def test_an_edit_is_seen_while_elements_are_gone_through(self) -> None:
+        vector = Vector([1, 2])
+        through = iter(vector)
+        self.assertEqual(next(through), 1)
+        vector.push_saved(vector.save())
+        self.assertRaises(RuntimeError, next, through)
 
     def test_forged_bytes_are_loaded_where_they_are_those_of_some(self) -> None:
         drawn, loaded = random.Random(17), [0, 0]

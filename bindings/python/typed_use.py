@@ -31,6 +31,9 @@ def vectors(prices: Vector, some: Prices) -> None:
     many: list[Optional[int]] = prices.value_many(Kind.BEST, [(0, 1), (index, None)])
     prices.write_many([index, 0], every)
     again: Prices = some.copy()
+    again = Prices.load(some.save())
+    again.push_saved(memoryview(some.save()))
+    length: int = some.save_into(bytearray(8), 8) + some.saved_length + some.total(0, index)
     same: bool = again == prices
     numbers = [2 * price for price in prices] + [first, *part]
     prices += numbers
@@ -39,7 +42,7 @@ def vectors(prices: Vector, some: Prices) -> None:
     sums: memoryview = prices.scan_inclusive_by("sum", index).cells
     filled: int = prices.scan_exclusive_into(Kind.LEAST, every)
     kind: Optional[Kind] = Vector(numbers, kind="sum").kind
-    print(least, whole, last.best, why, same, one, many, sums, filled, kind)
+    print(least, whole, last.best, why, same, one, many, sums, filled, kind, length)
 
 
 def wrong_vectors(prices: Vector) -> None:

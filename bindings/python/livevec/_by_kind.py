@@ -11,7 +11,7 @@ from ._buffers import _address, _as_column
 from ._kinds import _Chosen, _kind_of, _Mapped, _Stated, _Summed, _Value, Kind
 from ._numbers import _as_i64, _whole
 from ._ranges import _as_rows, _as_table
-from ._refusals import BadKind, ShortBuffer
+from ._refusals import ShortBuffer
 from ._scans import _CELLS, Column
 from ._structures import _Values
 from ._values import BestRun, Placed, _cells_in, _signed, _value_of, _values_in
@@ -134,8 +134,9 @@ class _ByKind:
         """The sum of a range, exact however large it is: it never wraps.
 
         It is told by the sum modulo 2**64, the least and the greatest, so it costs three times what `value` does, and of a series makes those three
-        trees. Only where elements are so far apart that these leave it open (of n elements by more than 2**64 / n), or the vector is of one
-        kind, is the range read instead, which is linear. It is more than one call. Raises as `value`."""
+        trees. Only where elements are so far apart that these leave it open (of n elements by more than 2**64 / n), the range is added up in pieces
+        for which they don't: that is a sum more for each piece, and linear at most. Of a vector of one kind it is linear. One call of C. Raises
+        BadRange, then OutOfRange (NotKept of a series, then NoMemory)."""
         return self._total(lo, hi)
 
     # Where something is. It is found in steps of the kind's tree, so each of these costs what `value` does. Each raises what `value` does, too, and
@@ -230,22 +231,6 @@ class _ManyByKind(_ByKind):
         cut = min(max(start + window - lo, 0), hi - lo)
         starts = array(self._index_code, [start]) * cut + array(self._index_code, range(lo + cut + 1 - window, hi + 1 - window))
         return self._rolled(kind, starts, lo, hi, into)
-
-    def _total(self, lo: Optional[int], hi: Optional[int]) -> int:
-        lo, hi = self._range(lo, hi)
-        low = self._valued(Kind.SUM, lo, hi).sum
-        try:
-            least, greatest = (self._valued(kind, lo, hi) for kind in (Kind.LEAST, Kind.GREATEST))
-        except BadKind:
-            return sum(self.to_array(lo, hi))
-        lowest = (hi - lo) * least.least
-        # one number alone between these has the sum's low 64 bits
-        if (hi - lo) * greatest.greatest - lowest < 1 << 64:
-            return lowest + (low - lowest) % (1 << 64)
-        return sum(self.to_array(lo, hi))
-
-    def to_array(self, lo: Any = None, hi: Optional[int] = None) -> array[int]:
-        raise NotImplementedError
 
     # By what its parts have, the next six.
 

@@ -8,7 +8,7 @@ from ._kinds import _SEARCHES
 from ._library import _call, _i64, _pointer, _released, _size, _u32
 from ._structures import (
     _Accepted, _BoardSlot, _Claimed, _Count, _Edited, _Element, _Found, _JobSlot, _Many, _Opened, _OutcomeSlot, _Pushed, _Reduced, _Renewed,
-    _Scanned, _SeatSlot, _Summarised, _Table, _VectorSlot, _Verdict, _Vetted,
+    _Scanned, _SeatSlot, _Summarised, _Summed, _Table, _VectorSlot, _Verdict, _Vetted,
 )
 
 # its type is told, since other modules use it
@@ -26,14 +26,18 @@ _swap = _call("livevec_swap", _Edited, _slot, _u32, _u32)
 _truncate = _call("livevec_truncate", _Edited, _slot, _u32)
 _push_many = _call("livevec_push_many", _Pushed, _slot, _pointer, _size)
 _write_many = _call("livevec_write_many", _Many, _slot, _pointer, _pointer, _size, by=_released)
+_push_saved = _call("livevec_push_saved", _Pushed, _slot, _pointer, _size, by=_released)
 _get = _call("livevec_get", _Element, _slot, _u32)
 _read = _call("livevec_read", _Scanned, _slot, _u32, _u32, _pointer, _size)
+_save = _call("livevec_save", _Scanned, _slot, ctypes.c_uint64, _pointer, _size, by=_released)
+_saved_length = _call("livevec_saved_length", _Count, _slot)
 _count_size = _call("livevec_size", _Count, _slot)
 _count_capacity = _call("livevec_capacity", _Count, _slot)
 _count_edits = _call("livevec_edits", _Count, _slot)
 _reduce = _call("livevec_reduce", _Reduced, _slot, _u32, _u32)
 _ask = _call("livevec_ask", _Reduced, _slot, _u32, _u32)
 _value = _call("livevec_value", _Reduced, _slot, _u32, _u32, _u32)
+_exact_sum = _call("livevec_exact_sum", _Summed, _slot, _u32, _u32)
 _value_many = _call("livevec_value_many", _Many, _slot, _u32, _pointer, _pointer, _size, by=_released)
 _searches = {name: _call(f"livevec_where_{name}", _Found, _slot, _u32, _u32, *[_i64] * numbers) for name, numbers in _SEARCHES.items()}
 _scan_inclusive = _call("livevec_scan_inclusive", _Scanned, _slot, _u32, _u32, _pointer, _size)

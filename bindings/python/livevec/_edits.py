@@ -6,17 +6,18 @@ from typing import TYPE_CHECKING, Callable, Iterable, Optional, TypeVar
 
 from ._buffers import _address, _as_buffer
 from ._calls import (
-    _pop, _push, _push_many, _reserve, _swap, _truncate, _verdict_pop, _verdict_push, _verdict_reserve, _verdict_swap, _verdict_truncate,
+    _pop, _push, _push_many, _push_saved, _reserve, _swap, _truncate, _verdict_pop, _verdict_push, _verdict_reserve, _verdict_swap, _verdict_truncate,
     _verdict_write, _write, _write_many,
 )
 from ._elements import _Elements
 from ._numbers import _as_i64, _as_u32
 from ._ranges import _as_places
 from ._refusals import _PLACED, Closed, Refusal, _accepted, _refuse
+from ._saved import _bytes_of
 from ._structures import _Edited, _Pushed, _Verdict
 
 if TYPE_CHECKING:
-    from _typeshed import WriteableBuffer
+    from _typeshed import ReadableBuffer, WriteableBuffer
 
 _SomeVector = TypeVar("_SomeVector", bound="_Edits")
 
@@ -110,10 +111,21 @@ class _Edits(_Elements):
 
     def _extended(self, buffer: memoryview, by: Callable[..., _Pushed] = _push_many) -> None:
         length = len(buffer)
-        did = by(self._at, ctypes.byref(_address(buffer)) if length else None, length)
+        self._pushed(by(self._at, ctypes.byref(_address(buffer)) if length else None, length))
+
+    def _pushed(self, did: _Pushed) -> None:
         self._changes += did.pushed
         if did.refusal:
             raise _refuse(did.refusal, did.detail, did.pushed)
+
+    def push_saved(self, saved: ReadableBuffer) -> None:
+        """Pushes the elements of the bytes that `save` gave, of a vector or of a series, by one call of C: all, or none. So they come into a vector of
+        limits, a table or a kind of its own. Linear. Other threads run meanwhile; beside a call of theirs at this vector, the second of the two raises
+        Busy.
+
+        Raises NotSaved where these are not exactly the bytes of one, then Worn, Full and NoMemory as `extend` does: nothing has changed then."""
+        given = _bytes_of(saved)
+        self._pushed(_push_saved(self._at, given, len(given)))
 
     def __iadd__(self: _SomeVector, values: Iterable[int]) -> _SomeVector:
         self.extend(values)

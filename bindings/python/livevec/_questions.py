@@ -7,7 +7,7 @@ from typing import TYPE_CHECKING, Any, Callable, Optional
 
 from ._buffers import _address
 from ._by_kind import _addressed, _ManyByKind
-from ._calls import _ask, _reduce, _searches, _summary_of, _value, _value_many
+from ._calls import _ask, _exact_sum, _reduce, _searches, _summary_of, _value, _value_many
 from ._elements import _Elements
 from ._kinds import Kind
 from ._ranges import _as_pairs, _low_words
@@ -50,6 +50,10 @@ class _Questions(_Elements, _ManyByKind):
     def _valued(self, kind: Kind, lo: Optional[int], hi: Optional[int], by: Callable[..., _Reduced] = _value) -> _Values:
         start, end = self._range(lo, hi)
         return _accepted(by(self._at, kind.value, start, end), start, end).values
+
+    def _total(self, lo: Optional[int], hi: Optional[int]) -> int:
+        start, end = self._range(lo, hi)
+        return _accepted(_exact_sum(self._at, start, end), start, end).sum.exact()
 
     def _pairs(self, rows: list[Any]) -> array[int]:
         return _as_pairs(rows, self)

@@ -117,9 +117,9 @@ class Overtaken(Outrun):
 
 
 class NotSaved(Refusal, ValueError):
-    """Bytes that no saved series, or samples, have: they were changed, or are too few or too many."""
+    """Bytes that no saved vector, series or samples have: they were changed, or are too few or too many."""
 
-    number, says = 22, "bytes that are no saved series, or no saved samples"
+    number, says = 22, "bytes that are no saved vector, series or samples"
 
 
 class Closed(Refusal, ValueError):

@@ -13,7 +13,7 @@ from ._refusals import _PLACED, NotKept, _refuse
 from ._scans import _CELLS, Column
 from ._series_calls import _kept, _SeriesReduced, _SeriesScanned, _slot, _u64
 from ._series_ranges import _SeriesRanges
-from ._structures import _Values
+from ._structures import _Total, _Values
 
 if TYPE_CHECKING:
     from _typeshed import WriteableBuffer
@@ -31,9 +31,19 @@ class _SeriesMany(ctypes.Structure):
     _fields_ = [("refusal", _u32), ("first", _u64), ("size", _u64), ("edit", _u64), ("done", _size), ("place", _size)]
 
 
+class _SeriesSummed(ctypes.Structure):
+    refusal: int
+    first: int
+    size: int
+    edit: int
+    sum: _Total
+    _fields_ = [("refusal", _u32), ("first", _u64), ("size", _u64), ("edit", _u64), ("sum", _Total)]
+
+
 _prepare = _call("livevec_series_prepare", _u32, _slot, _u32)
 _write_many = _call("livevec_series_write_many", _SeriesMany, _slot, _pointer, _pointer, _size, by=_released)
 _value = _call("livevec_series_value", _SeriesReduced, _slot, _u32, _u64, _u64)
+_exact_sum = _call("livevec_series_exact_sum", _SeriesSummed, _slot, _u64, _u64)
 _value_many = _call("livevec_series_value_many", _SeriesMany, _slot, _u32, _pointer, _pointer, _size, by=_released)
 _columns_inclusive, _columns_exclusive = (
     {name: _call(f"livevec_series_scan_{way}_{name}", _SeriesScanned, _slot, _u64, _u64, _u64, _pointer, _size, by=_released)
@@ -100,6 +110,10 @@ class _SeriesKinds(_SeriesRanges, _ManyByKind):
     def _valued(self, kind: Kind, lo: Optional[int], hi: Optional[int], by: Callable[..., _SeriesReduced] = _value) -> _Values:
         start, end = self._range(lo, hi)
         return _kept(by(self._at, kind.value, start, end), start, end).values
+
+    def _total(self, lo: Optional[int], hi: Optional[int]) -> int:
+        start, end = self._range(lo, hi)
+        return _kept(_exact_sum(self._at, start, end), start, end).sum.exact()
 
     def _quick(self, view: memoryview) -> Optional[bytearray]:
         # a copy, for C looks at them twice while other threads run, which may write to what the caller has

@@ -166,6 +166,10 @@ class _Shared(_ByKind, Generic[_Of]):
         """The elements of a range as an `array.array('q')`, all after one edit: a copy, linear in the range."""
         return self._read(lambda of: of.to_array(lo, hi))
 
+    def save(self) -> bytes:
+        """All of it as bytes, after one edit, as its own `save` gives them. Linear."""
+        return self._read(lambda of: of.save())
+
     def copy(self) -> _Of:
         """A copy of what is shared, which no other thread has: as its own `copy` makes one. Linear."""
         return cast(_Of, self._read(lambda of: of.copy()))

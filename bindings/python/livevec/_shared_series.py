@@ -61,10 +61,6 @@ class _SharedByIndex(_Shared[_Indexed]):
         """As `Series.prepare`: makes the tree of a kind, where there is none. O(n) then."""
         self._read(lambda of: of.prepare(kind))
 
-    def save(self) -> bytes:
-        """As `Series.save`: all of it as bytes, after one edit. Linear."""
-        return self._read(lambda of: of.save())
-
     def ask(self, lo: Optional[int] = None, hi: Optional[int] = None) -> LongReduced:
         """As `Series.ask`, which tells after which edit the values are so."""
         reduced, edit = self._entered(lambda of: of.ask(lo, hi))

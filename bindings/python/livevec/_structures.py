@@ -123,6 +123,24 @@ class _Found(ctypes.Structure):
                 ("found", ctypes.c_bool)]
 
 
+class _Total(ctypes.Structure):
+    low: int
+    high: int
+    _fields_ = [("low", ctypes.c_uint64), ("high", ctypes.c_int64)]
+
+    def exact(self) -> int:
+        """The number of 128 bits."""
+        return (self.high << 64) + self.low
+
+
+class _Summed(ctypes.Structure):
+    refusal: int
+    detail: int
+    edit: int
+    sum: _Total
+    _fields_ = [("refusal", ctypes.c_uint32), ("detail", ctypes.c_uint32), ("edit", ctypes.c_uint32), ("sum", _Total)]
+
+
 class _Scanned(ctypes.Structure):
     refusal: int
     detail: int

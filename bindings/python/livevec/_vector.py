@@ -3,23 +3,28 @@ from __future__ import annotations
 
 import ctypes
 from array import array
-from typing import Any, Callable, Iterable, Optional, Sequence, TypeVar, Union
+from typing import TYPE_CHECKING, Any, Callable, Iterable, Optional, Sequence, TypeVar, Union
 
 from ._automaton import _table_of
-from ._calls import _free, _new, _new_of, _new_with_table
+from ._calls import _free, _new, _new_of, _new_with_table, _save, _saved_length
 from ._claims import _Claims
 from ._edits import _Edits
+from ._elements import _counted
 from ._kinds import Kind, _kind_of
 from ._limits import MOST_BUCKETS, MOST_EDITS
 from ._numbers import _as_u32
 from ._questions import _Questions
-from ._refusals import Busy, Closed, _refuse
+from ._refusals import Busy, Closed, _accepted, _refuse
+from ._saved import _bytes_of, _Saved
 from ._scans import _Scans
+
+if TYPE_CHECKING:
+    from _typeshed import ReadableBuffer
 
 _SomeVector = TypeVar("_SomeVector", bound="Vector")
 
 
-class Vector(_Edits, _Questions, _Scans, _Claims):
+class Vector(_Edits, _Questions, _Scans, _Claims, _Saved):
     """A growable vector of 64-bit numbers that answers reductions and scans of any range.
 
     It is read like a list: `len(v)`, `v[i]`, `v[-1]`, `v[2:5]`, `for x in v`, `x in v`. Edits are `push` (or `append`), `pop`, `v[i] = x`, `swap`,
@@ -29,7 +34,7 @@ class Vector(_Edits, _Questions, _Scans, _Claims):
     left fold of the range after the last edit.
 
     Two vectors are equal where their elements are, so that a vector has no hash. A copy, also one by `copy` or by `pickle`, has elements, limits,
-    table and kind; its edits are the pushes of its elements.
+    table and kind; its edits are the pushes of its elements. `save` gives the elements as bytes, and `load` makes a vector of them.
 
     `elements` are pushed at the start. There are limits of buckets, of which k have room for 8 * (2**k - 1) elements, and of edits. `table` is that of the
     automaton, eight rows of four states from 0 to 7: from state q, an element x leads to table[q][x % 4]; without it, to (2 * q + x % 4) % 8. `kind`, a
@@ -90,6 +95,20 @@ class Vector(_Edits, _Questions, _Scans, _Claims):
             return f"<livevec.Vector of {len(self)} at edit {self.edits}>"
         except (Closed, Busy) as refusal:
             return f"<livevec.Vector, {type(refusal).__name__.lower()}>"
+
+    # As bytes.
+
+    @classmethod
+    def load_pieces(cls: type[_SomeVector], pieces: Iterable[ReadableBuffer]) -> _SomeVector:
+        made = cls()
+        made.push_saved(b"".join(_bytes_of(piece) for piece in pieces))
+        return made
+
+    def _length_saved(self) -> int:
+        return _counted(_saved_length(self._at))
+
+    def _save(self, place: int, room: Optional[Any], length: int) -> int:
+        return _accepted(_save(self._at, place, room, length)).length
 
     # The end.
 

@@ -119,6 +119,19 @@ struct Scanned {
     length: u32,
 }
 
+/// A number of 128 bits: `livevec_total`.
+#[repr(C)]
+struct Total {
+    low: u64,
+    high: i64,
+}
+
+impl Total {
+    fn exact(&self) -> i128 {
+        crate::places::total(self.high, self.low)
+    }
+}
+
 /// The answer where there is no refusal.
 fn answered<T>(refusal: u32, detail: u32, answer: T) -> Result<T, Refusal> {
     match refusal {

@@ -77,7 +77,7 @@ pub enum Refusal {
         /// The time of the last sample.
         newest: i64,
     },
-    /// 22: bytes that no saved series, or samples, have: they were changed, or are too few or too many.
+    /// 22: bytes that no saved vector, series or samples have: they were changed, or are too few or too many.
     NotSaved,
     /// 103: a buffer shorter than what it should take, or not as many values as there are indices.
     ShortBuffer {
@@ -228,7 +228,7 @@ impl fmt::Display for Refusal {
             Refusal::Contended { edit } => write!(f, "contended: edit {edit} came first"),
             Refusal::Overtaken { edit } => write!(f, "overtaken: edit {edit} wrote there"),
             Refusal::Earlier { newest } => write!(f, "earlier than the last sample, whose time is {newest}"),
-            Refusal::NotSaved => f.write_str("bytes that are no saved series, or no saved samples"),
+            Refusal::NotSaved => f.write_str("bytes that are no saved vector, series or samples"),
             Refusal::NoSeat => f.write_str("no seat is left"),
             Refusal::SeatsOut => f.write_str("seats are out"),
             Refusal::Busy => f.write_str("another call is under way"),

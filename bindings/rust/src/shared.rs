@@ -339,6 +339,8 @@ impl Shared {
         count last() -> Option<i64>;
         /// As [`Vector::to_vec`]: a copy, after one edit.
         read to_vec() -> Vec<i64>;
+        /// As [`Vector::save`]: after one edit.
+        read save() -> Vec<u8>;
         /// As [`Vector::summary`].
         read summary(range: impl Indices) -> Summary;
         /// As [`Vector::scan_inclusive`].

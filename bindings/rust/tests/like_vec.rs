@@ -100,6 +100,12 @@ fn totals_are_exact() {
         assert_eq!(readings.total(5..501), Err(Refusal::NotKept { first: 0, size: 500 }));
         assert_eq!((vector.total(6..5), readings.total(6..5)), (Err(Refusal::BadRange), Err(Refusal::BadRange)));
     }
+    // told in pieces: of 16,384 elements, of 128, of 64, and of one
+    for far in [1 << 50, 1 << 57, 1 << 58, 1 << 60] {
+        let row: Vec<i64> = (0..20_000).map(|i| if i % 7 == 0 { -5 } else { far - 5 }).collect();
+        let (vector, readings) = (Vector::try_from(&row[..]).unwrap(), Series::try_from(&row[..]).unwrap());
+        assert_eq!((vector.total(3..), readings.total(3..)), (Ok(total(&row[3..])), Ok(total(&row[3..]))));
+    }
     let mut sums = Vector::of_kind(Kind::Sum, Limits::GREATEST).unwrap();
     sums.extend_from_slice(&high).unwrap();
     assert_eq!((sums.total(..), sums.total(9..8)), (Ok(total(&high)), Err(Refusal::BadRange)));

@@ -1,10 +1,10 @@
-//! Series and samples as bytes, beside bytes that are laid out here as the repository's `docs/formats.md` says.
+//! Vectors, series and samples as bytes, beside bytes that are laid out here as the repository's `docs/formats.md` says.
 
 mod plain;
 
 use std::io::{self, ErrorKind, Read};
 
-use livevec::{Refusal, Samples, Series};
+use livevec::{Kind, Limits, Refusal, Samples, Series, Vector};
 use plain::numbers;
 
 /// The bytes of elements that are kept from `first` on, after so many edits, with times or without.
@@ -128,4 +128,53 @@ fn errors_of_streams_are_handed_on() {
     let mut room = [0; 20];
     assert_eq!(readings.save_to(&mut room[..]).unwrap_err().kind(), ErrorKind::WriteZero);
     assert_eq!(load.save_to(&mut room[..]).unwrap_err().kind(), ErrorKind::WriteZero);
+}
+
+#[test]
+fn a_vector_is_saved_as_a_series_of_its_elements() {
+    for count in [0, 1, 9, 1025] {
+        let (values, ..) = some(count, 0);
+        let mut vector = Vector::try_from(&values[..]).unwrap();
+        vector.push(7).unwrap();
+        vector.pop().unwrap();
+        let bytes = laid_out(0, count as u64, &values, None);
+        assert_eq!((vector.save().unwrap(), vector.saved_len()), (bytes.clone(), bytes.len() as u64));
+        let (mut pieces, mut piece) = (Vec::new(), [0; 3001]);
+        while let many @ 1.. = vector.save_into(pieces.len() as u64, &mut piece).unwrap() {
+            pieces.extend_from_slice(&piece[..many]);
+        }
+        assert_eq!(pieces, bytes);
+        let mut written = Vec::new();
+        assert_eq!((vector.save_to(&mut written).unwrap(), written), (bytes.len() as u64, bytes.clone()));
+        for mut back in
+            [Vector::load(&bytes).unwrap(), Vector::load_from(&*bytes).unwrap(), Vector::load_from(Slow(&bytes, false)).unwrap()]
+        {
+            assert_eq!((back.to_vec().unwrap(), back.edits() as usize), (values.clone(), count));
+            assert_eq!((back.push_saved(&bytes).unwrap() as usize, back.len() as usize), (2 * count, 2 * count));
+            assert_eq!(back.elements(count..).unwrap().collect::<Vec<_>>(), values);
+        }
+        assert_eq!(Series::load(&bytes).unwrap().to_vec(..).unwrap(), values);
+    }
+}
+
+#[test]
+fn a_vector_takes_what_a_series_has_kept() {
+    let (values, _, readings, load) = some(70, 12);
+    let (bytes, of_samples) = (readings.save().unwrap(), load.save().unwrap());
+    assert_eq!(Vector::load(&bytes).unwrap(), values[12..]);
+    let mut of_kind = Vector::of_kind(Kind::Least, Limits::new(4, 100).unwrap()).unwrap();
+    assert_eq!((of_kind.push_saved(&bytes), of_kind.least(..)), (Ok(58), Ok(values[12..].iter().copied().min())));
+    assert_eq!((of_kind.push_saved(&bytes), of_kind.push_saved(&of_samples)), (Err(Refusal::Worn), Err(Refusal::NotSaved)));
+    let mut small = Vector::with_limits(Limits::new(3, 100).unwrap()).unwrap();
+    assert_eq!((small.push_saved(&bytes), small.len(), small.edits()), (Err(Refusal::Full), 0, 0));
+    let mut wrong = bytes.clone();
+    for at in 0..wrong.len() {
+        wrong[at] ^= 4;
+        assert_eq!(small.push_saved(&wrong), Err(Refusal::NotSaved));
+        wrong[at] ^= 4;
+    }
+    assert_eq!((Vector::load(&bytes[1..]).unwrap_err(), Vector::load(&[]).unwrap_err()), (Refusal::NotSaved, Refusal::NotSaved));
+    assert_eq!(Vector::load_from(&of_samples[..]).unwrap_err().kind(), ErrorKind::InvalidData);
+    assert_eq!(of_kind.save_into(4, &mut [0; 8]), Err(Refusal::BadRange));
+    assert_eq!(of_kind.save_to(&mut [0; 20][..]).unwrap_err().kind(), ErrorKind::WriteZero);
 }

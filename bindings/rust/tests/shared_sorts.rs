@@ -111,6 +111,7 @@ fn each_form_answers_as_alone() {
     answers_as_alone!(shared, alone);
     assert_eq!((shared.capacity(), shared.last(), shared.to_vec()), (Ok(8), Ok(Some(6)), Ok(ELEMENTS.to_vec())));
     assert_eq!(shared.summary(0..3).map(|summary| summary.total()), Ok(6));
+    assert_eq!(Vector::load(&shared.save().unwrap()).unwrap(), shared.to_vec().unwrap());
     assert_eq!(shared.scan_inclusive(6..).unwrap().iter().map(|values| values.sum).collect::<Vec<_>>(), [2, 8]);
     assert_eq!(shared.scan_exclusive(6..).unwrap().iter().map(|values| values.sum).collect::<Vec<_>>(), [0, 2]);
     let mut sums = [7; 3];

@@ -2,7 +2,7 @@
 //! `vector.rs` says.
 
 use super::summary::Summarised;
-use super::{Many, Reduced, SixValues, Slot, SummaryBytes, Vector, answered, roomy};
+use super::{Many, Reduced, SixValues, Slot, SummaryBytes, Total, Vector, answered, roomy};
 use crate::{Refusal, RefusedAt};
 
 /// A range of indices: `livevec_range`.
@@ -26,6 +26,15 @@ pub(crate) struct Found {
     pub(crate) sum_low: u64,
     pub(crate) sum_high: i64,
     found: bool,
+}
+
+#[repr(C)]
+struct Summed {
+    refusal: u32,
+    detail: u32,
+    // the last edit, which is asked for by itself
+    _edit: u32,
+    sum: Total,
 }
 
 /// What a search looks for, with the number that it compares with.
@@ -56,6 +65,7 @@ unsafe extern "C" {
     fn livevec_where_last_at_most(slot: *mut Slot, lo: u32, hi: u32, bound: i64) -> Found;
     fn livevec_value(slot: *mut Slot, kind: u32, lo: u32, hi: u32) -> Reduced;
     fn livevec_value_many(slot: *mut Slot, kind: u32, ranges: *const Ends, answers: *mut SixValues, length: usize) -> Many;
+    fn livevec_exact_sum(slot: *mut Slot, lo: u32, hi: u32) -> Summed;
     fn livevec_summary_of(slot: *mut Slot, lo: u32, hi: u32) -> Summarised;
 }
 
@@ -76,6 +86,12 @@ impl Vector {
         // SAFETY: see above.
         let did = unsafe { livevec_value(self.slot.get(), kind, lo, hi) };
         answered(did.refusal, did.detail, did)
+    }
+
+    pub(crate) fn exact_sum(&self, lo: u32, hi: u32) -> Result<i128, Refusal> {
+        // SAFETY: see above.
+        let did = unsafe { livevec_exact_sum(self.slot.get(), lo, hi) };
+        answered(did.refusal, did.detail, did.sum.exact())
     }
 
     /// Where something stands in a range, if it does.

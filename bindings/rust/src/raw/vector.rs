@@ -33,6 +33,9 @@ unsafe extern "C" {
     fn livevec_swap(slot: *mut Slot, first: u32, second: u32) -> Edited;
     fn livevec_truncate(slot: *mut Slot, elements: u32) -> Edited;
     fn livevec_push_many(slot: *mut Slot, values: *const i64, length: usize) -> PushedMany;
+    fn livevec_push_saved(slot: *mut Slot, bytes: *const u8, length: usize) -> PushedMany;
+    fn livevec_saved_length(slot: *mut Slot) -> Count;
+    fn livevec_save(slot: *mut Slot, from: u64, buffer: *mut u8, length: usize) -> Scanned;
     fn livevec_write_many(slot: *mut Slot, indices: *const u32, values: *const i64, length: usize) -> Many;
     fn livevec_get(slot: *mut Slot, index: u32) -> Element;
     fn livevec_read(slot: *mut Slot, lo: u32, hi: u32, buffer: *mut i64, length: usize) -> Scanned;
@@ -139,6 +142,25 @@ impl Vector {
         // SAFETY: see above; so many elements are read from a slice that has them.
         let did = unsafe { livevec_push_many(self.slot.get(), values.as_ptr(), values.len()) };
         answered(did.refusal, did.detail, ())
+    }
+
+    /// The same of the elements of what was saved.
+    pub(crate) fn push_saved(&mut self, bytes: &[u8]) -> Result<(), Refusal> {
+        // SAFETY: see above; so many bytes are read from a slice that has them.
+        let did = unsafe { livevec_push_saved(self.slot.get(), bytes.as_ptr(), bytes.len()) };
+        answered(did.refusal, did.detail, ())
+    }
+
+    pub(crate) fn saved_length(&self) -> u32 {
+        // SAFETY: see above.
+        unsafe { livevec_saved_length(self.slot.get()) }.value
+    }
+
+    /// Fills the front of a buffer with the saved bytes from a place on, and tells how many they are.
+    pub(crate) fn save(&self, from: u64, buffer: &mut [u8]) -> Result<usize, Refusal> {
+        // SAFETY: see above; at most so many bytes are written as the buffer has.
+        let did = unsafe { livevec_save(self.slot.get(), from, buffer.as_mut_ptr(), buffer.len()) };
+        answered(did.refusal, did.detail, did.length as usize)
     }
 
     /// The last edit, where all were written; as many values as indices are given.

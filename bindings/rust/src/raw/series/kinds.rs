@@ -3,7 +3,7 @@
 use std::ffi::c_void;
 
 use super::{Reduced, Scanned, Series, Slot, answered};
-use crate::raw::{SixValues, roomy};
+use crate::raw::{SixValues, Total, roomy};
 use crate::{Column, Kind, Refusal, RefusedAt};
 
 /// A range of indices: `livevec_series_range`.
@@ -24,6 +24,16 @@ pub(super) struct Many {
     pub(super) place: usize,
 }
 
+#[repr(C)]
+struct Summed {
+    refusal: u32,
+    first: u64,
+    size: u64,
+    // the last edit, which is asked for by itself
+    _edit: u64,
+    sum: Total,
+}
+
 impl Many {
     pub(super) fn answered(self) -> Result<u64, RefusedAt> {
         let Many { refusal, first, size, edit, done, place } = self;
@@ -35,6 +45,7 @@ unsafe extern "C" {
     fn livevec_series_prepare(slot: *mut Slot, kind: u32) -> u32;
     fn livevec_series_write_many(slot: *mut Slot, indices: *const u64, values: *const i64, length: usize) -> Many;
     fn livevec_series_value(slot: *mut Slot, kind: u32, lo: u64, hi: u64) -> Reduced;
+    fn livevec_series_exact_sum(slot: *mut Slot, lo: u64, hi: u64) -> Summed;
     fn livevec_series_value_many(slot: *mut Slot, kind: u32, ranges: *const Ends, answers: *mut SixValues, length: usize) -> Many;
     fn livevec_series_scan_inclusive_sum(slot: *mut Slot, lo: u64, at: u64, hi: u64, column: *mut c_void, length: usize) -> Scanned;
     fn livevec_series_scan_inclusive_least(slot: *mut Slot, lo: u64, at: u64, hi: u64, column: *mut c_void, length: usize) -> Scanned;
@@ -72,6 +83,12 @@ impl Series {
         // SAFETY: see above.
         let told = unsafe { livevec_series_value(self.slot.get(), kind, lo, hi) };
         answered(told.refusal, told.first, told.size, told)
+    }
+
+    pub(crate) fn exact_sum(&self, lo: u64, hi: u64) -> Result<i128, Refusal> {
+        // SAFETY: see above.
+        let told = unsafe { livevec_series_exact_sum(self.slot.get(), lo, hi) };
+        answered(told.refusal, told.first, told.size, told.sum.exact())
     }
 
     /// The values of each range by a kind.
