@@ -125,10 +125,11 @@ class Chain:
             stop(f"update {self.highest} was told of, and the log's last is {before}")
         words = ["serve", "--log", self.log, "--watch", self.watched, *self.names] + ["--sync"] * is_synced + ["--log-answers"] * (self.runs // 2 % 2)
         process = subprocess.Popen([PROGRAM, *words], stdout=subprocess.PIPE, stderr=subprocess.PIPE)
-        # some are killed as they start, and most in the middle
-        while self.runs % 8 > 1 and process.poll() is None and self.size() <= size + 1000:
-            time.sleep(0.001)
-        time.sleep(self.dice.random() * 0.4)
+        # some are killed as they start, and most once they have written some part of what they are sent
+        more = self.dice.randrange(200000) if self.runs % 8 > 1 else -1
+        while process.poll() is None and self.size() <= size + more:
+            time.sleep(0.0005)
+        time.sleep(self.dice.random() * 0.02)
         process.send_signal(self.dice.choice((signal.SIGKILL, signal.SIGTERM, signal.SIGINT)))
         printed, said = process.communicate()
         if process.returncode > 0 or printed or said.count(b"\n") != said.count(b"cut off\n"):

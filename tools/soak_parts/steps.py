@@ -74,7 +74,7 @@ def steps(room):
     runs = [(place, words, how) for place in PLACES for words in COMMANDS for how in (KILLED, errno.EIO)]
     with ProcessPoolExecutor(4) as lanes:
         counts = list(lanes.map(step_each, [room] * len(runs), *zip(*runs)))
-    if min(counts) < 5:
+    if min(counts) < 4:
         stop(f"no more than {min(counts)} calls were counted: {runs[counts.index(min(counts))]}")
     kills = sum(count for count, run in zip(counts, runs) if run[2] == KILLED)
     print(f"steps: {kills} kills before a call and {sum(counts) - kills} calls that failed, of compact and of a server on {len(PLACES)} logs: each had its elements and numbers, and was gone on with")
