@@ -1,17 +1,13 @@
-"""Parts of logs that a server goes on from: a chain of kills, and writes that fail."""
-import errno
+"""Parts of logs that a server goes on from: a chain of kills."""
 import os
 import random
-import shutil
 import signal
 import subprocess
 import time
-from concurrent.futures import ThreadPoolExecutor
 
-from soak_parts.cut_off import KILLS
-from soak_parts.program import PROGRAM, SEED, TOP, session, stop, told, whole_lines
+from soak_parts.program import PROGRAM, SEED, session, stop, told, whole_lines
 
-FAULTS = int(os.environ.get("SOAK_FAULTS", "200"))
+KILLS = int(os.environ.get("SOAK_KILLS", "100"))
 QUERIES = "".join(f"watch {kind} {kind} last 50\n" for kind in ("sum", "least", "greatest", "best")) + "watch all sum 0 1000000\n"
 
 
@@ -56,13 +52,20 @@ class Log:
 MADE = {"at": "push", "value": "pop", "was": "write", "capacity": "reserve", "now": "swap", "dropped": "truncate"}
 
 
-def check_log(path, outs, before, answers=False):
-    """Sees that a log is sound, and that it has what replies and notes told of, behind the update of a number. Says what it has."""
-    log, seen = Log(path), []
+def audit(path, log):
+    """Sees that the program finds in a log what there is."""
     verdict = told(["audit", "--front"], open(path, "rb").read()).stdout.decode()
     wanted = f"log {log.base} base {log.elements} elements {len(log.edits) - log.elements} edits {log.answers} answers\n"
     if verdict != wanted and (os.path.getsize(path) or verdict != "front 0 edits 0 answers\n"):
         stop(f"a log was called {verdict!r}, and has {wanted!r}")
+
+
+def check_log(path, outs, before, is_audited=True):
+    """Sees that a log is sound, and that it has what replies and notes told of, behind the update of a number. Says what it has, which updates sessions
+    were told of, and how many of their lines were answered by a reduction."""
+    log, seen, asked = Log(path), [], 0
+    if is_audited:
+        audit(path, log)
     for out in outs:
         for line in whole_lines(out):
             words = line.split()
@@ -72,104 +75,86 @@ def check_log(path, outs, before, answers=False):
                 seen.append(int(words[1]))
             elif words[0] == "at" and int(words[1]) > log.last():
                 stop(f"{out} tells of {line!r}, and the log's last update is {log.last()}")
+            asked += words[0] == "at" and not out.endswith("/w.out")
     if len(set(seen)) != len(seen) or seen and min(seen) <= before:
         stop(f"updates behind {before} were told of under the numbers {sorted(seen)[:5]}..")
+    log.told, log.asked = sorted(seen), asked
     return log
 
 
-def compact(room, dice):
-    """Compacts a log, or kills what does so at some moment, and sees that it has what it had."""
-    old = Log(f"{room}/log")
+def compact(room, dice, took):
+    """Compacts a log, or kills what does so at some moment, and sees that it has what it had. Says whether it was killed; how long compactions took that
+    weren't is noted."""
+    old, began = Log(f"{room}/log"), time.monotonic()
     process = subprocess.Popen([PROGRAM, "compact", f"{room}/log"] + dice.choice(([], ["--drop-old"])), stdout=subprocess.DEVNULL)
-    killed = dice.random() < 0.5
-    if killed:
-        time.sleep(dice.random() * 0.1)
+    is_cut = len(took) > 1 and dice.random() < 0.7
+    if is_cut:
+        time.sleep(dice.random() * sum(took[-2:]) / 2)
         process.kill()
     status = process.wait()
-    if status not in ((0, -signal.SIGKILL) if killed else (0,)):
+    if status not in ((0, -signal.SIGKILL) if is_cut else (0,)):
         stop(f"compact ended with {status}")
+    if not is_cut:
+        took.append(time.monotonic() - began)
     new = check_log(f"{room}/log", [], 0)
     if new.last() != old.last() or new.list() != old.list():
         stop(f"after compact a log ends at {new.last()}, and before at {old.last()}")
     return status != 0
 
 
+class Chain:
+    """A log that one server after the other goes on with, and what was tried and seen."""
+
+    def __init__(self, room):
+        self.log, self.dice = f"{room}/log", random.Random(SEED)
+        self.names, self.watched = [f"{room}/{name}" for name in ("a", "b")], f"{room}/w"
+        self.outs = [f"{name}.out" for name in self.names + [self.watched]]
+        self.sessions = ["truncate 100\n" + session(self.dice, 60000) for _ in range(6)]
+        self.runs = self.kills = self.synced = self.ends = self.updates = self.told = self.highest = 0
+        open(self.watched, "w").write(QUERIES)
+
+    def size(self):
+        return os.path.getsize(self.log) if os.path.exists(self.log) else 0
+
+    def serve(self):
+        """Has a server go on with the log, kills it at some moment by one of three signals, and sees what the log has."""
+        for name, lines in zip(self.names, self.dice.sample(self.sessions, 2)):
+            open(name, "w").write(lines)
+        before, size, is_synced = Log(self.log).last(), self.size(), self.runs % 2
+        if before < self.highest:
+            stop(f"update {self.highest} was told of, and the log's last is {before}")
+        words = ["serve", "--log", self.log, "--watch", self.watched, *self.names] + ["--sync"] * is_synced + ["--log-answers"] * (self.runs // 2 % 2)
+        process = subprocess.Popen([PROGRAM, *words], stdout=subprocess.PIPE, stderr=subprocess.PIPE)
+        # some are killed as they start, and most once they have written some part of what they are sent
+        more = self.dice.randrange(200000) if self.runs % 8 > 1 else -1
+        while process.poll() is None and self.size() <= size + more:
+            time.sleep(0.0005)
+        time.sleep(self.dice.random() * 0.02)
+        process.send_signal(self.dice.choice((signal.SIGKILL, signal.SIGTERM, signal.SIGINT)))
+        printed, said = process.communicate()
+        if process.returncode > 0 or printed or said.count(b"\n") != said.count(b"cut off\n"):
+            stop(f"serve --log ended with {process.returncode}, after {printed[:100]!r} and {said[:200]!r}")
+        is_killed = process.returncode < 0
+        self.runs, self.kills, self.synced, self.ends = self.runs + 1, self.kills + is_killed, self.synced + (is_killed and is_synced), self.ends + (not is_killed)
+        if os.path.exists(self.log):
+            kept = check_log(self.log, self.outs, before)
+            self.updates, self.told, self.highest = self.updates + kept.last() - before, self.told + len(kept.told), max([self.highest, *kept.told])
+        for out in self.outs:
+            open(out, "w").close()
+
+
 def logs(room):
     """One log is gone on with by one server after the other, each of which is killed; now and then it is compacted, which is killed too."""
     # a shell that runs this in the background has it ignore SIGINT, and servers would too
     signal.signal(signal.SIGINT, signal.default_int_handler)
-    dice, kills, ends, cut, total = random.Random(SEED), 0, 0, 0, 0
-    names = [f"{room}/{name}" for name in ("a", "b")]
-    open(f"{room}/w", "w").write(QUERIES)
-    outs = [f"{name}.out" for name in names + [f"{room}/w"]]
-    while kills < KILLS:
-        for name in names:
-            open(name, "w").write("truncate 100\n" + session(dice, 30000))
-        before = Log(f"{room}/log").last()
-        words = ["serve", "--log", f"{room}/log", "--watch", f"{room}/w", *names] + ["--sync"] * (kills % 2) + ["--log-answers"] * (kills // 2 % 2)
-        process = subprocess.Popen([PROGRAM, *words], stdout=subprocess.PIPE, stderr=subprocess.PIPE)
-        # some are killed as they start, and most in the middle
-        size = os.path.getsize(f"{room}/log") if os.path.exists(f"{room}/log") else 0
-        while kills % 8 and process.poll() is None and not (os.path.exists(f"{room}/log") and os.path.getsize(f"{room}/log") > size + 1000):
-            time.sleep(0.001)
-        time.sleep(dice.random() * 0.4)
-        process.send_signal(dice.choice((signal.SIGKILL, signal.SIGTERM, signal.SIGINT)))
-        printed, said = process.communicate()
-        kills, ends = kills + (process.returncode < 0), ends + (process.returncode == 0)
-        if process.returncode > 0 or printed or said.count(b"\n") != said.count(b"cut off\n"):
-            stop(f"serve --log ended with {process.returncode}, after {printed[:100]!r} and {said[:200]!r}")
-        if not os.path.exists(f"{room}/log"):
-            continue
-        total += check_log(f"{room}/log", outs, before).last() - before
-        if dice.random() < 0.2:
-            cut += compact(room, dice)
-        if dice.random() < 0.1:
-            open(f"{room}/log", "ab").write(b"j push 12")
-        for out in outs:
-            open(out, "w").close()
-    print(f"logs: {kills} kills of one server after the other, and {ends} ends; {cut} kills of compact; {total} updates, of which none was lost that was told of, and no number came twice")
-
-
-def fault_one(room, case):
-    """A server of which one write or flush of the log goes wrong. Says whether it came to that."""
-    call, how, at = case
-    folder = f"{room}/{call}{how}-{at}"
-    os.mkdir(folder)
-    names, log = [f"{folder}/{name}" for name in ("a", "b")], f"{folder}/log"
-    for name in names + [f"{folder}/w"]:
-        shutil.copy(f"{room}/{os.path.basename(name)}", name)
-    words = [PROGRAM, "serve", "--sync", "--log", log, "--watch", f"{folder}/w", *names]
-    injected = {"LD_PRELOAD": f"{room}/failing.so", "FAILING_FILE": "/log", "FAILING_CALL": call, "FAILING_AT": str(at), "FAILING_HOW": str(how), "FAILING_TOLD": f"{folder}/told"}
-    ran = subprocess.run(words, env={**os.environ, **injected}, capture_output=True, timeout=120)
-    came, is_fatal = os.path.exists(f"{folder}/told"), how not in (0, errno.EINTR, errno.EAGAIN)
-    outs = [f"{name}.out" for name in names + [f"{folder}/w"]]
-    kept = check_log(log, outs, 0) if os.path.exists(log) else None
-    replied = sum(line.startswith("edit ") for name in names for line in whole_lines(f"{name}.out"))
-    if came and is_fatal:
-        # a failure before anything is served is the fault alone
-        if ran.returncode != 1 or b"livevec: fault 14\n" not in ran.stderr or at > 1 and b"can't be written, and no session goes on" not in ran.stderr:
-            stop(f"{case}: status {ran.returncode}, {ran.stderr!r}")
-    elif ran.returncode or ran.stderr or len(kept.edits) != replied:
-        stop(f"{case}: status {ran.returncode}, {ran.stderr!r}, {replied} replies of {len(kept.edits)} updates")
-    # it is gone on with
-    before = kept.last() if kept else 0
-    again = subprocess.run([PROGRAM, "serve", "--log", log, *names], capture_output=True, timeout=120)
-    if again.returncode or again.stdout or again.stderr and not again.stderr.endswith(b"cut off\n"):
-        stop(f"{case}: then status {again.returncode}, {again.stderr!r}")
-    check_log(log, [f"{name}.out" for name in names], before)
-    shutil.rmtree(folder)
-    return came
-
-
-def faults(room):
-    """One write or one flush of a log fails, is short or is interrupted, for each of the first: no reply tells of what the log hasn't got."""
-    dice = random.Random(SEED)
-    for name in ("a", "b"):
-        open(f"{room}/{name}", "w").write(session(dice, 250))
-    open(f"{room}/w", "w").write(QUERIES)
-    subprocess.run(["cc", "-shared", "-fPIC", "-O2", "-o", f"{room}/failing.so", f"{TOP}/tools/failing_writes.c", "-ldl"], check=True)
-    kinds = [("write", errno.ENOSPC), ("write", errno.EIO), ("write", 0), ("write", errno.EINTR), ("write", errno.EAGAIN), ("sync", errno.EIO), ("sync", errno.ENOSPC), ("sync", errno.EINTR)]
-    cases = [(call, how, at) for call, how in kinds for at in range(1, FAULTS + 1)]
-    with ThreadPoolExecutor(4) as lanes:
-        came = sum(lanes.map(lambda case: fault_one(room, case), cases))
-    print(f"faults: {len(cases)} runs, of which {came} came to the call that went wrong: each told what its log has, by its status too, and was gone on with")
+    chain, cuts, took = Chain(room), 0, []
+    while chain.kills < KILLS:
+        if chain.ends > 4 * KILLS:
+            stop("the program ends before it can be killed")
+        chain.serve()
+        if chain.size() and chain.dice.random() < 0.4:
+            cuts += compact(room, chain.dice, took)
+        if whole_lines(chain.log) and chain.dice.random() < 0.1:
+            open(chain.log, "ab").write(b"j push 12")
+    print(f"logs: {chain.kills} kills of one server after the other, {chain.synced} of them with --sync, and {chain.ends} ends; {cuts} kills of compact and {len(took)} ends; "
+          f"{chain.updates} updates, {chain.told} of which were told of: none of these was lost, and no number came twice")

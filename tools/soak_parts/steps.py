@@ -1,0 +1,80 @@
+"""A part of a compaction and of a server's start, which are killed before each of their calls that change a file, or of which each such call fails."""
+import errno
+import os
+import shutil
+import signal
+import subprocess
+from concurrent.futures import ProcessPoolExecutor
+
+from soak_parts.failing import KILLED, library
+from soak_parts.logs import Log, check_log
+from soak_parts.program import PROGRAM, stop
+
+LOG = "livevec 2 40 2\n" + "".join(f"j {edit}\n" for edit in ("push 5", "push -6", "push 7", "swap 0 2", "write 1 9", "pop", "push 8"))
+# what may lie beside a log: an older one, what a killed compaction left, and an end that isn't whole
+PLACES = ("alone", "kept", "linked", "compacting", "torn")
+COMMANDS = (["compact", "log"], ["compact", "--drop-old", "log"], ["serve", "--sync", "--log", "log", "session"])
+
+
+def prepare(folder, place):
+    """A folder with a log, and with what lies beside it."""
+    os.mkdir(folder)
+    open(f"{folder}/log", "w").write(LOG + "j push 12" * (place == "torn"))
+    for name, count in (("session", 3), ("second", 2)):
+        open(f"{folder}/{name}", "w").write("push 1\n" * count)
+    if place == "kept":
+        open(f"{folder}/log.1", "w").write("livevec 2 0 0\n")
+    elif place == "linked":
+        os.link(f"{folder}/log", f"{folder}/log.1")
+    if place in ("linked", "compacting"):
+        open(f"{folder}/log.compacting", "w").write("livevec 2 43")
+
+
+def step_one(room, case):
+    """One command of which one call goes wrong. Says whether it came to that."""
+    place, words, how, at = case
+    folder = f"{room}/{place}{COMMANDS.index(words)}{how}-{at}"
+    prepare(folder, place)
+    old = Log(f"{folder}/log")
+    injected = {"LD_PRELOAD": f"{room}/failing.so", "FAILING_CALL": "any", "FAILING_AT": str(at), "FAILING_HOW": str(how), "FAILING_TOLD": f"{folder}/told"}
+    ran = subprocess.run([PROGRAM, *words], cwd=folder, env={**os.environ, **injected}, stdin=subprocess.DEVNULL, capture_output=True, timeout=600)
+    came = os.path.exists(f"{folder}/told")
+    wanted = 0 if not came else -signal.SIGKILL if how == KILLED else 1
+    if ran.returncode != wanted or wanted == 1 and b"livevec: fault 14\n" not in ran.stderr:
+        stop(f"{case}: status {ran.returncode}, {ran.stderr!r}")
+    log = check_log(f"{folder}/log", [f"{folder}/session.out"], old.last())
+    more = log.last() - old.last()
+    if log.list() != old.list() + [1] * more or more > 3 * (words[0] == "serve"):
+        stop(f"{case}: {old.list()} at {old.last()} became {log.list()} at {log.last()}")
+    # a server goes on with it, and a compaction does so then
+    for name, next_words in (("second", ["serve", "--log", "log", "second"]), (None, ["compact", "log"])):
+        then = subprocess.run([PROGRAM, *next_words], cwd=folder, stdin=subprocess.DEVNULL, capture_output=True, timeout=600)
+        if then.returncode or then.stderr and not then.stderr.endswith(b"cut off\n"):
+            stop(f"{case}, then {next_words}: status {then.returncode}, {then.stderr!r}")
+        now = check_log(f"{folder}/log", [f"{folder}/{name}.out"] if name else [], log.last())
+        if now.list() != log.list() + [1, 1] or now.last() != log.last() + 2 or name and now.told != [log.last() + 1, log.last() + 2]:
+            stop(f"{case}, then {next_words}: {log.list()} at {log.last()} became {now.list()} at {now.last()}")
+    if os.path.exists(f"{folder}/log.compacting") or os.stat(f"{folder}/log").st_nlink != 1:
+        stop(f"{case}: {os.listdir(folder)} are left")
+    shutil.rmtree(folder)
+    return came
+
+
+def step_each(room, place, words, how):
+    """The same for each of the command's calls. Says how many there are."""
+    at = 1
+    while step_one(room, (place, words, how, at)):
+        at += 1
+    return at - 1
+
+
+def steps(room):
+    """A compaction and a server's start are killed before each of their calls, or each call fails: the log is the old one or the new one, and is gone on with."""
+    library(room)
+    runs = [(place, words, how) for place in PLACES for words in COMMANDS for how in (KILLED, errno.EIO)]
+    with ProcessPoolExecutor(4) as lanes:
+        counts = list(lanes.map(step_each, [room] * len(runs), *zip(*runs)))
+    if min(counts) < 4:
+        stop(f"no more than {min(counts)} calls were counted: {runs[counts.index(min(counts))]}")
+    kills = sum(count for count, run in zip(counts, runs) if run[2] == KILLED)
+    print(f"steps: {kills} kills before a call and {sum(counts) - kills} calls that failed, of compact and of a server on {len(PLACES)} logs: each had its elements and numbers, and was gone on with")
