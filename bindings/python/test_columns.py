@@ -143,6 +143,42 @@ class Rolling(unittest.TestCase):
         for lo, hi in ((20, 201), (201, 201), (0, 2**32 - 1)):
             self.assertRaises(OutOfRange, self.vector.rolling, "sum", 3, lo, hi)
 
+    def test_many_windows(self) -> None:
+        # more than a call of C asks for, with and without a last part
+        for count in (4096, 4097, 8192, 9000):
+            load = [k * 7919 % 1000 - 500 for k in range(count)]
+            for holder in (Vector(load), Series(load)):
+                for lo in (0, 3, 4000):
+                    for window in (1, 30, 5000):
+                        sums = [0]
+                        for value in load:
+                            sums.append(sums[-1] + value)
+                        wanted = [sums[i + 1] - sums[max(0, i + 1 - window)] for i in range(lo, count)]
+                        self.assertEqual(holder.rolling("sum", window, lo).cells.tolist(), wanted)
+                room = array("q", [7] * (count + 2))
+                self.assertEqual((holder.rolling("sum", 1, into=room), room.tolist()), (count, load + [7, 7]))
+
+    def test_an_edit_between_two_calls(self) -> None:
+        class Edited(Series):
+            edits_left: list[Any] = []
+
+            def _asked_many(self, *told: Any) -> Any:
+                did = super()._asked_many(*told)
+                if self.edits_left:
+                    self.edits_left.pop()()
+                return did
+
+        # all windows are those after the edit
+        load = Edited([1] * 9000)
+        load.edits_left = [lambda: load.write(0, 50)]
+        told = load.rolling("greatest", 9000)
+        self.assertEqual((told.edit, told.cells.tolist(), load.edits_left), (load.edits, [50] * 9000, []))
+        # and where that refuses a window the column is as it was
+        load.edits_left = [lambda: load.expire(5)]
+        room = array("q", [7] * 9000)
+        self.assertRaises(NotKept, load.rolling, "greatest", 3, 0, 9000, into=room)
+        self.assertEqual(room, array("q", [7] * 9000))
+
     def test_windows_of_time(self) -> None:
         chance, times = random.Random(2), []
         for _ in self.all:

@@ -4,8 +4,9 @@ from __future__ import annotations
 
 import ctypes
 import struct
+import sys
 from array import array
-from typing import TYPE_CHECKING, Any, Iterable, Optional, Sequence, Union, overload
+from typing import TYPE_CHECKING, Any, Callable, Iterable, Optional, Sequence, Union, overload
 
 from ._buffers import _address, _as_column
 from ._kinds import _Chosen, _kind_of, _Mapped, _Stated, _Summed, _Value, Kind
@@ -124,8 +125,9 @@ class _ByKind:
         for. Near the first element a window has fewer. The column is as that of `scan_inclusive_by`, which numpy views without a copy; `into` is
         one of yours, as `value_many` takes it, and how many cells were written is given then.
 
-        One call of C, which costs what `value_many` does: O(log n) for each element, whatever the window. Raises ValueError of a window below 1, and
-        what `value_many` raises."""
+        A call of C for each 4,096 windows, all after the last edit: where another thread's comes between, all are asked anew by one call. It costs
+        what `value_many` does: O(log n) for each element, whatever the window. Where numpy is loaded it makes the ranges. Raises ValueError of a
+        window below 1, and what `value_many` raises."""
         if _whole(window, "the window") < 1:
             raise ValueError(f"a window is of 1 element or more, not of {window}")
         return self._rolling(_kind_of(kind), window, lo, hi, into)
@@ -228,8 +230,11 @@ class _ManyByKind(_ByKind):
         if lo == hi or self._room(lo, hi) != hi - lo:
             # raises where that is no range of what there is
             self._valued(kind, lo, hi)
-        cut = min(max(start + window - lo, 0), hi - lo)
-        starts = array(self._index_code, [start]) * cut + array(self._index_code, range(lo + cut + 1 - window, hi + 1 - window))
+
+        def starts(lo: int, hi: int) -> array[int]:
+            cut = min(max(start + window - lo, 0), hi - lo)
+            return array(self._index_code, [start]) * cut + _numbers(self._index_code, lo + cut + 1 - window, hi + 1 - window)
+
         return self._rolled(kind, starts, lo, hi, into)
 
     # By what its parts have, the next six.
@@ -271,21 +276,51 @@ class _ManyByKind(_ByKind):
         assert edit is not None
         return edit, answers, length
 
-    def _rolled(self, kind: Kind, starts: array[int], lo: int, hi: int, into: Any) -> Union[Column, int]:
-        """The values of the ranges from each of some starts up to each element, it included, as a column."""
+    def _rolled(self, kind: Kind, starts: Callable[[int, int], array[int]], lo: int, hi: int, into: Any) -> Union[Column, int]:
+        """The values of ranges up to each element, it included, as a column; `starts` gives where those of the elements of a range start."""
         of, count = _CELLS[kind]
-        room = None if into is None else _as_column(into, of, count)
-        pairs = array(self._index_code, bytes(2 * len(starts) * starts.itemsize))
-        pairs[0::2], pairs[1::2] = starts, array(self._index_code, range(lo + 1, hi + 1))
-        answers = _answers_for(kind, len(starts), room)
-        edit = self._asked_many(kind, pairs, answers, len(starts), True)
+        room, width, length = None if into is None else _as_column(into, of, count), count * struct.calcsize(of), hi - lo
+        if room is not None and room.nbytes < length * width:
+            raise ShortBuffer(length)
+        cells = memoryview(bytearray(length * width))
+        edit = self._in_pieces(kind, starts, lo, length, cells, _PIECE)
+        if edit is None:
+            edit = self._in_pieces(kind, starts, lo, length, cells, length)
         assert edit is not None
         if room is not None:
-            return _put(answers, kind, len(starts), room)
-        cells = memoryview(bytearray(len(starts) * count * struct.calcsize(of)))
-        _put(answers, kind, len(starts), cells)
+            room.cast("B")[: cells.nbytes] = cells
+            return length
         # no view of several dimensions has none of its rows
-        return Column(edit, cells.cast(of) if count == 1 or not cells else cells.cast(of, [len(starts), count]))
+        return Column(edit, cells.cast(of) if count == 1 or not cells else cells.cast(of, [length, count]))
+
+    def _in_pieces(
+        self, kind: Kind, starts: Callable[[int, int], array[int]], lo: int, length: int, cells: memoryview, most: int,
+    ) -> Optional[int]:
+        """Asks for the values of such ranges by a call of C for so many at most, so that what C answers stays in the processor's cache, and puts them
+        into cells. Gives the last edit; None where another thread's edit came between two calls."""
+        code, size, last = self._index_code, min(most, length), None
+        pairs, answers, width = array(code, [0]) * (2 * size), _answers_for(kind, size, None), len(cells) // (length or 1)
+        for first in range(lo, lo + (length or 1), most or 1):
+            if lo + length < first + size:
+                size = lo + length - first
+                pairs, answers = pairs[: 2 * size], answers[: size * ctypes.sizeof(_Values)]
+            pairs[0::2], pairs[1::2] = starts(first, first + size), _numbers(code, first + 1, first + size + 1)
+            edit = self._asked_many(kind, pairs, answers, size, size == length)
+            if edit is None or last not in (None, edit):
+                return None
+            last = edit
+            _put(answers, kind, size, cells[(first - lo) * width :])
+        return last
+
+
+# how many windows a call of C is asked for; its answers take 256 KiB
+_PIECE = 4096
+
+
+def _numbers(code: str, lo: int, hi: int) -> array[int]:
+    """The numbers from `lo` up to `hi`. By numpy, where the program has loaded it, they take a tenth of the time."""
+    arange: Any = getattr(sys.modules.get("numpy"), "arange", None)
+    return array(code, range(lo, hi)) if arange is None or hi <= lo else array(code, arange(lo, hi, dtype=code).tobytes())
 
 
 def _answers_for(kind: Kind, length: int, room: Optional[memoryview]) -> bytearray:

@@ -21,8 +21,8 @@ def rolling(
     of the last `window` of time: above the element's time less `window`. The columns are what `Series.rolling` has in `cells`: numpy and pandas view
     them without a copy, as in `frame.assign(**rolling(frame["load"], 60))`. `values` and `times` are what `Series.extend` takes.
 
-    O(n log n), whatever the window: one call of C pushes the column, and one for each kind asks for all windows. Raises ValueError of a window below 1 or
-    what is no kind, Earlier where times fall, and what `Series.extend` raises."""
+    O(n log n), whatever the window: one call of C pushes the column, and each kind is asked for 4,096 windows by a call. Raises ValueError of a window below
+    1 or what is no kind, Earlier where times fall, and what `Series.extend` raises."""
     named = [_kind_of(kind) for kind in ([kinds] if isinstance(kinds, (str, Kind)) else kinds)]
     if times is None:
         with Series(values) as series:

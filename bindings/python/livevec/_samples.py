@@ -213,22 +213,23 @@ class Samples(_ByIndex):
             [20, 42, 52, 56]
 
         A window reaches back behind `lo`, as far as there are samples. The column, `into` and what is raised are as `rolling` has them. O(log n) for each
-        sample: its window's start is searched among a copy of the times since the first window's, then all values are asked by one call of C."""
+        sample: its window's start is searched among a copy of the times since the first window's, then values are asked by calls of C, as `rolling` does."""
         of, span = _kind_of(kind), _as_u64(span, "the span")
         if not span:
             raise ValueError("a window is of 1 unit of time or more, not of 0")
         lo, hi = self._range(lo, hi)
         if lo == hi or self._room(lo, hi) != hi - lo:
             self._valued(of, lo, hi)
-            return self._rolled(of, array("Q"), lo, hi, into)
+            return self._rolled(of, lambda lo, hi: array("Q"), lo, lo, into)
         # the first window's start is that of all
         newest = self.sample(lo).time
         begin = self.between(max(newest - span + 1, _LEAST_I64), newest).lo
         times = self.times(begin, hi)
         # one search for each sample, which goes through no line of Python
         befores = map(operator.sub, times[lo - begin :], itertools.repeat(span))
-        starts = map(begin.__add__, map(bisect.bisect_right, itertools.repeat(times), befores))
-        return self._rolled(of, array("Q", starts), lo, hi, into)
+        starts = array("Q", map(begin.__add__, map(bisect.bisect_right, itertools.repeat(times), befores)))
+        origin = lo
+        return self._rolled(of, lambda first, last: starts[first - origin : last - origin], lo, hi, into)
 
     # Within.
 
