@@ -169,7 +169,8 @@ def big(room):
         stop(f"audit --front ended with {status}, {printed!r}, {said!r}")
     print(f"big: audit --front: {took}", flush=True)
     told_of_damage(room, log, lines, random.Random(SEED))
-    last = gone_on(room, log, ["serve"], last, elements)
+    # at most so long it isn't made anew: compact is to read it whole
+    last = gone_on(room, log, ["serve", "--compact-at", "4000000000"], last, elements)
     printed, said, status, took = measured(room, ["compact", "--drop-old", log])
     if printed != f"compacted '{log}': {last} base {len(elements)} elements, what it was is dropped\n" or status or said:
         stop(f"compact ended with {status}, {printed!r}, {said!r}")

@@ -2,6 +2,7 @@
 ghost use Rattle.std.specs.Prelude.{◌≡◌, ◌+◌, IfOk, List, Some};
 ghost use mathlib.Core.List.{IsPrefix};
 ghost use Rattle.lv_vector.specs.Query.{Query};
+ghost use Rattle.lv_vector.specs.Renewing.{IsOfOneVector};
 ghost use Rattle.alerts.specs.Alerts.{TellsOf};
 ghost use Rattle.alerts.specs.Followed.{AreUnbounded, Follows, HasFed, KeepsFollowing};
 
@@ -250,6 +251,7 @@ fn join_all<N: WithBody<Six>>(done: Done<N>) -> Gathered<N>
 fn finish<N: WithBody<Six>>(hub: Hub<Six, N>, gathered: Gathered<N>) -> Report
     requires parts { gathered.share.parts ≡ N.parts }
     requires count { gathered.share.count ≡ gathered.accepted }
+    requires one { IsOfOneVector N.limits }
     ensures told { (questions : List Query) → Follows questions gathered.share.seen gathered.ended.questions gathered.ended.told gathered.told.items → TellsOf N.limits questions result }
     ensures accepted { result.accepted ≡ gathered.accepted }
     ensures refused { result.refused ≡ gathered.refused }
@@ -263,7 +265,8 @@ fn finish<N: WithBody<Six>>(hub: Hub<Six, N>, gathered: Gathered<N>) -> Report
         starved,
     } = gathered;
     let mut live = hub.close(share);
-    let last = ended.tell(&mut live);
+    let edit = u64::from(live.edit());
+    let last = ended.tell(&mut live, edit);
     drop(live);
     Report {
         told,

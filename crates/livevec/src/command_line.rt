@@ -5,14 +5,15 @@ ghost use Rattle.lv_geometry.specs.Bounds.{AreAllowed};
 
 use crate::help;
 use crate::modes::{
-    AUDIT, Argument, BOARD, COMPACT, KINDS, Mode, Number, RESTORE, RUN, SCHEDULE, SERVE,
+    AUDIT, Argument, BOARD, COMPACT, COMPACT_AT, KINDS, Mode, Number, RESTORE, RUN, Range,
+    SCHEDULE, SERVE,
 };
 use clap::builder::ValueParser;
 use clap::error::ErrorKind;
 use clap::{Arg, ArgAction, ArgMatches, Command, Error};
 use lv_bodies::Kind;
 use lv_geometry::Limits;
-use lv_server::{ErrorText, Names, Plan};
+use lv_server::{ErrorText, LogPlan, Names, Plan};
 use std::alloc::{AllocError, Global};
 
 /// The command line of the program.
@@ -70,6 +71,7 @@ fn with_arguments<'a>(
 fn arg_of<'a>(alloc: Global, argument: &Argument) -> Result<Arg<'a>, AllocError> {
     match argument {
         Argument::Number(number) => Ok(number_arg(alloc, number)),
+        Argument::Range(range) => Ok(range_arg(alloc, range)),
         Argument::Body => Ok(body(alloc)),
         Argument::Files(most) => Ok(files(alloc, *most)),
         Argument::Flag(name, says) => Ok(flag(alloc, name, says)),
@@ -89,6 +91,16 @@ fn arg_of<'a>(alloc: Global, argument: &Argument) -> Result<Arg<'a>, AllocError>
 fn number_arg<'a>(alloc: Global, number: &Number) -> Arg<'a> {
     let numbers = ValueParser::signed(number.least, number.most);
     option(alloc, number.name, "N", number.says, numbers, number.usual)
+}
+
+// An option whose value is a number, and which may be missing.
+fn range_arg<'a>(alloc: Global, range: &Range) -> Arg<'a> {
+    Arg::new(alloc, range.name)
+        .long(range.name)
+        .value_name(range.value)
+        .help(range.says)
+        .action(ArgAction::Set)
+        .value_parser(ValueParser::signed(range.least, range.most))
 }
 
 // An option with one value: its name, what stands for the value, what it says, what it takes, and the value where it is not given.
@@ -128,6 +140,18 @@ pub fn plan(matches: &ArgMatches<'_>) -> Plan {
         workers: matches.get_one::<u32>("workers").unwrap_or(1),
         turns: matches.get_one::<u32>("turns").unwrap_or(1000).into(),
         most: matches.get_one::<u32>("answers").unwrap_or(100_000_000) as usize,
+    }
+}
+
+/// How the log is kept, by a command's options.
+pub fn kept(matches: &ArgMatches<'_>) -> LogPlan {
+    LogPlan {
+        logs_answers: matches.get_flag("log-answers"),
+        compact_at: matches
+            .get_one::<u32>("compact-at")
+            .unwrap_or(COMPACT_AT)
+            .into(),
+        drops_old: matches.get_flag("drop-old"),
     }
 }
 

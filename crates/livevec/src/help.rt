@@ -116,6 +116,12 @@ wrong, or --buckets and --edits reject an update, that is a fault, and no file h
 is no log: `livevec compact FILE` makes a log of it. If FILE can't be written, standard error says so at
 once, no session goes on, and that is a fault at the end.
 
+The log is made anew, of the elements that there are, as `livevec compact` does it, before the updates
+of its vector are used up, or once it has as many bytes as --compact-at says and is twice as long as
+when it was made anew last. Clients notice nothing, and numbers go on. The old file is kept as FILE.1
+unless --drop-old is given. If that fails, standard error says why, and the log stays as it is. With
+--edits below 16777215 no log is made anew, and updates end there.
+
 With --watch FILE, up to 4 times, a subscriber runs next to the sessions. FILE has at most 64 lines
 `watch NAME KIND LO HI`, blank lines and comments. `last N` in place of LO HI means the last N elements,
 and `at-least X` or `at-most X` may follow. A wrong line is a fault, which names the line before a

@@ -18,8 +18,8 @@ use lv_script::{
     Fault, MOST_NUMBERED, audit, audit_front, run_schedule, run_script_within, run_series_script,
 };
 use lv_server::{
-    Compacted, Escaped, Piped, ProgramError, Waited, compact_file, hold_files, null_files,
-    restore_file, serve_files, serve_logged_files,
+    Compacted, Escaped, LogFolder, Piped, ProgramError, Waited, compact_file, hold_files,
+    null_files, restore_file, serve_files, serve_logged_files,
 };
 use std::alloc::{AllocError, Global};
 use std::fs::{File, Files};
@@ -50,6 +50,7 @@ fn run<
         + Eprint
         + Files<File = File>
         + Input
+        + LogFolder
         + Print
         + Sync
         + Threads
@@ -99,7 +100,16 @@ fn words_of<R: AllocGlobal + Env>(rt: &R) -> io::Result<Vec<String>> {
 
 // Does what a command line asks. With --quiet-pipe nothing is told where what reads standard output has ended.
 fn obey<
-    R: AllocGlobal + Clock + Eprint + Files<File = File> + Input + Print + Sync + Threads + Wait,
+    R: AllocGlobal
+        + Clock
+        + Eprint
+        + Files<File = File>
+        + Input
+        + LogFolder
+        + Print
+        + Sync
+        + Threads
+        + Wait,
 >(rt: &R, matches: &ArgMatches<'_>) -> Result<u8, Fault> {
     let mut writer = Piped::new(
         Waited::new(rt, io::writer(rt)),
@@ -115,14 +125,23 @@ fn obey<
 
 // Does it, writing to what stands for standard output.
 fn answer<
-    R: AllocGlobal + Clock + Eprint + Files<File = File> + Input + Print + Sync + Threads + Wait,
+    R: AllocGlobal
+        + Clock
+        + Eprint
+        + Files<File = File>
+        + Input
+        + LogFolder
+        + Print
+        + Sync
+        + Threads
+        + Wait,
     W: Write,
 >(rt: &R, matches: &ArgMatches<'_>, writer: &mut Piped<W>) -> Result<u8, Fault> {
     let alloc = rt.alloc();
     let Some((name, asked)) = matches.subcommand() else {
         return Ok(0);
     };
-    if let Some(misuse) = misuse_in(asked) {
+    if let Some(misuse) = misuse_in(name, asked) {
         return Ok(show_misuse(rt, misuse));
     }
     match name {
@@ -185,7 +204,15 @@ fn schedule<R: Read, W: Write>(
 
 // Serves the sessions and the subscribers that a command line names.
 fn serve<
-    R: AllocGlobal + Clock + Eprint + Files<File = File> + Print + Sync + Threads + Wait,
+    R: AllocGlobal
+        + Clock
+        + Eprint
+        + Files<File = File>
+        + LogFolder
+        + Print
+        + Sync
+        + Threads
+        + Wait,
     W: Write,
 >(rt: &R, asked: &ArgMatches<'_>, writer: &mut Piped<W>) -> Result<u8, Fault> {
     let alloc = rt.alloc();
@@ -195,7 +222,7 @@ fn serve<
     let names = command_line::names(asked, all.as_slice());
     let plan = command_line::plan(asked);
     let ended = if asked.get_str("log").is_some() {
-        serve_logged_files(rt, rt, alloc, plan, asked.get_flag("log-answers"), names)
+        serve_logged_files(rt, rt, alloc, plan, command_line::kept(asked), names)
     } else {
         serve_files(rt, rt, alloc, plan, names, writer)
     };

@@ -14,9 +14,22 @@ pub const NAME_BYTES: usize = 4096;
 pub const WATCHES: usize = 4;
 
 // The options whose values are numbers.
-const NUMBERS: [&str; 7] = [
-    "buckets", "edits", "jobs", "actors", "workers", "turns", "answers",
+const NUMBERS: [&str; 8] = [
+    "buckets",
+    "edits",
+    "jobs",
+    "actors",
+    "workers",
+    "turns",
+    "answers",
+    "compact-at",
 ];
+
+// The options that say how a log is made anew while it is served.
+const OF_LOGS_MADE_ANEW: [&str; 2] = ["compact-at", "drop-old"];
+
+// The limit of updates where a log may be made anew while it is served.
+const MOST_EDITS: u32 = 16_777_215;
 
 /// Why a word of the command line is refused.
 #[derive(Clone, Copy)]
@@ -31,6 +44,8 @@ pub enum Misuse<'a> {
     TooOften(&'static str, usize),
     /// An option is given without another that it is for.
     Without(&'static str, &'static str),
+    /// An option is given with something that leaves it nothing to say.
+    Beside(&'static str, &'static str),
 }
 
 impl fmt::Display for Misuse<'_> {
@@ -57,24 +72,29 @@ impl fmt::Display for Misuse<'_> {
             Misuse::Without(name, other) => {
                 write!(f, "error: --{name} says nothing without {other}")?
             }
+            Misuse::Beside(name, other) => {
+                write!(f, "error: --{name} says nothing with {other}")?
+            }
         }
         f.write_str("\n\nFor more information, try '--help'.")
     }
 }
 
-/// What a command's options say that is refused, if they do.
-pub fn misuse_in<'a>(matches: &ArgMatches<'a>) -> Option<Misuse<'a>> {
+/// What the options of a command of this name say that is refused, if they do.
+pub fn misuse_in<'a>(mode: &str, matches: &ArgMatches<'a>) -> Option<Misuse<'a>> {
     let watches = matches.get_strs("watch").unwrap_or(&[]);
     if watches.len() > WATCHES {
         return Some(Misuse::TooOften("watch", WATCHES));
     }
-    match idle_in(matches) {
-        Some(misuse) => Some(misuse),
-        None => plus_in(matches),
+    if mode == "serve" {
+        if let Some(misuse) = idle_in(matches) {
+            return Some(misuse);
+        }
     }
+    plus_in(matches)
 }
 
-// The first option of a command that is given without another that it is for, if one is.
+// The first option of `serve` that is given without another that it is for, if one is.
 fn idle_in<'a>(matches: &ArgMatches<'a>) -> Option<Misuse<'a>> {
     let is_logged = matches.get_str("log").is_some();
     let is_recorded = is_logged || matches.get_str("transcript").is_some();
@@ -84,7 +104,22 @@ fn idle_in<'a>(matches: &ArgMatches<'a>) -> Option<Misuse<'a>> {
     if matches.get_flag("log-answers") && !is_logged {
         return Some(Misuse::Without("log-answers", "--log"));
     }
+    for name in &OF_LOGS_MADE_ANEW {
+        if is_given(matches, name) {
+            if !is_logged {
+                return Some(Misuse::Without(name, "--log"));
+            }
+            if matches.get_one::<u32>("edits").unwrap_or(MOST_EDITS) < MOST_EDITS {
+                return Some(Misuse::Beside(name, "--edits below 16777215"));
+            }
+        }
+    }
     None
+}
+
+// Whether an option is given, with a value or as a flag.
+fn is_given(matches: &ArgMatches<'_>, name: &str) -> bool {
+    matches.get_one::<u32>(name).is_some() || matches.get_flag(name)
 }
 
 // The first number of a command's options that is written with a plus, if one is.

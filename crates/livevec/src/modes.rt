@@ -76,11 +76,32 @@ const ANSWERS: Number = Number {
     usual: "100000000",
 };
 
+/// From how many bytes on a log is made anew where nothing else is said.
+pub const COMPACT_AT: u32 = 1_073_741_824;
+
+const COMPACT_AT_BYTES: Range = Range {
+    name: "compact-at",
+    value: "BYTES",
+    says: "Makes the log anew once it has so many bytes, 1 to 4000000000; without it 1073741824",
+    least: 1,
+    most: 4_000_000_000,
+};
+
 // What each command takes that writes to standard output.
 const QUIET_PIPE: Argument = Argument::Flag(
     "quiet-pipe",
     "If whatever reads standard output has ended, as `head` does, reports nothing (exit code 3)",
 );
+
+/// An option whose value is a number, and which may be missing: its name, what stands for the value, what it says, its least and greatest number.
+#[derive(Clone, Copy)]
+pub struct Range {
+    pub name: &'static str,
+    pub value: &'static str,
+    pub says: &'static str,
+    pub least: i64,
+    pub most: i64,
+}
 
 /// The names of the kinds.
 pub const KINDS: [&str; 6] = ["sum", "least", "greatest", "best", "affine", "automaton"];
@@ -90,6 +111,8 @@ pub const KINDS: [&str; 6] = ["sum", "least", "greatest", "best", "affine", "aut
 pub enum Argument {
     /// An option whose value is a number.
     Number(Number),
+    /// The same, which may be missing.
+    Range(Range),
     /// The option that says the kind of a board's body.
     Body,
     /// The files of sessions, at most so many.
@@ -159,6 +182,11 @@ pub const SERVE: Mode = Mode {
             &["transcript", "answers"],
         ),
         Argument::Flag("log-answers", "Writes answers to the log too"),
+        Argument::Range(COMPACT_AT_BYTES),
+        Argument::Flag(
+            "drop-old",
+            "Doesn't keep what was there as FILE.1 when the log is made anew",
+        ),
         Argument::Flag(
             "sync",
             "Flushes to the disk what --transcript or --log writes, before its reply",

@@ -6,6 +6,7 @@ mod held_jobs;
 mod held_logs;
 mod held_scans;
 mod late_workers;
+mod renewed_vectors;
 mod sessions;
 mod sleepers;
 mod strangers;

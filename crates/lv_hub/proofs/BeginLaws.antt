@@ -4,29 +4,23 @@ use Rattle.std.proofs.lemmas.List.{take_all, take_more}
 use Rattle.lv_geometry.specs.Bounds.{Bounds}
 use Rattle.lv_edits.specs.declared.edit.Edit.{Edit}
 use Rattle.lv_edits.specs.declared.receipt.Receipt.{Receipt}
-use Rattle.lv_edits.specs.History.{History, with_edit}
 use Rattle.lv_edits.specs.Verdict.{Accepts}
 use Rattle.lv_hub.specs.Counting.{ShareState, having_seen, one_more}
-use Rattle.lv_hub.specs.Told.{IsVector, history_of}
+use Rattle.lv_hub.specs.Told.{history_of}
 
--- a list that is as long as nothing
-none_of : (edits : List Edit) (n : ℕ) → length edits ≡ n → n ≡ 0 → edits ≡ []
+-- a list that is as long as a share counts which counts none
+pub none_of : (edits : List Edit) (n : ℕ) → length edits ≡ n → n ≡ 0 → edits ≡ []
 none_of [] n is none = refl
 none_of (e ∷ edits) n is none = absurd (omega (arith, is, none))
-
--- a vector that has as many edits as a share that counts none
-pub history_begins : (limits : Bounds) (h : History) (n : ℕ) → IsVector limits h → length h.journal ≡ n → n ≡ 0 → h ≡ history_of limits []
-history_begins limits h n vector counted none = λ i. record { limits = vector.limits_are i; journal = none_of h.journal n counted none i }
 
 -- that share, once it has seen them
 pub share_begins : (old new : ShareState) (edits : List Edit) → new ≡ having_seen old edits → length edits ≡ old.count → old.count ≡ 0 → new ≡ record old { count = 0; seen = [] }
 share_begins old new edits is counted none = is ∙ (λ i. record { parts = old.parts; count = none i; seen = none_of edits old.count counted none i })
 
 -- one edit more was accepted
-pub history_goes_on : (limits : Bounds) (old new : History) (edits : List Edit) (i : ℕ) (d e : Edit) (receipt : Receipt) → i < length edits → e ≡ get_or edits i d → old ≡ history_of limits (take i edits) → Accepts old e receipt new
-    → new ≡ history_of limits (take (i + 1) edits)
-history_goes_on limits old new edits i d e receipt within is so_far accepts =
-    accepts.journal ∙ ap (λ h. with_edit h e) so_far ∙ ap (λ e. history_of limits (take i edits ++ e ∷ [])) is ∙ ap (λ es. history_of limits es) (sym (take_more edits i d within))
+pub edits_go_on : (limits : Bounds) (old new edits : List Edit) (i : ℕ) (d e : Edit) (receipt : Receipt) → i < length edits → e ≡ get_or edits i d → old ≡ take i edits → Accepts (history_of limits old) e receipt (history_of limits new) → new ≡ take (i + 1) edits
+edits_go_on limits old new edits i d e receipt within is so_far accepts =
+    ap (λ h. h.journal) accepts.journal ∙ ap (λ es. es ++ e ∷ []) so_far ∙ ap (λ e. take i edits ++ e ∷ []) is ∙ sym (take_more edits i d within)
 
 -- and the share counts it
 pub share_goes_on : (start old new : ShareState) (edits : List Edit) (i : ℕ) → new ≡ one_more (having_seen old new.seen) → new.seen ≡ take (i + 1) edits → old ≡ record start { count = i; seen = take i edits }
@@ -38,5 +32,5 @@ share_goes_on start old new edits i counts seen so_far =
 pub share_ends : (start share : ShareState) (edits : List Edit) (i : ℕ) → i ≡ length edits → share ≡ record start { count = i; seen = take i edits } → share ≡ record start { count = length edits; seen = edits }
 share_ends start share edits i all is = is ∙ (λ k. record { parts = start.parts; count = all k; seen = take_all i edits (omega (arith, all)) k })
 
-pub history_ends : (limits : Bounds) (h : History) (edits : List Edit) (i : ℕ) → i ≡ length edits → h ≡ history_of limits (take i edits) → h ≡ history_of limits edits
-history_ends limits h edits i all is = is ∙ ap (λ es. history_of limits es) (take_all i edits (omega (arith, all)))
+pub edits_end : (made edits : List Edit) (i : ℕ) → i ≡ length edits → made ≡ take i edits → made ≡ edits
+edits_end made edits i all is = is ∙ take_all i edits (omega (arith, all))

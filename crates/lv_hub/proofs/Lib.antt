@@ -3,7 +3,8 @@ mod AcceptedLaws
 mod AsScriptsLaws
 mod AskingLaws
 mod BeginLaws
-mod LogLaws
+mod DeskLaws
+pub mod LogLaws
 mod NoticeLaws
 pub mod Noticed
 mod OrderLaws
@@ -11,6 +12,7 @@ mod PermitLaws
 pub mod PlainSessionLaws
 mod PrefixLaws
 mod RefusedQuestions
+mod RenewalLaws
 mod SessionLaws
 mod StepLaws
 mod StretchLaws

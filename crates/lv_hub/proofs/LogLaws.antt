@@ -1,12 +1,15 @@
 -- What a log is given is true in the order of time.
-use Rattle.std.proofs.Common.{◌≡◌, ℕ, zero, suc, ◌+◌, ◌≤◌, Bool, false, true, is_some, Option, Some, None, Result, Ok, Err, IfSome, option_map, List, [], ◌∷◌, ◌++◌, All, length, map, take, drop, refl, sym, ap, ◌∙◌, subst, inl, inr, arith, append_assoc, append-nil, take-append-drop}
+use Rattle.std.proofs.Common.{◌≡◌, ◌⊎◌, ℕ, ℤ, zero, suc, ◌+◌, ◌-◌, ◌^◌, ◌≤◌, Bool, false, true, is_some, Option, Some, None, Result, Ok, Err, IfSome, option_map, List, [], ◌∷◌, ◌++◌, All, length, map, take, drop, refl, sym, ap, ◌∙◌, subst, inl, inr, arith, append_assoc, append-nil, take-append-drop}
 use Rattle.std.proofs.lemmas.List.Elements.{All-cons, All-head, All-nil, All-tail}
-use Rattle.std.proofs.lemmas.List.{drop-append-le, length-append, length_push, map-append, take-append-le}
+use Rattle.std.proofs.lemmas.List.{drop-append-le, length-append, length-drop, length-map, length_push, map-append, take-append-le, take_all}
 use Rattle.std.proofs.lemmas.Grind.{flat_map-append}
 use Rattle.std.proofs.Math.Seq.{drop-length}
-use Rattle.std.specs.Io.KnownBytes.{Appends}
 use mathlib.Core.List.{IsPrefix}
+use Rattle.lv_geometry.specs.Bounds.{Bounds}
+use Rattle.lv_geometry.specs.Elements.{IsElement}
 use Rattle.lv_edits.specs.declared.edit.Edit.{Edit}
+use Rattle.lv_edits.specs.declared.edit.Edit.TheVariants.{Push}
+use Rattle.lv_edits.specs.History.{list_of}
 use Rattle.lv_edits.specs.Kept.{CarriesElement}
 use Rattle.lv_lines.specs.declared.fault.Fault.{Fault}
 use Rattle.lv_lines.specs.declared.fault.Fault.TheVariants.{WriteFault}
@@ -15,13 +18,19 @@ use Rattle.lv_lines.specs.Output.{Writes}
 use Rattle.lv_lines.proofs.OutputLemmas.{Writes-all}
 use Rattle.lv_transcript.specs.declared.log_heading.LogHeading.{LogHeading}
 use Rattle.lv_transcript.specs.Fronts.{AreTrueAfter, AreTrueOf, Entry, IsFrontOf, IsPush, IsWholeFront, edits_in, entry_line}
-use Rattle.lv_transcript.specs.Transcribing.{Adds, EndsWhole, GoesOn, GotFrontOf, IsUnused, IsUnusedOf, WasGiven, WasGivenOf, WriterState, WritingState, WroteOrHolds, all_entries, front_bytes_of}
-use Rattle.lv_transcript.specs.Transcript.{AreAccepted, AreAcceptedAfter, IsTrueAnswer, ended, greatest, heading_line}
-use Rattle.lv_transcript.proofs.TranscribedFronts.{entry_lines_front}
+use Rattle.lv_transcript.specs.Transcribing.{Adds, EndsWhole, GoesOn, GotFrontOf, IsUnused, IsUnusedOf, WasGiven, WasGivenOf, WriterState, WritingState, WroteOrHolds, all_entries, front_bytes_of, state_with}
+use Rattle.lv_transcript.specs.Logs.{pushes_of_elements}
+use Rattle.lv_transcript.specs.Transcript.{AreAccepted, AreAcceptedAfter, IsHeading, IsTrueAnswer, ended, greatest, heading_line}
+use Rattle.lv_transcript.proofs.LogTexts.{log_is_sound}
+use Rattle.lv_transcript.proofs.ReplayLemmas.{list_of_none}
+use Rattle.lv_transcript.proofs.TranscribedFronts.{entry_lines_front, unused}
 use Rattle.lv_hub.specs.declared.log_entry.LogEntry.{LogEntry}
 use Rattle.lv_hub.specs.declared.log_entry.LogEntry.TheVariants as logged
-use Rattle.lv_hub.specs.Logging.{CameSince, EndsText, HasFront, IsLogOf, IsLogOfEdits, LogEnds, LogState, LogThere, MayGoOn, TapState, Taps, edits_there, entry_of, heading_of, last_after, there_of, with_entry}
-use Rattle.lv_hub.proofs.PrefixLaws.{prefix_self, prefix_whole}
+use Rattle.lv_hub.specs.Logging.{AreLasting, BeginsAnew, CameSince, EndsInFile, EndsText, HasFront, HasFrontOfFile, HasLog, IsLogInFile, IsLogOf, IsLogOfEdits, LogEnds, LogFile, LogState, LogThere, MayGoOn, TapState, Taps, edits_there, entry_of, heading_after, heading_of, last_after, log_after, log_of_edits, there_of, with_entry}
+use Rattle.lv_hub.specs.Numbering.{told_number}
+use Rattle.lv_hub.specs.Renewing.{IsOfOneVector, lasting, renewed_after}
+use Rattle.lv_hub.proofs.PrefixLaws.{prefix_length, prefix_self, prefix_whole}
+use Rattle.lv_hub.proofs.RenewalLaws.{renewed_never, renewed_prefix}
 
 -- ---- entries
 
@@ -342,3 +351,189 @@ log_ends_short log start s journal contents result was begins ends = record {
   begins = subst (λ (es : List Edit). IsPrefix es journal) (sym was.edits_are) begins;
   got = got_at_end log start contents was.entries result (true_behind log was.entries was.goes_on was.all_true) (ends was.entries was.given);
 }
+
+-- ---- a vector that was made anew
+
+-- how many it has
+pub renewed_length : (n : ℕ) (edits : List Edit) → length (renewed_after n edits) ≡ length (list_of (take n edits)) + (length edits - n)
+renewed_length n edits =
+    omega (arith, length-append (map Push (list_of (take n edits))) (drop n edits), length-map (list_of (take n edits)) Push, length-drop n edits)
+
+-- it was made anew after all edits
+renewed_all : (edits : List Edit) → renewed_after (length edits) edits ≡ map Push (list_of (take (length edits) edits))
+renewed_all edits = ap (λ (es : List Edit). map Push (list_of (take (length edits) edits)) ++ es) (drop-length edits) ∙ append-nil (map Push (list_of (take (length edits) edits)))
+
+-- its limits
+pub lasting_itself : (limits vector : Bounds) → AreLasting limits vector → limits ≡ lasting limits
+lasting_itself limits vector are = are.lasts ∙ sym (ap lasting are.lasts)
+
+-- ---- the file of a log
+
+-- the edits of a log of elements
+edits_in_pushes : (elements : List ℤ) → edits_in (pushes_of_elements elements) ≡ map Push elements
+edits_in_pushes [] = refl
+edits_in_pushes (x ∷ elements) = ap (λ (es : List Edit). Push x ∷ es) (edits_in_pushes elements)
+
+-- how the file begins that comes after all edits
+abbrev heading_by : ℕ → ℕ → LogHeading
+heading_by base elements = record { base = base; elements = elements }
+
+pub heading_of_all : (told numbers heading : LogHeading) (n : ℕ) (edits : List Edit) (elements : List ℤ) → told ≡ numbers → n ≡ length edits → elements ≡ list_of edits → heading ≡ heading_by (told_number told n) (length elements)
+    → heading ≡ heading_after numbers (length edits) edits
+heading_of_all told numbers heading n edits elements same count list is =
+    let xs : List ℤ = list_of (take (length edits) edits) in
+    let all : elements ≡ xs = list ∙ ap list_of (sym (take_all (length edits) edits (omega arith))) in
+    is ∙ ap (λ (ys : List ℤ). heading_by (told_number told n) (length ys)) all ∙ ap (λ (h : LogHeading). heading_by (told_number h n) (length xs)) same
+    ∙ ap (λ (m : ℕ). heading_by (told_number numbers m) (length xs)) count
+
+pub count_of_all : (numbers heading : LogHeading) (edits : List Edit) (elements : List ℤ) → heading ≡ heading_after numbers (length edits) edits → elements ≡ list_of edits → heading.elements ≡ length elements
+count_of_all numbers heading edits elements is list = ap (λ (h : LogHeading). h.elements) is ∙ ap length (ap list_of (take_all (length edits) edits (omega arith)) ∙ sym list)
+
+module _ (made : Option (List ℕ)) (limits : Bounds) (numbers : LogHeading) (log : Option LogThere) (start : Option (List ℕ)) where
+  -- which file it is, from the edits after which the vector was made anew
+  abbrev Which : ℕ → Option LogThere → Option (List ℕ) → List Edit → Type 0
+  Which renewed there begun taken =
+      ((renewed ≡ 0) × (there ≡ log) × (begun ≡ start))
+      ⊎ ((limits ≡ lasting limits)
+      × (there ≡ Some (log_of_edits record { base = told_number numbers renewed; elements = length (list_of taken) } (map Push (list_of taken))))
+      × HasLog made record { base = told_number numbers renewed; elements = length (list_of taken) } (list_of taken) begun)
+
+  -- it stays the same while edits come
+  file_more : (seen edits : List Edit) → IsPrefix seen edits → LogFile made limits numbers log start seen → LogFile made limits numbers log start edits
+  file_more seen edits more file = record {
+    renewed = file.renewed;
+    some = omega (arith, file.some, prefix_length seen edits more);
+    there = file.there;
+    begun = file.begun;
+    which = subst (Which file.renewed file.there file.begun) (sym (same_taken file.renewed seen edits file.some more)) file.which;
+  }
+    where
+      same_taken : (n : ℕ) (seen edits : List Edit) → n ≤ length seen → IsPrefix seen edits → take n edits ≡ take n seen
+      same_taken n seen edits le more = ap (take n) (sym more.1) ∙ take-append-le n seen more.0 le
+
+  -- the first one begins
+  pub in_file_begins : (is_log : Bool) (written : WritingState) (seen : List Edit) → is_log ≡ is_some log → MayGoOn log → seen ≡ edits_there log → WasGivenOf (heading_of log) (there_of log) start [] written
+      → IsLogInFile made limits numbers log start 0 0 is_log record { written = written; seen = seen }
+  in_file_begins is_log written seen behind goes same given = record {
+    file = record { renewed = 0; some = omega arith; there = log; begun = start; which = inl (refl, refl, refl) };
+    renewed_is = refl;
+    elements_are = ap length list_of_none;
+    behind = behind;
+    given = subst (λ (es : List Edit). IsLogOf log start record { written = written; seen = es }) (sym (renewed_never seen)) (log_begins log start written seen goes same given);
+  }
+
+  -- what the log keeps in numbers of its file
+  pub in_file_some : (renewed elements : ℕ) (is_log : Bool) (s : LogState) → IsLogInFile made limits numbers log start renewed elements is_log s → renewed ≤ length s.seen
+  in_file_some renewed elements is_log s was = omega (arith, was.file.some, was.renewed_is)
+
+  pub in_file_elements : (renewed elements : ℕ) (is_log : Bool) (s : LogState) → IsLogInFile made limits numbers log start renewed elements is_log s → elements ≡ length (list_of (take renewed s.seen))
+  in_file_elements renewed elements is_log s was = sym was.elements_are ∙ ap (λ (n : ℕ). length (list_of (take n s.seen))) was.renewed_is
+
+  -- what came since was given
+  pub in_file_more : (renewed elements : ℕ) (is_log : Bool) (s : LogState) (edits : List Edit) (entries : List Entry) (written : WritingState) → IsLogInFile made limits numbers log start renewed elements is_log s → IsPrefix s.seen edits
+      → CameSince (renewed_after renewed edits) (length (renewed_after renewed s.seen)) entries → Adds s.written entries written → IsLogInFile made limits numbers log start renewed elements is_log record { written = written; seen = edits }
+  unfolding file_more
+  in_file_more renewed elements is_log s edits entries written was more came gives =
+      let n = was.file.renewed in
+      let since = subst (λ (m : ℕ). CameSince (renewed_after m edits) (length (renewed_after m s.seen)) entries) (sym was.renewed_is) came in
+      record {
+        file = file_more s.seen edits more was.file;
+        renewed_is = was.renewed_is;
+        elements_are = ap (λ (es : List Edit). length (list_of es)) (ap (take n) (sym more.1) ∙ take-append-le n s.seen more.0 was.file.some) ∙ was.elements_are;
+        behind = was.behind;
+        given = log_more was.file.there was.file.begun record { written = s.written; seen = renewed_after n s.seen } (renewed_after n edits) entries written was.given (renewed_prefix n s.seen edits was.file.some more) since gives;
+      }
+
+  -- what is held was written, or that failed
+  pub in_file_rests : (renewed elements : ℕ) (is_log : Bool) (s : LogState) (written : WritingState) → IsLogInFile made limits numbers log start renewed elements is_log s → Adds s.written [] written
+      → IsLogInFile made limits numbers log start renewed elements is_log record { written = written; seen = s.seen }
+  in_file_rests renewed elements is_log s written was rests = record {
+    file = was.file;
+    renewed_is = was.renewed_is;
+    elements_are = was.elements_are;
+    behind = was.behind;
+    given = log_rests was.file.there was.file.begun record { written = s.written; seen = renewed_after was.file.renewed s.seen } written was.given rests;
+  }
+
+  -- a file was begun anew, and what writes it holds nothing
+  pub in_file_anew : (is_log : Bool) (heading : LogHeading) (elements : List ℤ) (edits : List Edit) (contents : Option (List ℕ)) (s : WriterState) → is_log ≡ true
+      → BeginsAnew limits numbers edits heading elements → HasLog made heading elements contents → s.held ≡ [] → s.failed ≡ false → IsLogInFile made limits numbers log start (length edits) heading.elements is_log record { written = state_with contents s; seen = edits }
+  in_file_anew is_log heading elements edits contents s behind begins has none fine =
+      let n = length edits in
+      let xs : List ℤ = list_of (take n edits) in
+      let first : LogHeading = heading_after numbers n edits in
+      let there : LogThere = log_after numbers n edits in
+      let all : elements ≡ xs = begins.elements_are ∙ ap list_of (sym (take_all n edits (omega arith))) in
+      let few_of : length xs ≤ 1048568 = subst (λ (ys : List ℤ). length ys ≤ 1048568) all begins.few in
+      let fits_of : All IsElement xs = subst (All IsElement) all begins.all in
+      let has_of : HasLog made first xs contents = subst (λ (ys : List ℤ). HasLog made first ys contents) all (subst (λ (h : LogHeading). HasLog made h elements contents) begins.heading_is has) in
+      let base_of : first.base ≤ 2 ^ 62 = subst (λ (h : LogHeading). h.base ≤ 2 ^ 62) begins.heading_is begins.base in
+      let fit : IsHeading first = record { base = omega (arith, base_of); elements = omega (arith, few_of) } in
+      let goes : MayGoOn (Some there) = found_goes_on first _ (pushes_of_elements xs) (map Push xs) (log_is_sound first xs fit refl few_of fits_of) (sym (edits_in_pushes xs)) in
+      let begun : WasGivenOf (Some first) (Some there.entries) contents [] (state_with contents s) =
+      subst (λ (held : List ℕ). WasGivenOf (Some first) (Some there.entries) contents [] record { contents = contents; held = held; failed = s.failed }) (sym none)
+      (subst (λ (failed : Bool). WasGivenOf (Some first) (Some there.entries) contents [] record { contents = contents; held = []; failed = failed }) (sym fine)
+      (unused (Some first) (Some there.entries) contents [] refl)) in
+      record {
+        file = record { renewed = n; some = omega arith; there = Some there; begun = contents; which = inr (begins.lasts, refl, has_of) };
+        renewed_is = refl;
+        elements_are = sym (ap (λ (h : LogHeading). h.elements) begins.heading_is);
+        behind = behind;
+        given = log_begins (Some there) contents (state_with contents s) (renewed_after n edits) goes (renewed_all edits ∙ sym (edits_of_edits (map Push xs))) begun;
+      }
+
+  -- what a log has written is a front
+  pub in_file_front : (renewed elements : ℕ) (is_log : Bool) (s : LogState) → IsLogInFile made limits numbers log start renewed elements is_log s → HasFrontOfFile made limits numbers log start s.written.contents s.seen
+  in_file_front renewed elements is_log s was = record {
+    file = was.file;
+    front = log_front was.file.there was.file.begun record { written = s.written; seen = renewed_after was.file.renewed s.seen } was.given;
+  }
+
+  -- how it ends that has all edits, or that hasn't
+  pub in_file_ends : (renewed elements : ℕ) (is_log : Bool) (s : LogState) (edits : List Edit) (contents : Option (List ℕ)) (result : Result Unit Fault) (was : IsLogInFile made limits numbers log start renewed elements is_log s) → IsPrefix s.seen edits
+      → length s.seen ≡ length edits → ((entries : List Entry) → WasGivenOf (heading_of was.file.there) (there_of was.file.there) was.file.begun entries s.written → EndsText was.file.there was.file.begun contents entries result)
+      → EndsInFile made limits numbers log start contents edits result
+  unfolding file_more
+  in_file_ends renewed elements is_log s edits contents result was begins all ends =
+      let n = was.file.renewed in
+      let same : s.seen ≡ edits = prefix_whole s.seen edits begins (omega (arith, all)) in
+      record {
+        file = file_more s.seen edits begins was.file;
+        ends = log_ends was.file.there was.file.begun record { written = s.written; seen = renewed_after n s.seen } (renewed_after n edits) contents result was.given (renewed_prefix n s.seen edits was.file.some begins) (ap (λ (es : List Edit). length (renewed_after n es)) same) ends;
+      }
+
+  pub in_file_ends_short : (renewed elements : ℕ) (is_log : Bool) (s : LogState) (edits : List Edit) (contents : Option (List ℕ)) (result : Result Unit Fault) (fault : Fault) (was : IsLogInFile made limits numbers log start renewed elements is_log s)
+      → IsPrefix s.seen edits → ((entries : List Entry) → WasGivenOf (heading_of was.file.there) (there_of was.file.there) was.file.begun entries s.written → EndsText was.file.there was.file.begun contents entries result)
+      → EndsInFile made limits numbers log start contents edits (Err fault)
+  unfolding file_more
+  in_file_ends_short renewed elements is_log s edits contents result fault was begins ends =
+      let n = was.file.renewed in
+      record {
+        file = file_more s.seen edits begins was.file;
+        ends = log_ends_short was.file.there was.file.begun record { written = s.written; seen = renewed_after n s.seen } (renewed_after n edits) contents result was.given (renewed_prefix n s.seen edits was.file.some begins) ends;
+      }
+
+-- ---- the log of a hub of one vector, which has one file
+
+first_file : (made : Option (List ℕ)) (limits : Bounds) (numbers : LogHeading) (log : Option LogThere) (start : Option (List ℕ)) (edits : List Edit) → IsOfOneVector limits → (file : LogFile made limits numbers log start edits) → (file.renewed ≡ 0) × (file.there ≡ log) × (file.begun ≡ start)
+first_file made limits numbers log start edits one file = first_of file.which
+  where
+    first_of : {A B C : Type 0} → A ⊎ ((limits ≡ lasting limits) × B × C) → A
+    first_of (inl is) = is
+    first_of (inr anew) = absurd (omega (arith, one, ap (λ (b : Bounds). b.edits) anew.0))
+
+pub front_of_one : (made : Option (List ℕ)) (limits : Bounds) (numbers : LogHeading) (log : Option LogThere) (start contents : Option (List ℕ)) (edits : List Edit) → IsOfOneVector limits → HasFrontOfFile made limits numbers log start contents edits → HasFront log start contents edits
+front_of_one made limits numbers log start contents edits one has =
+    let first = first_file made limits numbers log start edits one has.file in
+    let all : renewed_after has.file.renewed edits ≡ edits = ap (λ (n : ℕ). renewed_after n edits) first.0 ∙ renewed_never edits in
+    subst (λ (b : Option (List ℕ)). HasFront log b contents edits) first.2
+    (subst (λ (l : Option LogThere). HasFront l has.file.begun contents edits) first.1 (subst (HasFront has.file.there has.file.begun contents) all has.front))
+
+pub end_of_one : (made : Option (List ℕ)) (limits : Bounds) (numbers : LogHeading) (log : Option LogThere) (start contents : Option (List ℕ)) (edits : List Edit) (result : Result Unit Fault) → IsOfOneVector limits → EndsInFile made limits numbers log start contents edits result
+    → LogEnds log start contents edits result
+end_of_one made limits numbers log start contents edits result one ends =
+    let first = first_file made limits numbers log start edits one ends.file in
+    let all : renewed_after ends.file.renewed edits ≡ edits = ap (λ (n : ℕ). renewed_after n edits) first.0 ∙ renewed_never edits in
+    subst (λ (b : Option (List ℕ)). LogEnds log b contents edits result) first.2
+    (subst (λ (l : Option LogThere). LogEnds l ends.file.begun contents edits result) first.1
+    (subst (λ (es : List Edit). LogEnds ends.file.there ends.file.begun contents es result) all ends.ends))

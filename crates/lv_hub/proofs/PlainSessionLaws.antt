@@ -1,5 +1,5 @@
 -- Each line of a session is answered as the plain interpreter answers it, at some edits of the hub's.
-use Rattle.std.proofs.Common.{◌≡◌, ◌⊎◌, ℕ, ◌+◌, Bool, Option, Some, None, Result, Ok, Err, List, [], ◌∷◌, ◌++◌, length, take, refl, sym, ap, ap₂, arith, ◌∙◌, subst, inl, inr, length-append}
+use Rattle.std.proofs.Common.{◌≡◌, ◌⊎◌, ℕ, ◌+◌, Bool, true, false, Option, Some, None, Result, Ok, Err, IfOk, List, [], ◌∷◌, ◌++◌, length, refl, sym, ap, ap₂, arith, ◌∙◌, subst, inl, inr, length-append}
 use Rattle.std.specs.Option.{option_map_or}
 use mathlib.Core.List.{IsPrefix}
 use Rattle.lv_geometry.specs.Bounds.{Bounds}
@@ -10,6 +10,8 @@ use Rattle.lv_bodies.specs.Plain.{plain_value}
 use Rattle.lv_bodies.specs.declared.sixes.Six.{Six}
 use Rattle.lv_edits.specs.declared.edit.Edit.{Edit}
 use Rattle.lv_edits.specs.declared.receipt.Receipt.{Receipt}
+use Rattle.lv_edits.specs.declared.receipt.Receipt.TheVariants.{Popped, Pushed, Reserved, Swapped, Truncated, Written}
+use Rattle.lv_edits.specs.Ranges.{slice_of}
 use Rattle.lv_edits.specs.Verdict.{verdict_of}
 use Rattle.lv_reduce.specs.Stretch.{StretchState}
 use Rattle.lv_lines.specs.declared.command.Command.{Command}
@@ -24,14 +26,30 @@ use Rattle.lv_lines.proofs.LineLoopLaws.{lines_served_as}
 use Rattle.lv_script.specs.PlainScript.{scan_by}
 use Rattle.lv_standing.specs.Queries.{IsValue}
 use Rattle.lv_standing.specs.declared.notes.Answered.{Answered as Valued}
+use Rattle.lv_transcript.specs.declared.claimed.Claimed.{Claimed}
 use Rattle.lv_transcript.specs.declared.log_heading.LogHeading.{LogHeading}
 use Rattle.lv_hub.specs.Numbering.{told_number}
-use Rattle.lv_hub.specs.Replying.{ListsAnswer, SessionCommandAnswer, SessionLineAnswer, TellsLine, edit_text_at, having_counted, scan_reply_text, up_to}
-use Rattle.lv_hub.specs.Session.{IsWithin, Lists, SessionState, SessionStep, kept_by, listed_if}
+use Rattle.lv_hub.specs.Replying.{ListsAnswer, SessionCommandAnswer, SessionLineAnswer, TellsLine, edit_text_at, having_counted, listed_of, scan_reply_text, up_to}
+use Rattle.lv_hub.specs.Session.{IsWithin, Lists, SessionState, SessionStep, claim_at, kept_by, listed_if}
 use Rattle.lv_hub.specs.PlainSession.{FindsNoMemory, IsTrueReply, PlainSessionStep, Seen, TrueReply, known_of, refusal_after, reply_after, seen_after, session_line_of, session_reply}
-use Rattle.lv_hub.specs.Told.{EditTold, StretchTold, ValueTold}
+use Rattle.lv_hub.specs.Told.{EditTold, StretchTold, ValueTold, valued_at}
 use Rattle.lv_hub.proofs.PrefixLaws.{prefix_length, prefix_self, prefix_take, prefix_trans}
 use Rattle.lv_hub.proofs.TruthLaws.{edit_lists_nothing}
+
+-- a receipt with two numbers, one after the other, tells the last
+numbered_again : (m n : ℕ) (receipt : Receipt) → numbered m (numbered n receipt) ≡ numbered m receipt
+numbered_again m n (Pushed edit index) = refl
+numbered_again m n (Popped edit value) = refl
+numbered_again m n (Written edit before) = refl
+numbered_again m n (Reserved edit capacity) = refl
+numbered_again m n (Swapped edit first second) = refl
+numbered_again m n (Truncated edit dropped) = refl
+
+-- what is listed is what has the hub's own number, where anything is
+listed_as : (listing : Bool) (answers : List Claimed) (kind : Kind) (lo hi : ℕ) (answered : Valued) (edits : List Edit) → (listing ≡ true → answered.edit ≡ length edits) → answered.value ≡ plain_value kind (slice_of edits lo hi)
+    → listed_if listing answers (listed_of kind lo hi answered) ≡ listed_if listing answers (claim_at edits kind lo hi)
+listed_as true answers kind lo hi answered edits number value = ap₂ (λ edit shown. answers ++ record { edit = edit; kind = kind; lo = lo; hi = hi; value = shown } ∷ []) (number refl) value
+listed_as false answers kind lo hi answered edits number value = refl
 
 -- what is kept after an edit, by what refuses it
 abbrev kept_after : Seen → List Edit → Edit → Option Refusal → Seen
@@ -73,7 +91,8 @@ module _ (limits : Bounds) (numbers : LogHeading) (listing : Bool) where
       let more = ap (λ h. h.journal) told.answers.journal in
       let many : length new.seen ≡ length told.before + 1 = omega (arith, ap length more, length-append told.before (e ∷ [])) in
       inl (
-        granted told.before n (command.Edit e) text told.answers.verdict (is ∙ ap₂ (λ last receipt. receipt_text (numbered (told_number numbers last) receipt)) many told.answers.receipt_is),
+        granted told.before n (command.Edit e) text told.answers.verdict
+            (is ∙ ap receipt_text (sym (numbered_again (told_number numbers (length new.seen)) (length new.seen) receipt)) ∙ ap₂ (λ last receipt. receipt_text (numbered (told_number numbers last) receipt)) many told.answers.receipt_is),
         counted_more old new told.before e more (ap (λ s. s.count) state) ∙ ap (kept_after (kept_by old) told.before e) (sym told.answers.verdict),
       )
   edit_plain old new n e text (Err refusal) told is state =
@@ -95,9 +114,9 @@ module _ (limits : Bounds) (numbers : LogHeading) (listing : Bool) where
 
   -- a reduction
   reduction_said : (old new : SessionState) (n : ℕ) (kind : Kind) (lo hi : ℕ) (text : List ℕ) (result : Result Valued Refusal) → ValueTold limits old.seen new.seen kind lo hi result
-      → ListsAnswer limits numbers listing (up_to old new.seen) kind lo hi result text new → SaidLine old n (Do (command.Reduce kind lo hi)) text new
-  reduction_said old new n kind lo hi text (Ok answered) told lists =
-      let is : IsValue new.seen kind lo hi answered = told.answered in
+      → (listing ≡ true → IfOk result (λ answered. answered.edit ≡ length new.seen)) → ListsAnswer limits numbers listing (up_to old new.seen) kind lo hi result text new → SaidLine old n (Do (command.Reduce kind lo hi)) text new
+  reduction_said old new n kind lo hi text (Ok answered) told number lists =
+      let is : IsValue new.seen kind lo hi (valued_at (length new.seen) answered) = told.answered in
       elim lists [
         | inl listed ↦
             let text_is = listed.0 ∙ ap (λ shown. answer_text (told_number numbers (length new.seen)) kind shown) is.value in record {
@@ -105,7 +124,7 @@ module _ (limits : Bounds) (numbers : LogHeading) (listing : Bool) where
               grown = told.seen;
               answer = inl (granted new.seen n (command.Reduce kind lo hi) text is.granted text_is, seen_more old new new.seen refl (ap (λ s. s.count) listed.1));
               within = told.within;
-              lists = inl (text_is, ap (λ s. s.answers) listed.1 ∙ ap₂ (λ edit shown. listed_if listing old.answers record { edit = edit; kind = kind; lo = lo; hi = hi; value = shown }) is.edit is.value);
+              lists = inl (text_is, ap (λ s. s.answers) listed.1 ∙ listed_as listing old.answers kind lo hi answered new.seen number is.value);
             }
         | inr full ↦ record {
           before = new.seen;
@@ -115,7 +134,7 @@ module _ (limits : Bounds) (numbers : LogHeading) (listing : Bool) where
           lists = inr (NoMemory, full.1, ap (λ s. s.answers) full.2);
         }
       ]
-  reduction_said old new n kind lo hi text (Err refusal) told lists = record {
+  reduction_said old new n kind lo hi text (Err refusal) told number lists = record {
     before = new.seen;
     grown = told.seen;
     answer = inl (refused new.seen n (command.Reduce kind lo hi) text refusal told.refused lists.0, seen_more old new new.seen refl (ap (λ s. s.count) lists.1));
@@ -151,7 +170,7 @@ module _ (limits : Bounds) (numbers : LogHeading) (listing : Bool) where
   -- a command, as a session knows it
   command_said : (old new : SessionState) (n : ℕ) (c : Command) (text : List ℕ) → SessionCommandAnswer limits numbers listing old n c text new → SaidLine old n (known_of (Do c)) text new
   command_said old new n (command.Edit e) text a = edit_said old new n e text a.result a.told a.text_is a.state
-  command_said old new n (command.Reduce kind lo hi) text a = reduction_said old new n kind lo hi text a.result a.told a.lists
+  command_said old new n (command.Reduce kind lo hi) text a = reduction_said old new n kind lo hi text a.result a.told a.number a.lists
   command_said old new n (command.Scan inclusive kind lo hi) text a = record {
     before = new.seen;
     grown = a.told.seen;

@@ -1,5 +1,5 @@
 -- A scan of a range that a hub copied is a scan that it tells.
-use Rattle.std.proofs.Common.{◌≡◌, ℕ, Bool, Result, Ok, Err, IfOk, IfErr, List, inr, ap, ◌∙◌}
+use Rattle.std.proofs.Common.{◌≡◌, ℕ, Bool, Result, Ok, Err, IfOk, IfErr, List, length, inr, refl, ap, ◌∙◌}
 use Rattle.lv_geometry.specs.Bounds.{Bounds}
 use Rattle.lv_geometry.specs.declared.refusals.Refusal.{Refusal}
 use Rattle.lv_geometry.specs.declared.refusals.Refusal.TheVariants.{NoMemory}
@@ -8,6 +8,7 @@ use Rattle.lv_edits.specs.declared.edit.Edit.{Edit}
 use Rattle.lv_reduce.specs.Answer.{scan_of}
 use Rattle.lv_reduce.specs.Stretch.{StretchState}
 use Rattle.lv_reduce.specs.declared.scans.Scan.{Scan}
+use Rattle.lv_hub.specs.Renewing.{IsOfOneVector}
 use Rattle.lv_hub.specs.Told.{ScanTold, StretchTold}
 
 -- a range that was refused
@@ -21,10 +22,20 @@ told_scanned o body limits old new lo hi inclusive stretch (Ok scan) told edit v
   within = told.within;
   scanned = record {
     granted = told.range.granted;
-    edit = edit ∙ told.range.edit;
+    edit = refl;
     values_are = values ∙ ap (λ body. scan_of inclusive (o body) stretch.elements) told.of ∙ ap (scan_of inclusive (o body)) told.range.elements;
   };
   refused = tt;
 }
 told_scanned o body limits old new lo hi inclusive stretch (Err refusal) told edit values err =
     record { seen = told.seen; within = told.within; scanned = tt; refused = inr (told.range.granted, err) }
+
+-- its number is that of the copy
+pub scan_number : {B S : Type 0} (limits : Bounds) (new : List Edit) (stretch : StretchState B) (r : Result (Scan S) Refusal) → (IsOfOneVector limits → stretch.edit ≡ length new) → IfOk r (λ scan. scan.edit ≡ stretch.edit)
+    → IsOfOneVector limits → IfOk r (λ scan. scan.edit ≡ length new)
+scan_number limits new stretch (Ok scan) number edit one = edit ∙ number one
+scan_number limits new stretch (Err refusal) number edit one = tt
+
+-- where the range was refused, nothing has one
+pub no_scan_number : {S : Type 0} (refusal : Refusal) (r : Result (Scan S) Refusal) (limits : Bounds) (new : List Edit) → r ≡ Err refusal → IsOfOneVector limits → IfOk r (λ scan. scan.edit ≡ length new)
+no_scan_number refusal r limits new is one = rw is tt

@@ -4,7 +4,6 @@ use Rattle.std.proofs.lemmas.List.{length-map}
 use mathlib.Core.List.{IsPrefix}
 use Rattle.lv_geometry.specs.Bounds.{Bounds}
 use Rattle.lv_bodies.specs.declared.kinds.Shown.{Shown}
-use Rattle.lv_edits.specs.Kept.{IsLegalInLimits}
 use Rattle.lv_standing.specs.declared.notes.Note.{Note}
 use Rattle.lv_standing.specs.declared.queries.Query.{Query}
 use Rattle.lv_standing.specs.Queries.{AddsNotesOf, AreNotesOf, watch_answer}
@@ -12,7 +11,7 @@ use Rattle.lv_standing.specs.QuerySets.{QuerySetState, with_answers, with_told}
 use Rattle.lv_hub.specs.declared.told.Told.{Told}
 use Rattle.lv_hub.specs.Counting.{ShareState, having_seen}
 use Rattle.lv_hub.specs.Notes.{HasTold, SubscriberState}
-use Rattle.lv_hub.specs.Told.{history_of}
+use Rattle.lv_hub.specs.Renewing.{IsRun}
 use Rattle.lv_hub.proofs.PrefixLaws.{prefix_length, prefix_whole}
 
 -- a set that was asked has an answer to each query
@@ -42,7 +41,7 @@ module _ (before share : ShareState) (is : share ≡ having_seen before share.se
       ap (λ s. subscriber_of s asked) same ∙ ap (subscriber_of before) asked_is
 
   -- else it is told
-  pub looked : (limits : Bounds) (told : Told) (none : List Note) (new : QuerySetState Query) → new ≡ with_told asked → none ≡ [] → IsLegalInLimits (history_of limits share.seen) → told.edit ≡ length share.seen → told.edit ≢ length before.seen
+  pub looked : (limits : Bounds) (told : Told) (none : List Note) (new : QuerySetState Query) → new ≡ with_told asked → none ≡ [] → IsRun limits share.seen → told.edit ≡ length share.seen → told.edit ≢ length before.seen
       → PutsNotes asked none told.notes.items → HasTold limits (subscriber_of before set) (subscriber_of share new) told
   looked limits told none new new_is empty within edit other adds =
       let answers : new.told ≡ map (watch_answer share.seen) set.queries = ap (λ (s : QuerySetState Query). s.told) new_is ∙ ap (λ (s : QuerySetState Query). s.answers) asked_is in

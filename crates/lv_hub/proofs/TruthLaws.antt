@@ -1,5 +1,5 @@
 -- The reductions that a session lists are true of what its share has seen.
-use Rattle.std.proofs.Common.{◌≡◌, ℕ, Bool, true, false, ◌+◌, ◌-◌, ◌≤◌, None, Option, Result, Ok, Err, OnOk, IfErr, List, [], ◌∷◌, ◌++◌, length, take, slice_range, All, nat_lt, refl, sym, ap, ◌∙◌, subst, inl, inr, arith}
+use Rattle.std.proofs.Common.{◌≡◌, ℕ, Bool, true, false, ◌+◌, ◌-◌, ◌≤◌, None, Option, Result, Ok, Err, OnOk, IfOk, IfErr, List, [], ◌∷◌, ◌++◌, length, take, slice_range, All, nat_lt, refl, sym, ap, ◌∙◌, subst, inl, inr, arith}
 use Rattle.std.proofs.lemmas.Bool.{cases_Bool, cond-false, cond-true, ltb-false}
 use Rattle.std.proofs.lemmas.List.{take_all, take-append-le}
 use Rattle.std.proofs.lemmas.List.Elements.{All-get_or, All-push, All-weaker}
@@ -28,7 +28,7 @@ use Rattle.lv_transcript.specs.declared.log_heading.LogHeading.{LogHeading}
 use Rattle.lv_transcript.specs.Transcript.{AreInOrder, IsTrueAnswer}
 use Rattle.lv_hub.specs.Replying.{ListsAnswer, SessionCommandAnswer, SessionLineAnswer, TellsLine, listed_of, having_counted, up_to}
 use Rattle.lv_hub.specs.Session.{SessionState, listed_if}
-use Rattle.lv_hub.specs.Told.{EditTold, ValueTold}
+use Rattle.lv_hub.specs.Told.{EditTold, ValueTold, valued_at}
 use Rattle.lv_standing.specs.Queries.{IsValue}
 use Rattle.lv_standing.specs.declared.notes.Answered.{Answered as Valued}
 use Rattle.lv_hub.proofs.PrefixLaws.{prefix_length, prefix_self, prefix_trans}
@@ -89,24 +89,25 @@ edit_lists_nothing s (Ok receipt) = refl
 edit_lists_nothing s (Err refusal) = refl
 
 -- the value of a range is a true answer at its edit
-pub value_true : (edits : List Edit) (kind : Kind) (lo hi : ℕ) (answered : Valued) → IsValue edits kind lo hi answered → IsTrueAnswer edits (listed_of kind lo hi answered)
-value_true edits kind lo hi answered is =
-    let all : take answered.edit edits ≡ edits = take_all answered.edit edits (omega (arith, is.edit)) in
+pub value_true : (edits : List Edit) (kind : Kind) (lo hi : ℕ) (answered : Valued) → answered.edit ≡ length edits → IsValue edits kind lo hi (valued_at (length edits) answered) → IsTrueAnswer edits (listed_of kind lo hi answered)
+value_true edits kind lo hi answered last is =
+    let all : take answered.edit edits ≡ edits = take_all answered.edit edits (omega (arith, last)) in
     let range = in_range edits lo hi is.granted in
     record {
-      edit = omega (arith, is.edit);
+      edit = omega (arith, last);
       range = range.range;
       end = subst (λ es. hi ≤ length (list_of es)) (sym all) range.end;
       value = subst (λ es. answered.value ≡ plain_value kind (slice_range (list_of es) lo hi)) (sym all) is.value;
     }
 
 -- what is listed, or not, behind true answers stays true and in order
-listed_true : (listing : Bool) (edits : List Edit) (answers : List Claimed) (reduction : Claimed) → All (IsTrueAnswer edits) answers → IsTrueAnswer edits reduction → All (IsTrueAnswer edits) (listed_if listing answers reduction)
-listed_true true edits answers reduction holds one = All-push (IsTrueAnswer edits) answers reduction holds one
+listed_true : (listing : Bool) (edits : List Edit) (answers : List Claimed) (reduction : Claimed) → All (IsTrueAnswer edits) answers → (listing ≡ true → IsTrueAnswer edits reduction) → All (IsTrueAnswer edits) (listed_if listing answers reduction)
+listed_true true edits answers reduction holds one = All-push (IsTrueAnswer edits) answers reduction holds (one refl)
 listed_true false edits answers reduction holds one = holds
 
-listed_order : (listing : Bool) (xs ys : List Edit) (answers : List Claimed) (reduction : Claimed) → IsPrefix xs ys → reduction.edit ≡ length ys → All (IsTrueAnswer xs) answers → AreInOrder answers → AreInOrder (listed_if listing answers reduction)
-listed_order true xs ys answers reduction more last holds rises = order_push xs ys answers reduction more last holds rises
+listed_order : (listing : Bool) (xs ys : List Edit) (answers : List Claimed) (reduction : Claimed) → IsPrefix xs ys → (listing ≡ true → reduction.edit ≡ length ys) → All (IsTrueAnswer xs) answers → AreInOrder answers
+    → AreInOrder (listed_if listing answers reduction)
+listed_order true xs ys answers reduction more last holds rises = order_push xs ys answers reduction more (last refl) holds rises
 listed_order false xs ys answers reduction more last holds rises = rises
 
 module _ (limits : Bounds) (numbers : LogHeading) (listing : Bool) where
@@ -124,27 +125,29 @@ module _ (limits : Bounds) (numbers : LogHeading) (listing : Bool) where
   keeps_same old new same = keeps_by_more old new (subst (IsPrefix old.seen) (sym (ap (λ s. s.seen) same)) (prefix_self old.seen)) (ap (λ s. s.answers) same)
 
   -- a reduction
-  reduction_keeps : (old new : SessionState) (kind : Kind) (lo hi : ℕ) (text : List ℕ) (result : Result Valued Refusal) → ValueTold limits old.seen new.seen kind lo hi result → ListsAnswer limits numbers listing (up_to old new.seen) kind lo hi result text new → Keeps old new
-  reduction_keeps old new kind lo hi text (Ok answered) told lists =
+  reduction_keeps : (old new : SessionState) (kind : Kind) (lo hi : ℕ) (text : List ℕ) (result : Result Valued Refusal) → ValueTold limits old.seen new.seen kind lo hi result
+      → (listing ≡ true → IfOk result (λ answered. answered.edit ≡ length new.seen)) → ListsAnswer limits numbers listing (up_to old new.seen) kind lo hi result text new → Keeps old new
+  reduction_keeps old new kind lo hi text (Ok answered) told number lists =
       elim lists [
         | inl listed ↦ record {
           seen = told.seen;
           all_true = λ holds.
               subst (All (IsTrueAnswer new.seen)) (sym (ap (λ s. s.answers) listed.1))
-              (listed_true listing new.seen old.answers (listed_of kind lo hi answered) (all_true_of_more old.seen new.seen old.answers told.seen holds) (value_true new.seen kind lo hi answered told.answered));
+              (listed_true listing new.seen old.answers (listed_of kind lo hi answered) (all_true_of_more old.seen new.seen old.answers told.seen holds)
+              (λ on. value_true new.seen kind lo hi answered (number on) told.answered));
           order = λ holds rises.
               subst AreInOrder (sym (ap (λ s. s.answers) listed.1))
-              (listed_order listing old.seen new.seen old.answers (listed_of kind lo hi answered) told.seen told.answered.edit holds rises);
+              (listed_order listing old.seen new.seen old.answers (listed_of kind lo hi answered) told.seen number holds rises);
         }
         | inr not_listed ↦ keeps_by_more old new told.seen (ap (λ s. s.answers) not_listed.2)
       ]
-  reduction_keeps old new kind lo hi text (Err refusal) told lists = keeps_by_more old new told.seen (ap (λ s. s.answers) lists.1)
+  reduction_keeps old new kind lo hi text (Err refusal) told number lists = keeps_by_more old new told.seen (ap (λ s. s.answers) lists.1)
 
   -- a command
   command_keeps : (old new : SessionState) (n : ℕ) (command : Command) (text : List ℕ) → SessionCommandAnswer limits numbers listing old n command text new → Keeps old new
   command_keeps old new n (commands.Edit e) text a =
       keeps_by_more old new (edit_grows limits old.seen new.seen e a.result a.told) (ap (λ s. s.answers) a.state ∙ edit_lists_nothing (up_to old new.seen) a.result)
-  command_keeps old new n (commands.Reduce kind lo hi) text a = reduction_keeps old new kind lo hi text a.result a.told a.lists
+  command_keeps old new n (commands.Reduce kind lo hi) text a = reduction_keeps old new kind lo hi text a.result a.told a.number a.lists
   command_keeps old new n (commands.Scan inclusive kind lo hi) text a = keeps_by_more old new a.told.seen (ap (λ s. s.answers) a.state)
   command_keeps old new n _ text a = keeps_same old new a.1
 

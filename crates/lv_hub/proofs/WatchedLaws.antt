@@ -5,10 +5,13 @@ use Rattle.std.proofs.lemmas.List.{map-append}
 use Rattle.std.proofs.lemmas.List.Elements.{All-head, All-nil, All-push, All-tail, All-weaker}
 use mathlib.Core.List.{IsPrefix}
 use Rattle.lv_geometry.specs.Bounds.{Bounds}
+use Rattle.lv_bodies.specs.Plain.{plain_value}
 use Rattle.lv_edits.specs.declared.edit.Edit.{Edit}
+use Rattle.lv_edits.specs.History.{list_of}
 use Rattle.lv_transcript.specs.declared.log_heading.LogHeading.{LogHeading}
 use Rattle.lv_hub.specs.Counting.{AreTogether, ShareState}
-use Rattle.lv_standing.specs.Queries.{AreNotesOf, watch_answer}
+use Rattle.lv_hub.specs.declared.told.Told.{Told}
+use Rattle.lv_standing.specs.Queries.{AreNotesOf, span_of, watch_answer}
 use Rattle.lv_hub.specs.Noticing.{NoticesState, WatcherState, Watches, WritesMore, WroteOrPart, all_told_text, told_text}
 use Rattle.lv_hub.specs.Watched.{AreWatched, IsWatched, ServedWatched, ToldOf, WatchState}
 use Rattle.lv_hub.specs.Watchers.{AllTellLast, AreLeft, AreWatchedFrom, ClosesTelling, LeftState, TakesWatchers, TellsLast, left_by, watcher_at}
@@ -89,6 +92,20 @@ tells_more edits [] [] one new all last = (last, tt)
 tells_more edits [] (t ∷ told) one new all last = absurd all
 tells_more edits (l ∷ left) [] one new all last = absurd all
 tells_more edits (l ∷ left) (t ∷ told) one new all last = (all.0, tells_more edits left told one new all.1 last)
+
+-- so they do at every list of edits that is as long as this, and has the elements of a vector
+abbrev pub AllTellLastAt : List Edit → ℕ → List LeftState → List NoticesState → Type 0
+AllTellLastAt journal many left told = (edits : List Edit) → length edits ≡ many → list_of journal ≡ list_of edits → AllTellLast edits left told
+
+-- one tells the last by a vector with the elements that there are after the edits
+pub tells_last : (journal edits : List Edit) (many : ℕ) (l : LeftState) (told : Told) (new : NoticesState) → told.edit ≡ many → length edits ≡ many → list_of journal ≡ list_of edits
+    → AreNotesOf l.ended.questions l.ended.told (map (watch_answer journal) l.ended.questions) told.notes.items → WritesMore (told_text l.numbers told) l.notices new → TellsLast edits l new
+tells_last journal edits many l told new last as_many same notes written = record {
+  told = told;
+  edit = last ∙ sym as_many;
+  notes = subst (λ xs. AreNotesOf l.ended.questions l.ended.told (map (λ q. plain_value q.kind (span_of q.span xs)) l.ended.questions) told.notes.items) same notes;
+  written = written;
+}
 
 -- one more told the last
 pub tells_one_more : (edits : List Edit) (left : List LeftState) (told more : List NoticesState) (one : LeftState) (new : NoticesState) → AllTellLast edits left told → TellsLast edits one new → more ≡ told ++ new ∷ []

@@ -23,7 +23,7 @@ use Rattle.lv_refresh.specs.Claim.{wants_job}
 use Rattle.lv_refresh.specs.Record.{Record, SameRecord}
 use Rattle.lv_refresh.proofs.WantLaws.{wants_before_edit, wants_job-same, wants_parts}
 use Rattle.lv_live.specs.State.{LiveState, SameRefresh, recorded}
-use Rattle.lv_hub.specs.Told.{IsVector}
+use Rattle.lv_hub.specs.Renewing.{IsVector}
 use Rattle.lv_hub.specs.Work.{makes_work}
 
 -- an element that ends a node is the last of a block

@@ -8,6 +8,7 @@ pub mod Notes
 pub mod Noticing
 pub mod Numbering
 pub mod PlainSession
+pub mod Renewing
 pub mod Replying
 pub mod Session
 pub mod Told

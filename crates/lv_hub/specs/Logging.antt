@@ -1,7 +1,11 @@
 -- The log of a hub: what came since it was written last, where its file begins, and what it has.
 use Rattle.std.proofs.Common.{inl, inr}
-use Rattle.std.specs.Prelude.{◌≡◌, ℕ, ◌+◌, ◌≤◌, Option, Some, None, Result, Ok, Err, List, [], ◌∷◌, ◌++◌, drop, length, map, take}
+use Rattle.std.specs.Prelude.{◌≡◌, ◌⊎◌, ℕ, ℤ, ◌+◌, ◌≤◌, ◌^◌, All, Bool, true, false, is_some, Option, Some, None, Result, Ok, Err, List, [], ◌∷◌, ◌++◌, drop, length, map, take}
+use Rattle.lv_geometry.specs.Bounds.{Bounds}
+use Rattle.lv_geometry.specs.Elements.{IsElement}
 use Rattle.lv_edits.specs.declared.edit.Edit.{Edit}
+use Rattle.lv_edits.specs.declared.edit.Edit.TheVariants.{Push}
+use Rattle.lv_edits.specs.History.{list_of}
 use Rattle.lv_lines.specs.declared.fault.Fault.{Fault}
 use Rattle.std.specs.Io.KnownBytes.{Appends}
 use mathlib.Core.List.{IsPrefix}
@@ -11,6 +15,9 @@ use Rattle.lv_transcript.specs.declared.log_heading.LogHeading.{LogHeading}
 use Rattle.lv_transcript.specs.Fronts.{AreTrueAfter, AreTrueOf, Entry, HasElements, IsFrontOf, edits_in, entry_line}
 use Rattle.lv_transcript.specs.Transcribing.{GotFrontOf, WasGivenOf, WritingState, all_entries, bytes_before, whole_bytes}
 use Rattle.lv_transcript.specs.Transcript.{ended}
+use Rattle.lv_transcript.specs.Logs.{log_text}
+use Rattle.lv_hub.specs.Numbering.{told_number}
+use Rattle.lv_hub.specs.Renewing.{lasting, renewed_after}
 
 -- ---- what came since
 
@@ -136,3 +143,65 @@ module _ (log : Option LogThere) (start : Option (List ℕ)) where
   abbrev pub LogEnds : Option (List ℕ) → List Edit → Result Unit Fault → Type 0
   LogEnds contents journal (Ok _) = WroteWhole contents journal
   LogEnds contents journal (Err fault) = HasFront contents journal
+
+-- ---- a file that takes the place of another
+
+-- a hub with these limits goes on when the edits of its vector are used up, which has the other ones
+pub record AreLasting (limits vector : Bounds) : Type 0 where
+  pub lasts : limits ≡ lasting vector
+  pub many : vector.edits ≡ 16777215
+
+-- how the log begins that comes after the first n edits of a hub which tells them by these numbers
+abbrev pub heading_after : LogHeading → ℕ → List Edit → LogHeading
+heading_after numbers n edits = record { base = told_number numbers n; elements = length (list_of (take n edits)) }
+
+-- what that log has at first: the elements that there were, each as the push of it
+abbrev pub log_after : LogHeading → ℕ → List Edit → LogThere
+log_after numbers n edits = log_of_edits (heading_after numbers n edits) (map Push (list_of (take n edits)))
+
+-- a writer has got a log of elements, and nothing behind them, since it had got what a file has that was just made
+abbrev pub HasLog : Option (List ℕ) → LogHeading → List ℤ → Option (List ℕ) → Type 0
+HasLog made heading elements contents = Appends made contents (log_text heading elements)
+
+-- what a file begins with that takes the place of another: the elements that there are after all edits of the hub, behind a first line that has the number of the last of these
+pub record BeginsAnew (limits : Bounds) (numbers : LogHeading) (edits : List Edit) (heading : LogHeading) (elements : List ℤ) : Type 0 where
+  pub lasts : limits ≡ lasting limits
+  pub heading_is : heading ≡ heading_after numbers (length edits) edits
+  pub base : heading.base ≤ 2 ^ 62
+  pub elements_are : elements ≡ list_of edits
+  pub few : length elements ≤ 1048568
+  pub all : All IsElement elements
+
+-- a log goes on behind what was there, holds nothing that is to be written, and no write has failed
+pub record MayBeginAnew (log : Option LogThere) (s : LogState) : Type 0 where
+  pub behind : is_some log ≡ true
+  pub sent : s.written.held ≡ []
+  pub fine : s.written.failed ≡ false
+
+-- the file of the log of a hub that has come to some edits: what was there already, and what its writer had got then. It is the one that the hub began with; or else the
+-- vector was made anew after the first so many edits, and with it the file
+pub record LogFile (made : Option (List ℕ)) (limits : Bounds) (numbers : LogHeading) (log : Option LogThere) (start : Option (List ℕ)) (edits : List Edit) : Type 0 where
+  pub renewed : ℕ
+  pub some : renewed ≤ length edits
+  pub there : Option LogThere
+  pub begun : Option (List ℕ)
+  pub which : ((renewed ≡ 0) × (there ≡ log) × (begun ≡ start))
+      ⊎ ((limits ≡ lasting limits) × (there ≡ Some (log_after numbers renewed edits)) × HasLog made (heading_after numbers renewed edits) (list_of (take renewed edits)) begun)
+
+-- a log that was given what a hub has come to: its file was begun anew after so many of those edits, with so many elements, and was given what the vector has since
+pub record IsLogInFile (made : Option (List ℕ)) (limits : Bounds) (numbers : LogHeading) (log : Option LogThere) (start : Option (List ℕ)) (renewed elements : ℕ) (is_log : Bool) (s : LogState) : Type 0 where
+  pub file : LogFile made limits numbers log start s.seen
+  pub renewed_is : file.renewed ≡ renewed
+  pub elements_are : length (list_of (take file.renewed s.seen)) ≡ elements
+  pub behind : is_log ≡ is_some file.there
+  pub given : IsLogOf file.there file.begun record { written = s.written; seen = renewed_after file.renewed s.seen }
+
+-- what the writer of that file has got is a front, whose edits begin those of the vector
+pub record HasFrontOfFile (made : Option (List ℕ)) (limits : Bounds) (numbers : LogHeading) (log : Option LogThere) (start contents : Option (List ℕ)) (edits : List Edit) : Type 0 where
+  pub file : LogFile made limits numbers log start edits
+  pub front : HasFront file.there file.begun contents (renewed_after file.renewed edits)
+
+-- how the log of a hub with these edits ends: in its last file
+pub record EndsInFile (made : Option (List ℕ)) (limits : Bounds) (numbers : LogHeading) (log : Option LogThere) (start contents : Option (List ℕ)) (edits : List Edit) (result : Result Unit Fault) : Type 0 where
+  pub file : LogFile made limits numbers log start edits
+  pub ends : LogEnds file.there file.begun contents (renewed_after file.renewed edits) result

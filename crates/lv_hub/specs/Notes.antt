@@ -4,12 +4,11 @@ use mathlib.Core.List.{IsPrefix}
 use Rattle.lv_geometry.specs.Bounds.{Bounds}
 use Rattle.lv_geometry.specs.declared.refusals.Refusal.{Refusal}
 use Rattle.lv_bodies.specs.declared.kinds.Shown.{Shown}
-use Rattle.lv_edits.specs.Kept.{IsLegalInLimits}
 use Rattle.lv_standing.specs.declared.queries.Query.{Query}
 use Rattle.lv_standing.specs.Queries.{AreNotesOf, query_refusal, watch_answer}
 use Rattle.lv_hub.specs.declared.told.Told.{Told}
 use Rattle.lv_hub.specs.Counting.{ShareState, having_seen}
-use Rattle.lv_hub.specs.Told.{history_of}
+use Rattle.lv_hub.specs.Renewing.{IsRun}
 
 -- why a subscriber refuses a query, want of memory apart: it has at most 64
 abbrev pub question_refusal : List Query → Query → Option Refusal
@@ -32,7 +31,7 @@ pub record HasTold (limits : Bounds) (old new : SubscriberState) (told : Told) :
   pub seen : IsPrefix old.share.seen new.share.seen
   pub later : length old.share.seen < told.edit
   pub edit : told.edit ≡ length new.share.seen
-  pub within : IsLegalInLimits (history_of limits new.share.seen)
+  pub within : IsRun limits new.share.seen
   pub share : new.share ≡ having_seen old.share new.share.seen
   pub questions : new.questions ≡ old.questions
   pub answers : new.told ≡ map (watch_answer new.share.seen) old.questions

@@ -1,5 +1,5 @@
 -- What the code of sessions passes on: how a line was answered by what the hub told.
-use Rattle.std.specs.Prelude.{◌≡◌, ◌⊎◌, ℕ, ◌+◌, Bool, true, Result, Ok, Err, List, [], length}
+use Rattle.std.specs.Prelude.{◌≡◌, ◌⊎◌, ℕ, ◌+◌, Bool, true, IfOk, Result, Ok, Err, List, [], length}
 use Rattle.lv_geometry.specs.Bounds.{Bounds}
 use Rattle.lv_geometry.specs.declared.refusals.Refusal.{Refusal}
 use Rattle.lv_geometry.specs.declared.refusals.Refusal.TheVariants.{NoMemory}
@@ -69,6 +69,7 @@ module _ (limits : Bounds) (numbers : LogHeading) (listing : Bool) where
   pub record TellsReduction (old : SessionState) (kind : Kind) (lo hi : ℕ) (text : List ℕ) (new : SessionState) : Type 0 where
     pub result : Result Answered Refusal
     pub told : ValueTold limits old.seen new.seen kind lo hi result
+    pub number : listing ≡ true → IfOk result (λ answered. answered.edit ≡ length new.seen)
     pub lists : ListsAnswer (up_to old new.seen) kind lo hi result text new
 
   -- a scan is answered by its values, of a range that was copied, or by its refusal, and changes nothing else

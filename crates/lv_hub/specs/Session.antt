@@ -5,7 +5,6 @@ use Rattle.lv_geometry.specs.declared.refusals.Refusal.{Refusal}
 use Rattle.lv_bodies.specs.declared.kinds.Kind.{Kind}
 use Rattle.lv_bodies.specs.Plain.{plain_value}
 use Rattle.lv_edits.specs.declared.edit.Edit.{Edit}
-use Rattle.lv_edits.specs.Kept.{IsLegalInLimits}
 use Rattle.lv_edits.specs.Ranges.{slice_of}
 use Rattle.lv_lines.specs.declared.command.Command.TheVariants.{Reduce}
 use Rattle.lv_lines.specs.declared.command.Command.{Command}
@@ -19,7 +18,7 @@ use Rattle.lv_hub.specs.declared.kept_answers.KeptAnswers.TheVariants.{Listed}
 use Rattle.lv_hub.specs.Counting.{ShareState}
 use Rattle.lv_hub.specs.Numbering.{told_number}
 use Rattle.lv_hub.specs.PlainSession.{PlainSessionStep, Seen, session_line_of}
-use Rattle.lv_hub.specs.Told.{history_of}
+use Rattle.lv_hub.specs.Renewing.{IsRun}
 
 -- how many edits the session's share counts, the beginning of the hub's edits that it has seen, and the reductions that were
 -- answered, in order
@@ -69,7 +68,7 @@ module _ (numbers : LogHeading) (listing : Bool) where
 module _ (limits : Bounds) where
   -- an edit, a reduction or a scan was answered after edits that are legal within the limits; any other line changed nothing
   abbrev pub IsWithin : SessionState → List Edit → Line Command → SessionState → Type 0
-  IsWithin old before (Do c) new = IsLegalInLimits (history_of limits before)
+  IsWithin old before (Do c) new = IsRun limits before
   IsWithin old before _ new = new ≡ old
 
 module _ (limits : Bounds) (numbers : LogHeading) (listing : Bool) where

@@ -1,5 +1,5 @@
 -- What a hub tells: each answer is that of one vector, by the hub's body and within its limits, after a beginning of its edits.
-use Rattle.std.specs.Prelude.{◌≡◌, Bool, ℕ, Option, Some, IfSome, option_map, Result, Ok, Err, IfOk, IfErr, List}
+use Rattle.std.specs.Prelude.{◌≡◌, Bool, ℕ, Option, Some, IfSome, option_map, Result, Ok, Err, IfOk, IfErr, List, length}
 use mathlib.Core.List.{IsPrefix}
 use Rattle.lv_geometry.specs.Bounds.{Bounds}
 use Rattle.lv_geometry.specs.declared.refusals.Refusal.{Refusal}
@@ -9,7 +9,6 @@ use Rattle.lv_bodies.specs.declared.kinds.Kind.{Kind}
 use Rattle.lv_edits.specs.declared.edit.Edit.{Edit}
 use Rattle.lv_edits.specs.declared.receipt.Receipt.{Receipt}
 use Rattle.lv_edits.specs.History.{History}
-use Rattle.lv_edits.specs.Kept.{IsLegalInLimits}
 use Rattle.lv_edits.specs.Verdict.{Answers}
 use Rattle.lv_edits.specs.Ranges.{range_refusal, slice_of}
 use Rattle.lv_summary.specs.declared.accepted.Accepted.{Accepted}
@@ -27,15 +26,30 @@ use Rattle.lv_live.specs.Kept.{IsLive}
 use Rattle.lv_live.specs.State.{HasClaim, LiveState, node_and_version, recorded}
 use Rattle.lv_standing.specs.Queries.{IsValue}
 use Rattle.lv_standing.specs.declared.notes.Answered.{Answered}
-
--- a vector whose edits are legal, within these limits
-pub record IsVector (limits : Bounds) (h : History) : Type 0 where
-  pub limits_are : h.limits ≡ limits
-  pub within : IsLegalInLimits h
+use Rattle.lv_lines.specs.Texts.{numbered}
+use Rattle.lv_hub.specs.Renewing.{IsRun}
+pub use Rattle.lv_hub.specs.Renewing.{IsVector}
 
 -- the history of a vector of these limits that has accepted these edits
 abbrev pub history_of : Bounds → List Edit → History
 history_of limits edits = record { limits = limits; journal = edits }
+
+-- what a call gave, with another number for the edit at which it did: the hub's own
+abbrev pub receipt_at : ℕ → Result Receipt Refusal → Result Receipt Refusal
+receipt_at number (Ok receipt) = Ok (numbered number receipt)
+receipt_at number (Err refusal) = Err refusal
+
+abbrev pub valued_at : ℕ → Answered → Answered
+valued_at number answered = record answered { edit = number }
+
+abbrev pub answer_at : {S : Type 0} → ℕ → Answer S → Answer S
+answer_at number answer = record answer { edit = number }
+
+abbrev pub scan_at : {S : Type 0} → ℕ → Scan S → Scan S
+scan_at number scan = record scan { edit = number }
+
+abbrev pub stretch_at : {B : Type 0} → ℕ → StretchState B → StretchState B
+stretch_at number stretch = record stretch { edit = number }
 
 -- a live vector of these limits, with these edits, whose summaries are by these operations
 pub record IsStanding {B S : Type 0} (o : Operations S) (limits : Bounds) (edits : List Edit) (s : LiveState B S) : Type 0 where
@@ -47,21 +61,21 @@ pub record IsStanding {B S : Type 0} (o : Operations S) (limits : Bounds) (edits
 pub record EditTold (limits : Bounds) (old new : List Edit) (edit : Edit) (result : Result Receipt Refusal) : Type 0 where
   pub before : List Edit
   pub seen : IsPrefix old before
-  pub within : IsLegalInLimits (history_of limits before)
-  pub answers : Answers (history_of limits before) edit result (history_of limits new)
+  pub within : IsRun limits before
+  pub answers : Answers (history_of limits before) edit (receipt_at (length new) result) (history_of limits new)
 
 -- of a hub whose edits were seen up to old: it came to new, and a range was reduced there, which gave the fold of it
 pub record ReductionTold {S : Type 0} (o : Operations S) (limits : Bounds) (old new : List Edit) (lo hi : ℕ) (result : Result (Answer S) Refusal) : Type 0 where
   pub seen : IsPrefix old new
-  pub within : IsLegalInLimits (history_of limits new)
-  pub answered : IfOk result (λ answer. IsAnswer o new lo hi answer)
+  pub within : IsRun limits new
+  pub answered : IfOk result (λ answer. IsAnswer o new lo hi (answer_at (length new) answer))
   pub refused : IfErr result (λ refusal. range_refusal new lo hi ≡ Some refusal)
 
 -- of a hub whose edits were seen up to old: it came to new, and there a range was asked for by a kind, which gave the plain value of it
 pub record ValueTold (limits : Bounds) (old new : List Edit) (kind : Kind) (lo hi : ℕ) (result : Result Answered Refusal) : Type 0 where
   pub seen : IsPrefix old new
-  pub within : IsLegalInLimits (history_of limits new)
-  pub answered : IfOk result (λ answered. IsValue new kind lo hi answered)
+  pub within : IsRun limits new
+  pub answered : IfOk result (λ answered. IsValue new kind lo hi (valued_at (length new) answered))
   pub refused : IfErr result (λ refusal. range_refusal new lo hi ≡ Some refusal)
 
 -- a live vector with these edits gave the answer, with the reads that its fresh nodes leave
@@ -73,15 +87,15 @@ pub record ReadsTold (B : Type 0) {S : Type 0} (o : Operations S) (limits : Boun
 -- of a hub whose edits were seen up to old: it came to new, and a scan was answered as there
 pub record ScanTold {S : Type 0} (o : Operations S) (limits : Bounds) (old new : List Edit) (lo hi : ℕ) (inclusive : Bool) (result : Result (Scan S) Refusal) : Type 0 where
   pub seen : IsPrefix old new
-  pub within : IsLegalInLimits (history_of limits new)
-  pub scanned : IfOk result (λ scan. IsScan new lo hi (scan_of inclusive o (slice_of new lo hi)) scan)
+  pub within : IsRun limits new
+  pub scanned : IfOk result (λ scan. IsScan new lo hi (scan_of inclusive o (slice_of new lo hi)) (scan_at (length new) scan))
   pub refused : IfErr result (λ refusal. IsScanRefusal new lo hi refusal)
 
 -- of a hub whose edits were seen up to old: it came to new, and there a range was copied, with the hub's body
 pub record StretchTold {B : Type 0} (body : B) (limits : Bounds) (old new : List Edit) (lo hi : ℕ) (result : Result (StretchState B) Refusal) : Type 0 where
   pub seen : IsPrefix old new
-  pub within : IsLegalInLimits (history_of limits new)
-  pub range : IfOk result (λ stretch. IsStretch new lo hi stretch)
+  pub within : IsRun limits new
+  pub range : IfOk result (λ stretch. IsStretch new lo hi (stretch_at (length new) stretch))
   pub of : IfOk result (λ stretch. stretch.body ≡ body)
   pub refused : IfErr result (λ refusal. IsScanRefusal new lo hi refusal)
 

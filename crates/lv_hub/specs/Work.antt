@@ -1,8 +1,9 @@
 -- What lies under a hub's lock, how a worker counts what became of its outcomes, and when a sleeping one is woken.
-use Rattle.std.specs.Prelude.{◌+◌, ◌-◌, ◌%◌, ℕ, Bool, true, false, Result, Ok, Err, nat_eq, if◌then◌else◌}
+use Rattle.std.specs.Prelude.{◌+◌, ◌-◌, ◌%◌, ℕ, Bool, true, false, Result, Ok, Err, List, nat_eq, if◌then◌else◌}
 use Rattle.lv_geometry.specs.declared.refusals.Refusal.{Refusal}
 use Rattle.lv_summary.specs.declared.accepted.Accepted.{Accepted}
 use Rattle.lv_summary.specs.declared.accepted.Accepted.TheVariants.{Held, Installed, Stale}
+use Rattle.lv_edits.specs.declared.edit.Edit.{Edit}
 use Rattle.lv_edits.specs.declared.receipt.Receipt.{Receipt}
 use Rattle.lv_edits.specs.declared.receipt.Receipt.TheVariants.{Pushed, Popped, Written, Reserved, Swapped, Truncated}
 use Rattle.lv_live.specs.State.{LiveState}
@@ -29,9 +30,10 @@ makes_work (Err refusal) = false
 abbrev pub left_asleep : ℕ → Bool → ℕ
 left_asleep asleep wakes = if wakes then asleep - 1 else asleep
 
--- what lies under a hub's lock: its vector, at least how many workers sleep that were not woken, whether they were dismissed, and
+-- what is under a hub's lock: its edits, its vector, at least how many workers sleep that were not woken, whether they were dismissed, and
 -- whether a subscriber may sleep that was not woken
 pub record DeskState (B S : Type 0) : Type 0 where
+  pub edits : List Edit
   pub live : LiveState B S
   pub asleep : ℕ
   pub dismissed : Bool

@@ -1,11 +1,10 @@
 //! A set of queries that is answered at once, at one edit.
-ghost use Rattle.std.specs.Prelude.{◌≡◌, length, map};
+ghost use Rattle.std.specs.Prelude.{◌≡◌, ◌≤◌, ◌^◌, length, map};
 ghost use mathlib.Core.List.{IsPrefix};
-ghost use Rattle.lv_edits.specs.Kept.{IsLegalInLimits};
 ghost use Rattle.lv_standing.specs.Queries.{watch_answer};
 ghost use Rattle.lv_standing.specs.QuerySets.{with_answers};
 ghost use Rattle.lv_hub.specs.Counting.{having_seen};
-ghost use Rattle.lv_hub.specs.Told.{IsVector, history_of};
+ghost use Rattle.lv_hub.specs.Renewing.{IsRun};
 
 use crate::desks::Desk;
 use crate::hubs::Hub;
@@ -41,19 +40,19 @@ impl<N: WithBody<Six>> Askable for Desk<Six, N> {
 
 impl<N: WithBody<Six>> Desk<Six, N> {
     /// Asks all queries of a set, where the share sees all edits; says how many there are. Takes no memory.
-    pub fn answer_all(&mut self, share: &mut Share<N>, set: &mut QuerySet<Query>) -> u32
+    pub fn answer_all(&mut self, share: &mut Share<N>, set: &mut QuerySet<Query>) -> u64
         ensures begins { IsPrefix share.old.seen share.new.seen }
-        ensures within { IsLegalInLimits (history_of N.limits share.new.seen) }
+        ensures within { IsRun N.limits share.new.seen }
         ensures edit { result ≡ length share.new.seen }
+        ensures few { result ≤ 2 ^ 62 }
         ensures answers { set.new ≡ with_answers set.old (map (watch_answer share.new.seen) set.old.queries) }
         ensures share { share.new ≡ having_seen share.old share.new.seen }
-        ensures all { share.new.seen ≡ self.old.live.history.journal }
+        ensures all { share.new.seen ≡ self.old.edits }
         ensures same { self.new ≡ self.old }
-        ensures vector { IsVector N.limits self.old.live.history }
     {
         share.see(&mut self.head);
         set.ask(self);
-        self.live.edit()
+        share.seen()
     }
 }
 
@@ -65,10 +64,11 @@ impl<N: WithBody<Six>> Hub<Six, N> {
         rt: &R,
         share: &mut Share<N>,
         set: &mut QuerySet<Query>,
-    ) -> u32
+    ) -> u64
         ensures begins { IsPrefix share.old.seen share.new.seen }
-        ensures within { IsLegalInLimits (history_of N.limits share.new.seen) }
+        ensures within { IsRun N.limits share.new.seen }
         ensures edit { result ≡ length share.new.seen }
+        ensures few { result ≤ 2 ^ 62 }
         ensures answers { set.new ≡ with_answers set.old (map (watch_answer share.new.seen) set.old.queries) }
         ensures share { share.new ≡ having_seen share.old share.new.seen }
     {

@@ -38,11 +38,11 @@ impl Ended {
         Ended { queries, notes }
     }
 
-    /// The last that there is to tell, by the vector of the hub that was closed: at its last edit each question is answered what it was
+    /// The last that there is to tell, by the vector of the hub that was closed after so many edits: there each question is answered what it was
     /// told last, or else there is a note of it. Takes no memory.
-    pub fn tell(self, live: &mut Live<Six>) -> Told
+    pub fn tell(self, live: &mut Live<Six>, edit: u64) -> Told
         requires { IsLegalInLimits live.old.history }
-        ensures edit { result.edit ≡ length live.old.history.journal }
+        ensures edit { result.edit ≡ edit }
         ensures notes { AreNotesOf self.questions self.told (map (watch_answer live.old.history.journal) self.questions) result.notes.items }
         ensures same { SameLive live.old live.new }
     {
@@ -53,9 +53,6 @@ impl Ended {
         queries.ask(live);
         notes.clear();
         queries.put_due(&mut notes);
-        Told {
-            edit: live.edit(),
-            notes,
-        }
+        Told { edit, notes }
     }
 }

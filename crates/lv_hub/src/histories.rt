@@ -196,6 +196,13 @@ impl<N: Naming> Model for HistoryPrefix<N> {
 }
 
 impl<N: Naming> Head<N> {
+    /// How many edits it has.
+    pub fn count(&self) -> u64
+        ensures { result ≡ length self.now }
+    {
+        self.edits
+    }
+
     // All of its edits, as a prefix.
     fn prefix(&self) -> HistoryPrefix<N>
         ensures { result ≡ self.now }

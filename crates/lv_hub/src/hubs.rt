@@ -1,16 +1,20 @@
 //! The hub: a lock round a desk, and one call of the desk for each of the hub's.
-ghost use Rattle.std.specs.Prelude.{◌≡◌, ◌↔◌, ◌<◌, true, false, [], IfSome, OnOk, length, map, Err, None, Some};
+ghost use Rattle.std.specs.Prelude.{◌≡◌, ◌↔◌, ◌<◌, ◌≤◌, true, false, [], All, IfOk, IfSome, OnOk, length, map, Err, None, Some};
 ghost use mathlib.Core.List.{IsPrefix};
+ghost use Rattle.lv_geometry.specs.Elements.{IsElement};
+ghost use Rattle.lv_edits.specs.History.{list_of};
 ghost use Rattle.lv_transcript.specs.Transcript.{AreAccepted, greatest};
 ghost use Rattle.lv_hub.specs.Counting.{Counts, having_seen};
 ghost use Rattle.lv_hub.specs.Logging.{CameSince, entry_of};
-ghost use Rattle.lv_hub.specs.Told.{ClaimTold, EditTold, DeliveryTold, IsVector, ReadsTold, ReductionTold, ScanTold, StretchTold, ValueTold};
+ghost use Rattle.lv_hub.specs.Renewing.{IsClosed, IsMadeOf, IsOfOneVector, IsVector, lasting, renewed_after, vector_limits};
+ghost use Rattle.lv_hub.specs.Told.{ClaimTold, EditTold, DeliveryTold, ReadsTold, ReductionTold, ScanTold, StretchTold, ValueTold, receipt_at};
 
 use crate::desks::Desk;
 use crate::histories::{HistoryPrefix, Opened};
 use crate::log_entry::LogEntry;
 use crate::naming::WithBody;
 use crate::shares::Share;
+use crate::tap::Came;
 use lv_bodies::{Body, Kind};
 use lv_edits::{Edit, Receipt};
 use lv_geometry::{Limits, Refusal};
@@ -19,6 +23,7 @@ use lv_reduce::{Answer, Scan, Stretch};
 use lv_refresh::{Job, Outcome};
 use lv_standing::Answered;
 use lv_summary::Accepted;
+use lv_tree::Kinds;
 use std::alloc::Global;
 use std::marker::Model;
 use std::sync::ledger::Blank;
@@ -67,16 +72,49 @@ impl<B: Body, N: WithBody<B>> Hub<B, N> {
         requires history { opened ≡ N.history }
         requires body { N.body ≡ Some body }
         ensures body { result.0 ≡ body }
+        ensures one { IsOfOneVector N.limits }
         ensures share { result.1 ≡ record { parts = parts; count = 0; seen = [] } }
     {
         let (desk, share) = Desk::new(alloc, limits, body, blank, parts, opened);
-        let hub = Hub {
+        (Hub::of_desk(desk, body), share)
+    }
+
+    /// The same, for a hub that goes on when its vector's edits are used up: the vector has these limits, and is made anew before (`renew`). Until then an
+    /// edit is refused with `NoMemory`.
+    pub fn lasting(
+        alloc: Global,
+        limits: Limits,
+        body: B,
+        blank: Blank,
+        parts: u64,
+        opened: Opened,
+    ) -> (Hub<B, N>, Share<N>)
+        requires name { blank.name ≡ N.name }
+        requires all { blank.parts ≡ N.parts }
+        requires parts { blank.parts ≡ parts }
+        requires some { 0 < parts }
+        requires limits { N.limits ≡ lasting limits }
+        requires many { limits.edits ≡ 16777215 }
+        requires history { opened ≡ N.history }
+        requires body { N.body ≡ Some body }
+        ensures body { result.0 ≡ body }
+        ensures share { result.1 ≡ record { parts = parts; count = 0; seen = [] } }
+    {
+        let (desk, share) = Desk::lasting(alloc, limits, body, blank, parts, opened);
+        (Hub::of_desk(desk, body), share)
+    }
+
+    // A lock round a desk.
+    fn of_desk(desk: Desk<B, N>, body: B) -> Hub<B, N>
+        requires { N.body ≡ Some body }
+        ensures { result ≡ body }
+    {
+        Hub {
             desk: Mutex::new(desk),
             bell: Condvar::new(),
             news: Condvar::new(),
             body,
-        };
-        (hub, share)
+        }
     }
 
     /// Makes the edits that a hub begins with, by a share that has all parts and counts none: the hub has no others then. The first that is
@@ -103,6 +141,8 @@ impl<B: Body, N: WithBody<B>> Hub<B, N> {
         edit: Edit,
     ) -> Result<Receipt, Refusal>
         ensures told { EditTold N.limits share.old.seen share.new.seen edit result }
+        // The vector of a hub that is never made anew numbers its edits as the hub does.
+        ensures number { IsOfOneVector N.limits → result ≡ receipt_at (length share.new.seen) result }
         ensures counts { Counts (having_seen share.old share.new.seen) result share.new }
     {
         let mut desk = self.desk.lock(rt);
@@ -123,7 +163,8 @@ impl<B: Body, N: WithBody<B>> Hub<B, N> {
         hi: u32,
     ) -> Result<Answer<B::S>, Refusal>
         ensures told { ReductionTold (B.operations self.now) N.limits share.old.seen share.new.seen lo hi result }
-        ensures reads { ReadsTold B (B.operations self.now) N.limits share.new.seen lo hi result }
+        ensures reads { IsOfOneVector N.limits → ReadsTold B (B.operations self.now) N.limits share.new.seen lo hi result }
+        ensures number { IsOfOneVector N.limits → IfOk result (λ answer. answer.edit ≡ length share.new.seen) }
         ensures share { share.new ≡ having_seen share.old share.new.seen }
         ensures bad_range { (result ≡ Err Refusal.BadRange) ↔ (hi < lo) }
     {
@@ -144,6 +185,7 @@ impl<B: Body, N: WithBody<B>> Hub<B, N> {
         hi: u32,
     ) -> Result<Answered, Refusal>
         ensures told { ValueTold N.limits share.old.seen share.new.seen kind lo hi result }
+        ensures number { IsOfOneVector N.limits → IfOk result (λ answered. answered.edit ≡ length share.new.seen) }
         ensures share { share.new ≡ having_seen share.old share.new.seen }
         ensures bad_range { (result ≡ Err Refusal.BadRange) ↔ (hi < lo) }
     {
@@ -163,6 +205,7 @@ impl<B: Body, N: WithBody<B>> Hub<B, N> {
         hi: u32,
     ) -> Result<Scan<B::S>, Refusal>
         ensures told { ScanTold (B.operations self.now) N.limits share.old.seen share.new.seen lo hi true result }
+        ensures number { IsOfOneVector N.limits → IfOk result (λ scan. scan.edit ≡ length share.new.seen) }
         ensures share { share.new ≡ having_seen share.old share.new.seen }
         ensures bad_range { (result ≡ Err Refusal.BadRange) ↔ (hi < lo) }
     {
@@ -180,6 +223,7 @@ impl<B: Body, N: WithBody<B>> Hub<B, N> {
         hi: u32,
     ) -> Result<Scan<B::S>, Refusal>
         ensures told { ScanTold (B.operations self.now) N.limits share.old.seen share.new.seen lo hi false result }
+        ensures number { IsOfOneVector N.limits → IfOk result (λ scan. scan.edit ≡ length share.new.seen) }
         ensures share { share.new ≡ having_seen share.old share.new.seen }
         ensures bad_range { (result ≡ Err Refusal.BadRange) ↔ (hi < lo) }
     {
@@ -197,6 +241,7 @@ impl<B: Body, N: WithBody<B>> Hub<B, N> {
         inclusive: bool,
     ) -> Result<Scan<B::S>, Refusal>
         ensures told { ScanTold (B.operations self.now) N.limits share.old.seen share.new.seen lo hi inclusive result }
+        ensures number { IsOfOneVector N.limits → IfOk result (λ scan. scan.edit ≡ length share.new.seen) }
         ensures share { share.new ≡ having_seen share.old share.new.seen }
         ensures bad_range { (result ≡ Err Refusal.BadRange) ↔ (hi < lo) }
     {
@@ -214,6 +259,7 @@ impl<B: Body, N: WithBody<B>> Hub<B, N> {
         hi: u32,
     ) -> Result<Stretch<B>, Refusal>
         ensures told { StretchTold self.now N.limits share.old.seen share.new.seen lo hi result }
+        ensures number { IsOfOneVector N.limits → IfOk result (λ stretch. stretch.edit ≡ length share.new.seen) }
         ensures share { share.new ≡ having_seen share.old share.new.seen }
     {
         let mut desk = self.desk.lock(rt);
@@ -254,6 +300,7 @@ impl<B: Body, N: WithBody<B>> Hub<B, N> {
         hi: u32,
     ) -> Option<Result<Answered, Refusal>>
         ensures told { IfSome result (λ answer. ValueTold N.limits share.old.seen share.new.seen kind lo hi answer) }
+        ensures number { IsOfOneVector N.limits → IfSome result (λ answer. IfOk answer (λ answered. answered.edit ≡ length share.new.seen)) }
         ensures share { share.new ≡ having_seen share.old share.new.seen }
         ensures unchanged { result ≡ None → share.new ≡ share.old }
     {
@@ -263,6 +310,13 @@ impl<B: Body, N: WithBody<B>> Hub<B, N> {
         }
         desk.show(share);
         Some(desk.value_logged(kind, lo, hi))
+    }
+
+    // The vector's body.
+    pub(crate) fn body(&self) -> B
+        ensures { N.body ≡ Some result }
+    {
+        self.body
     }
 
     // Has the hub keep what comes for a log.
@@ -279,17 +333,53 @@ impl<B: Body, N: WithBody<B>> Hub<B, N> {
         rt: &R,
         prefix: &mut HistoryPrefix<N>,
         entries: &mut Vec<LogEntry>,
-    ) -> Option<u64>
+    ) -> Option<Came>
         requires { entries.old.items ≡ [] }
         ensures begins { IsPrefix prefix.old prefix.new }
-        ensures came { IfSome result (λ from. CameSince prefix.new from (map entry_of entries.new.items)) }
+        ensures came { IfSome result (λ came. CameSince (renewed_after came.renewed prefix.new) came.from (map entry_of entries.new.items)) }
+        ensures some { IfSome result (λ came. came.renewed ≤ length prefix.new) }
     {
         self.desk.lock(rt).hand_over(prefix, entries)
     }
 
+    // Copies the elements, where a prefix has seen all edits. Refused as `Desk::copy_elements` is.
+    pub(crate) fn copy_elements<R: Wait>(
+        &self,
+        rt: &R,
+        alloc: Global,
+        prefix: &HistoryPrefix<N>,
+    ) -> Result<Stretch<B>, Refusal>
+        ensures elements { IfOk result (λ copied. copied.elements ≡ list_of prefix.now) }
+        ensures few { IfOk result (λ copied. length copied.elements ≤ 1048568) }
+        ensures all { IfOk result (λ copied. All IsElement copied.elements) }
+    {
+        self.desk.lock(rt).copy_elements(alloc, prefix)
+    }
+
+    // Puts a vector that was made anew in place of the hub's, as `Desk::renew` does, and wakes a worker, which may find jobs there.
+    pub(crate) fn renew<R: Wait>(
+        &self,
+        rt: &R,
+        prefix: &HistoryPrefix<N>,
+        live: &mut Live<B>,
+        kinds: &mut Kinds,
+        entries: Vec<LogEntry>,
+    ) -> bool
+        requires lasts { N.limits ≡ lasting N.limits }
+        requires made { IsMadeOf (vector_limits N.limits) N.body (list_of prefix.now) live.old kinds.old }
+        requires entries { entries.items ≡ [] }
+    {
+        let mut desk = self.desk.lock(rt);
+        let is_renewed = desk.renew(prefix, live, kinds, entries);
+        let wakes = is_renewed && desk.wakes_another();
+        drop(desk);
+        self.wake(wakes, false);
+        is_renewed
+    }
+
     /// A job for the least node that wants one, or none. Takes no memory.
     pub fn claim<R: Wait>(&self, rt: &R) -> Option<Job<B>>
-        ensures { ClaimTold (B.operations self.now) self.now N.limits result }
+        ensures { ClaimTold (B.operations self.now) self.now (vector_limits N.limits) result }
     {
         self.desk.lock(rt).claim()
     }
@@ -297,21 +387,35 @@ impl<B: Body, N: WithBody<B>> Hub<B, N> {
     /// Delivers an outcome. Refused with `Stranger` where its node is whole and was touched last by the edit that it names, and its
     /// body or contents are not this vector's. Takes no memory.
     pub fn give<R: Wait>(&self, rt: &R, outcome: Outcome<B>) -> Result<Accepted, Refusal>
-        ensures { DeliveryTold B.meaning B.operations self.now N.limits outcome result }
+        ensures { DeliveryTold B.meaning B.operations self.now (vector_limits N.limits) outcome result }
     {
         self.desk.lock(rt).give(outcome)
     }
 
-    /// The vector, once all threads are done: the share that is handed in has all parts. Its journal has as many edits as the
-    /// share counts, and begins with all that the share has seen. Each of them would be accepted within the greatest limits.
+    /// The vector, once all threads are done: the share that is handed in has all parts. It has the elements that there are after all edits; that of a hub which
+    /// is never made anew has as many edits as the share counts, and begins with all that the share has seen. Each of them would be accepted
+    /// within the greatest limits.
     pub fn close(self, share: Share<N>) -> Live<B>
         requires { share.parts ≡ N.parts }
-        ensures counted { length result.history.journal ≡ share.count }
-        ensures vector { IsVector N.limits result.history }
+        ensures counted { IsOfOneVector N.limits → length result.history.journal ≡ share.count }
+        ensures vector { IsOfOneVector N.limits → IsVector N.limits result.history }
         ensures body { result.body ≡ self }
-        ensures seen { IsPrefix share.seen result.history.journal }
+        ensures seen { IsOfOneVector N.limits → IsPrefix share.seen result.history.journal }
         ensures accepted { AreAccepted greatest result.history.journal }
     {
-        self.desk.into_inner().close(share)
+        let (live, edits) = self.finish(share);
+        drop(edits);
+        live
+    }
+
+    /// The same, with all edits of the hub.
+    pub fn finish(self, share: Share<N>) -> (Live<B>, HistoryPrefix<N>)
+        requires { share.parts ≡ N.parts }
+        ensures counted { length result.1 ≡ share.count }
+        ensures seen { IsPrefix share.seen result.1 }
+        ensures closed { IsClosed N.limits result.1 result.0.history }
+        ensures body { result.0.body ≡ self }
+    {
+        self.desk.into_inner().finish(share)
     }
 }

@@ -1,6 +1,8 @@
 //! Subscribers that have ended, and what they tell last.
 
-ghost use Rattle.std.specs.Prelude.{◌≡◌, ◌≤◌, ◌^◌, IfOk, [], map, vec_capacity, vec_len};
+ghost use Rattle.std.specs.Prelude.{◌≡◌, ◌≤◌, ◌^◌, IfOk, List, [], length, map, vec_capacity, vec_len};
+ghost use Rattle.lv_edits.specs.declared.edit.Edit.{Edit};
+ghost use Rattle.lv_edits.specs.History.{list_of};
 ghost use Rattle.lv_edits.specs.Kept.{IsLegalInLimits};
 ghost use Rattle.lv_live.specs.State.{SameLive};
 ghost use Rattle.lv_hub.specs.Watchers.{AllTellLast, TakesWatchers, TellsLast};
@@ -61,10 +63,11 @@ impl<F: Write + Drop> Left<F> {
         }
     }
 
-    /// Tells the last, by the vector of the hub that was closed, unless that isn't recorded. Takes no memory.
-    pub fn tell(self, live: &mut Live<Six>, is_recorded: bool) -> Watched<F>
-        requires { IsLegalInLimits live.old.history }
-        ensures last { TellsLast live.old.history.journal self result.notices }
+    /// Tells the last, by the vector of the hub that was closed after so many edits, unless that isn't recorded. Takes no memory.
+    pub fn tell(self, live: &mut Live<Six>, edit: u64, is_recorded: bool) -> Watched<F>
+        requires legal { IsLegalInLimits live.old.history }
+        requires few { edit ≤ 2 ^ 62 }
+        ensures last { (edits : List Edit) → length edits ≡ edit → list_of live.old.history.journal ≡ list_of edits → TellsLast edits self result.notices }
         ensures same { SameLive live.old live.new }
     {
         let Left {
@@ -73,7 +76,7 @@ impl<F: Write + Drop> Left<F> {
             ended,
             mut notices,
         } = self;
-        notices.tell(numbers, &ended.tell(live), is_recorded);
+        notices.tell(numbers, &ended.tell(live, edit), is_recorded);
         Watched { number, notices }
     }
 }
@@ -98,17 +101,18 @@ impl<F: Write + Drop> Leaving<F> {
         })
     }
 
-    /// Has each tell the last, in order, by the vector of the hub that was closed, unless that isn't recorded. Takes no memory.
-    pub fn tell(self, live: &mut Live<Six>, is_recorded: bool) -> Vec<Watched<F>>
+    /// Has each tell the last, in order, by the vector of the hub that was closed after so many edits, unless that isn't recorded. Takes no memory.
+    pub fn tell(self, live: &mut Live<Six>, edit: u64, is_recorded: bool) -> Vec<Watched<F>>
         requires legal { IsLegalInLimits live.old.history }
+        requires few { edit ≤ 2 ^ 62 }
         requires none { self.watched.items ≡ [] }
         requires room { vec_len self.left ≤ vec_capacity self.watched }
-        ensures last { AllTellLast live.old.history.journal self.left.items (map (λ w. w.notices) result.items) }
+        ensures last { (edits : List Edit) → length edits ≡ edit → list_of live.old.history.journal ≡ list_of edits → AllTellLast edits self.left.items (map (λ w. w.notices) result.items) }
         ensures same { SameLive live.old live.new }
     {
         let Leaving { left, mut watched } = self;
         for one in left {
-            watched.push_reserved(one.tell(live, is_recorded));
+            watched.push_reserved(one.tell(live, edit, is_recorded));
         }
         watched
     }

@@ -50,7 +50,8 @@ impl<F: Write + Drop> Notices<F> {
     /// Writes the lines of what was told, its edit by its number among these, unless a write has failed. Where it isn't recorded that it is
     /// so, it counts as such.
     pub fn tell(&mut self, numbers: LogHeading, told: &Told, is_recorded: bool)
-        requires { numbers.base ≤ 2 ^ 62 }
+        requires base { numbers.base ≤ 2 ^ 62 }
+        requires few { told.now.edit ≤ 2 ^ 62 }
         ensures { WritesMore (told_text numbers told.now) self.old self.new }
     {
         if self.failed {
@@ -94,12 +95,13 @@ fn write_told<W: Write>(
     told: &Told,
     buffer: &mut ReplyBuffer<'_, W>,
 ) -> Result<(), Fault>
-    requires { numbers.base ≤ 2 ^ 62 }
+    requires base { numbers.base ≤ 2 ^ 62 }
+    requires few { told.now.edit ≤ 2 ^ 62 }
     ensures places { SamePlaces buffer.old buffer.new }
     ensures ok { OnOk result ((buffer.new.held.now.items ≡ []) × Puts W.contents buffer.old buffer.new (told_text numbers told.now)) }
     ensures fault { IfErr result (λ fault. PutsFront W.contents buffer.old buffer.new (told_text numbers told.now)) }
 {
-    let edit = told_number(numbers, told.edit.into());
+    let edit = told_number(numbers, told.edit);
     put_all(edit, &told.notes, buffer)?;
     buffer.send()
 }

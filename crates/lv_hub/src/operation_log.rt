@@ -1,27 +1,50 @@
 //! The operation log of a hub: its edits and its sessions' answers, written in the order of time.
-ghost use Rattle.std.specs.Prelude.{◌≡◌, ◌∷◌, ℕ, [], IfErr, IfOk, List, Option, Some, is_some, map};
+ghost use Rattle.std.specs.Prelude.{◌≡◌, ◌≤◌, ◌^◌, ◌∷◌, ℕ, [], All, Bool, IfErr, IfOk, IfSome, List, OnErr, OnOk, Option, None, Some, false, is_some, length, map, take, true};
 ghost use mathlib.Core.List.{IsPrefix};
+ghost use Rattle.lv_geometry.specs.Bounds.{Bounds};
+ghost use Rattle.lv_geometry.specs.Elements.{IsElement};
+ghost use Rattle.lv_edits.specs.History.{list_of};
+ghost use Rattle.lv_transcript.specs.declared.log_heading.LogHeading.{LogHeading};
 ghost use Rattle.lv_transcript.specs.Fronts.{Entry};
 ghost use Rattle.lv_transcript.specs.Transcribing.{Adds, IsUnusedOf, WasGivenOf, state_with};
 ghost use Rattle.lv_hub.specs.Counting.{having_seen};
-ghost use Rattle.lv_hub.specs.Logging.{CameSince, EndsText, HasFront, IsLogOf, LogEnds, LogThere, MayGoOn, edits_there, entry_of, heading_of, there_of};
+ghost use Rattle.lv_hub.specs.Logging.{AreLasting, BeginsAnew, CameSince, EndsInFile, EndsText, HasFrontOfFile, HasLog, IsLogInFile, LogThere, MayBeginAnew, MayGoOn, edits_there, entry_of, heading_after, heading_of, there_of};
+ghost use Rattle.lv_hub.specs.Numbering.{told_number};
+ghost use Rattle.lv_hub.specs.Renewing.{IsMadeOf, renewed_after, vector_limits};
 
 use crate::histories::HistoryPrefix;
 use crate::hubs::Hub;
 use crate::log_entry::LogEntry;
 use crate::naming::{Naming, WithBody};
+use crate::numbering::told_number;
+use crate::renewed::renewed;
 use crate::shares::Share;
+use crate::tap::Came;
 use lv_bodies::Six;
-use lv_edits::Edit;
+use lv_geometry::Limits;
+use lv_live::Live;
 use lv_script::Fault;
-use lv_transcript::TranscriptWriter;
+use lv_transcript::{LogHeading, TranscriptWriter};
+use lv_tree::Kinds;
 use std::alloc::{AllocError, Global};
 use std::io::Write;
 use std::marker::{Brand, Model, PhantomData};
+use std::mem;
 use std::sync::Wait;
 
 // For how many entries a hub has room until they are written.
 const ROOM: usize = 4096;
+
+// With how many edits a vector takes no more until it is made anew, and from how many on it is: what comes until the log is written next still fits then.
+const WORN: u64 = 16_777_214;
+
+const NEARLY_WORN: u64 = 16_769_022;
+
+// How many edits come before it is tried again to make a vector anew.
+const PAUSE: u64 = 1024;
+
+// The greatest number that a file may begin after.
+const MOST_NUMBER: u64 = 4_611_686_018_427_387_904;
 
 /// What the writer of a log had got when it was begun, and what was there already, where it goes on behind a log of elements.
 pub trait Begun {
@@ -38,10 +61,38 @@ impl Begun for Brand {
     ghost there = { None };
 }
 
+/// A writer of a log, whose file may be begun anew.
+pub trait LogWriter: Write {
+    // What a writer has got of a file that was just made.
+    ghost made: { Option (List ℕ) } = { None };
+
+    /// Whether the file is to be begun anew, as where it is long.
+    fn is_due(&self) -> bool {
+        false
+    }
+
+    /// Begins the log anew, of these elements, in another file, which takes the place of the one that was written so far. Then the writer writes there. If that fails, the
+    /// file that was written so far is still the log.
+    fn begin_anew(
+        &mut self,
+        _alloc: Global,
+        _heading: LogHeading,
+        _elements: &[i64],
+    ) -> Result<(), Fault>
+        requires count { _heading.elements ≡ length _elements.now }
+        requires few { length _elements.now ≤ 1048568 }
+        ensures begun { OnOk result (HasLog Self.made _heading _elements.now (Self.contents self.new)) }
+        ensures same { OnErr result (Self.contents self.new ≡ Self.contents self.old) }
+    {
+        Err(Fault::WriteFault)
+    }
+}
+
 /// What writes the log of a hub: whoever records takes what has come since out of the hub, and writes it with no lock of the hub's held. A
-/// write that fails is its last, and from then on nothing counts as recorded.
+/// write that fails is its last, and from then on nothing counts as recorded. Where the hub goes on when its vector's edits are used up, the log has that vector made anew
+/// before they are, or where its writer says that this is due, and begins its file anew with it.
 #[derive(Drop)]
-pub struct OperationLog<N: Naming, W: Write + Drop, K: Begun> {
+pub struct OperationLog<N: Naming, W: LogWriter + Drop, K: Begun> {
     transcript: TranscriptWriter,
     writer: W,
     // The hub's edits that it was given.
@@ -52,39 +103,54 @@ pub struct OperationLog<N: Naming, W: Write + Drop, K: Begun> {
     missed: bool,
     // Whether it goes on behind a log, which has no last line.
     is_log: bool,
+    alloc: Global,
+    // The numbers that the hub's edits are told by.
+    numbers: LogHeading,
+    // The limits of the hub's vector, where that may be made anew.
+    lasts: Option<Limits>,
+    // After how many edits of the hub its file was begun anew, and with how many elements: none where it is the first one.
+    renewed: u64,
+    elements: u32,
+    // How many edits the vector had when it was to be made anew, and wasn't: 0 where that didn't happen.
+    tried: u64,
     of: PhantomData<K>,
 }
 
-impl<N: Naming, W: Write + Drop, K: Begun> Model for OperationLog<N, W, K> {
-    ghost use Rattle.std.specs.Prelude.{◌≡◌, is_some};
+impl<N: Naming, W: LogWriter + Drop, K: Begun> Model for OperationLog<N, W, K> {
+    ghost use Rattle.std.specs.Prelude.{◌≡◌, IfSome, is_some};
     ghost use Rattle.lv_transcript.specs.Transcribing.{state_with};
-    ghost use Rattle.lv_hub.specs.Logging.{IsLogOf, LogState};
+    ghost use Rattle.lv_hub.specs.Logging.{AreLasting, IsLogInFile, LogState};
 
     ghost Value = { LogState };
 
     ghost view = { λ l. record { written = state_with (W.contents l.writer) l.transcript; seen = l.prefix } };
 
-    ghost invariant = { λ l. IsLogOf K.there K.start (record { written = state_with (W.contents l.writer) l.transcript; seen = l.prefix }) × (l.is_log ≡ is_some K.there) };
+    ghost invariant = { λ l. IsLogInFile W.made N.limits N.numbers K.there K.start l.renewed l.elements l.is_log (record { written = state_with (W.contents l.writer) l.transcript; seen = l.prefix }) × (l.is_log ≡ is_some K.there) × (l.numbers ≡ N.numbers) × IfSome l.lasts (AreLasting N.limits) };
 }
 
-impl<N: WithBody<Six>, W: Write + Drop, K: Begun> OperationLog<N, W, K> {
+impl<N: WithBody<Six>, W: LogWriter + Drop, K: Begun> OperationLog<N, W, K> {
     /// The log of a hub that has the edits of what was there, and no others, as a share has seen them: a transcript that is begun here, or what
-    /// goes on behind a log. All memory that it needs is taken here. The hub keeps what comes for it, and has no other log.
+    /// goes on behind a log. All memory that it needs is taken here. The hub keeps what comes for it, and has no other log. Where the hub goes on when its vector's edits
+    /// are used up, the log is told that vector's limits.
     pub fn begin<R: Wait>(
         rt: &R,
         alloc: Global,
         writer: W,
         is_log: bool,
+        numbers: LogHeading,
+        lasts: Option<Limits>,
         hub: &Hub<Six, N>,
         share: &Share<N>,
     ) -> Result<OperationLog<N, W, K>, AllocError>
         requires start { K.start ≡ W.contents writer }
         requires log { is_log ≡ is_some K.there }
         requires goes_on { MayGoOn K.there }
+        requires numbers { numbers ≡ N.numbers }
+        requires lasts { IfSome lasts (AreLasting N.limits) }
         requires seen { share.now.seen ≡ edits_there K.there }
         ensures { IfOk result (λ l. l.seen ≡ share.now.seen) }
     {
-        let log = OperationLog::new(alloc, writer, is_log, share)?;
+        let log = OperationLog::new(alloc, writer, is_log, numbers, lasts, share)?;
         let entries = Vec::with_capacity(alloc, ROOM)?;
         hub.tap(rt, entries);
         Ok(log)
@@ -95,11 +161,15 @@ impl<N: WithBody<Six>, W: Write + Drop, K: Begun> OperationLog<N, W, K> {
         alloc: Global,
         writer: W,
         is_log: bool,
+        numbers: LogHeading,
+        lasts: Option<Limits>,
         share: &Share<N>,
     ) -> Result<OperationLog<N, W, K>, AllocError>
         requires start { K.start ≡ W.contents writer }
         requires log { is_log ≡ is_some K.there }
         requires goes_on { MayGoOn K.there }
+        requires numbers { numbers ≡ N.numbers }
+        requires lasts { IfSome lasts (AreLasting N.limits) }
         requires seen { share.now.seen ≡ edits_there K.there }
         ensures { IfOk result (λ l. l.seen ≡ share.now.seen) }
     {
@@ -112,23 +182,39 @@ impl<N: WithBody<Six>, W: Write + Drop, K: Begun> OperationLog<N, W, K> {
             spare,
             missed: false,
             is_log,
+            alloc,
+            numbers,
+            lasts,
+            renewed: 0,
+            elements: 0,
+            tried: 0,
             of: PhantomData,
         })
     }
 
-    /// Writes what has come since. Whatever a write comes to, the writer has got a front of a transcript. The fault is `WriteFault`, where a
-    /// write fails or has failed.
+    /// Writes what has come since, and has the hub's vector made anew where that is due. Whatever a write comes to, the writer has got a front of the log's
+    /// present file. The fault is `WriteFault`, where a write fails or has failed, or the vector takes no more edits and can't be made anew.
     pub fn record<R: Wait>(&mut self, rt: &R, hub: &Hub<Six, N>) -> Result<(), Fault>
-        ensures front { HasFront K.there K.start self.new.written.contents self.new.seen }
+        ensures front { HasFrontOfFile W.made N.limits N.numbers K.there K.start self.new.written.contents self.new.seen }
         ensures more { IsPrefix self.old.seen self.new.seen }
         ensures fault { IfErr result (λ fault. fault ≡ Fault.WriteFault) }
     {
-        self.take_over(rt, hub);
-        self.flush();
-        if self.missed || self.transcript.has_failed() {
+        self.write(rt, hub);
+        self.renew_if_due(rt, hub);
+        self.missed = self.missed || self.is_worn();
+        if self.has_failed() {
             return Err(Fault::WriteFault);
         }
         Ok(())
+    }
+
+    // Takes what has come since out of the hub, and writes it.
+    fn write<R: Wait>(&mut self, rt: &R, hub: &Hub<Six, N>)
+        ensures more { IsPrefix self.old.seen self.new.seen }
+        ensures sent { self.new.written.failed ≡ false → self.new.written.held ≡ [] }
+    {
+        self.take_over(rt, hub);
+        self.flush();
     }
 
     // Takes what has come since out of the hub.
@@ -137,14 +223,16 @@ impl<N: WithBody<Six>, W: Write + Drop, K: Begun> OperationLog<N, W, K> {
     {
         self.spare.clear();
         let mut prefix = self.prefix.again();
-        let Some(from) = hub.hand_over(rt, &mut prefix, &mut self.spare) else {
+        let Some(came) = hub.hand_over(rt, &mut prefix, &mut self.spare) else {
             self.missed = true;
             return;
         };
+        let next = next_of(&self.prefix, self.renewed, self.elements);
         let is_next = take(
             &mut self.transcript,
             &mut self.prefix,
-            from,
+            next,
+            came,
             prefix,
             self.spare.as_slice(),
             &mut self.writer,
@@ -152,12 +240,20 @@ impl<N: WithBody<Six>, W: Write + Drop, K: Begun> OperationLog<N, W, K> {
         self.missed = self.missed || !is_next;
     }
 
-    // Writes all that is held. What was written then is a front.
+    // Writes all that is held. Then nothing is, if no write has failed.
     fn flush(&mut self)
-        ensures front { HasFront K.there K.start self.new.written.contents self.new.seen }
         ensures seen { self.new.seen ≡ self.old.seen }
+        ensures sent { self.new.written.failed ≡ false → self.new.written.held ≡ [] }
     {
         self.transcript.flush(&mut self.writer);
+    }
+
+    // Whether a write has failed, or something wasn't recorded. What was written is a front in any case.
+    fn has_failed(&self) -> bool
+        ensures front { HasFrontOfFile W.made N.limits N.numbers K.there K.start self.now.written.contents self.now.seen }
+        ensures fine { result ≡ false → self.now.written.failed ≡ false }
+    {
+        self.missed || self.transcript.has_failed()
     }
 
     /// Lets a share of the hub see the edits that were recorded.
@@ -169,14 +265,14 @@ impl<N: WithBody<Six>, W: Write + Drop, K: Begun> OperationLog<N, W, K> {
         share.learn(&self.prefix);
     }
 
-    /// Writes what is held behind all edits of a journal, which were recorded before, and a transcript's last line, and gives the writer back.
+    /// Writes what is held behind all edits of the hub, which were recorded before, and a transcript's last line, and gives the writer back.
     /// The fault is `WriteFault`, where a write fails or has failed, or something wasn't recorded.
-    pub fn end(self, journal: &[Edit]) -> (W, Result<(), Fault>)
-        requires { IsPrefix self.seen journal.now }
-        ensures ends { LogEnds K.there K.start (W.contents result.0) journal.now result.1 }
+    pub fn end(self, edits: &HistoryPrefix<N>) -> (W, Result<(), Fault>)
+        requires { IsPrefix self.seen edits.now }
+        ensures ends { EndsInFile W.made N.limits N.numbers K.there K.start (W.contents result.0) edits.now result.1 }
         ensures fault { IfErr result.1 (λ fault. fault ≡ Fault.WriteFault) }
     {
-        let is_whole = !self.missed && self.prefix.count() == journal.len() as u64;
+        let is_whole = !self.missed && self.prefix.count() == edits.count();
         let OperationLog {
             transcript,
             mut writer,
@@ -189,6 +285,228 @@ impl<N: WithBody<Six>, W: Write + Drop, K: Begun> OperationLog<N, W, K> {
         }
         (writer, ended)
     }
+}
+
+// How the hub's vector is made anew, and with it the log's file.
+impl<N: WithBody<Six>, W: LogWriter + Drop, K: Begun> OperationLog<N, W, K> {
+    // Has the vector made anew, where that is due. From the time when the hub has no room for edits, none comes until it has its room again.
+    fn renew_if_due<R: Wait>(&mut self, rt: &R, hub: &Hub<Six, N>)
+        ensures { IsPrefix self.old.seen self.new.seen }
+    {
+        let Some(limits) = self.due() else {
+            return;
+        };
+        self.tried = self.vector_edits();
+        let entries = self.close(rt, hub);
+        if self.has_failed() {
+            return;
+        }
+        self.renew(rt, hub, limits, entries);
+    }
+
+    // Whether the hub waits in vain for its vector to be made anew.
+    fn is_worn(&self) -> bool {
+        self.lasts.is_some() && self.vector_edits() >= WORN
+    }
+
+    // How many edits the vector has with those that were recorded.
+    fn vector_edits(&self) -> u64 {
+        let next = next_of(&self.prefix, self.renewed, self.elements);
+        next.from
+    }
+
+    // Whether it is time to make the vector anew: its edits are nearly used up, or the writer is due. After a try in vain there are to be some more edits first.
+    fn is_time(&self) -> bool {
+        let edits = self.vector_edits();
+        if edits >= WORN {
+            return true;
+        }
+        let waits = self.tried > 0 && edits.saturating_sub(self.tried) < PAUSE;
+        !waits && (edits >= NEARLY_WORN || self.writer.is_due())
+    }
+
+    // The limits of the vector, where it is to be made anew.
+    fn due(&self) -> Option<Limits>
+        ensures limits { IfSome result (AreLasting N.limits) }
+        ensures log { IfSome result (λ _. is_some K.there ≡ true) }
+    {
+        if !self.is_log || self.has_failed() || !self.is_time() {
+            return None;
+        }
+        self.lasts
+    }
+
+    // Takes what has come since out of the hub by a list without room, and writes it. What is given back is the list that the hub is to get then.
+    fn close<R: Wait>(&mut self, rt: &R, hub: &Hub<Six, N>) -> Vec<LogEntry>
+        ensures entries { result.items ≡ [] }
+        ensures more { IsPrefix self.old.seen self.new.seen }
+        ensures sent { self.new.written.failed ≡ false → self.new.written.held ≡ [] }
+    {
+        self.spare.clear();
+        let entries = mem::replace(&mut self.spare, Vec::new(self.alloc));
+        self.write(rt, hub);
+        entries
+    }
+
+    // Makes the vector anew of the elements that there are. Where there is no memory for that, the hub gets its room back, and nothing is lost.
+    fn renew<R: Wait>(&mut self, rt: &R, hub: &Hub<Six, N>, limits: Limits, entries: Vec<LogEntry>)
+        requires limits { AreLasting N.limits limits }
+        requires may { MayBeginAnew K.there self.old }
+        requires entries { entries.items ≡ [] }
+        ensures { self.new.seen ≡ self.old.seen }
+    {
+        match hub.copy_elements(rt, self.alloc, &self.prefix) {
+            Ok(copied) => self.renew_of(rt, hub, limits, copied.elements(), entries),
+            Err(_) => hub.tap(rt, entries),
+        }
+    }
+
+    // Makes the vector anew of these elements, unless the file that begins with them has no number.
+    fn renew_of<R: Wait>(
+        &mut self,
+        rt: &R,
+        hub: &Hub<Six, N>,
+        limits: Limits,
+        elements: &[i64],
+        entries: Vec<LogEntry>,
+    )
+        requires limits { AreLasting N.limits limits }
+        requires may { MayBeginAnew K.there self.old }
+        requires list { elements.now ≡ list_of self.old.seen }
+        requires few { length elements.now ≤ 1048568 }
+        requires all { All IsElement elements.now }
+        requires entries { entries.items ≡ [] }
+        ensures { self.new.seen ≡ self.old.seen }
+    {
+        let Some(heading) = heading_after(self.numbers, self.prefix.count(), elements) else {
+            hub.tap(rt, entries);
+            return;
+        };
+        self.renew_at(rt, hub, limits, heading, elements, entries);
+    }
+
+    // The same, where the file begins with this first line.
+    fn renew_at<R: Wait>(
+        &mut self,
+        rt: &R,
+        hub: &Hub<Six, N>,
+        limits: Limits,
+        heading: LogHeading,
+        elements: &[i64],
+        entries: Vec<LogEntry>,
+    )
+        requires limits { AreLasting N.limits limits }
+        requires may { MayBeginAnew K.there self.old }
+        requires heading { heading ≡ heading_after N.numbers (length self.old.seen) self.old.seen }
+        requires base { heading.base ≤ 2 ^ 62 }
+        requires list { elements.now ≡ list_of self.old.seen }
+        requires few { length elements.now ≤ 1048568 }
+        requires all { All IsElement elements.now }
+        requires entries { entries.items ≡ [] }
+        ensures { self.new.seen ≡ self.old.seen }
+    {
+        match renewed(self.alloc, limits, hub.body(), elements) {
+            Ok(made) => self.put_own(rt, hub, heading, elements, made, entries),
+            Err(_) => hub.tap(rt, entries),
+        }
+    }
+
+    // Begins the file anew with these elements, and puts the vector that has them in place of the hub's, which is dropped here, with no lock held.
+    fn put_own<R: Wait>(
+        &mut self,
+        rt: &R,
+        hub: &Hub<Six, N>,
+        heading: LogHeading,
+        elements: &[i64],
+        made: (Live<Six>, Kinds),
+        entries: Vec<LogEntry>,
+    )
+        requires may { MayBeginAnew K.there self.old }
+        requires begins { BeginsAnew N.limits N.numbers self.old.seen heading elements.now }
+        requires made { IsMadeOf (vector_limits N.limits) N.body elements.now made.0 made.1 }
+        requires entries { entries.items ≡ [] }
+        ensures { self.new.seen ≡ self.old.seen }
+    {
+        let (mut live, mut kinds) = made;
+        self.put(rt, hub, heading, elements, &mut live, &mut kinds, entries);
+        drop(live);
+        drop(kinds);
+    }
+
+    // The same, by a vector that is lent. Where the file isn't begun, the hub gets its room back, and the old one goes on.
+    fn put<R: Wait>(
+        &mut self,
+        rt: &R,
+        hub: &Hub<Six, N>,
+        heading: LogHeading,
+        elements: &[i64],
+        live: &mut Live<Six>,
+        kinds: &mut Kinds,
+        entries: Vec<LogEntry>,
+    )
+        requires may { MayBeginAnew K.there self.old }
+        requires begins { BeginsAnew N.limits N.numbers self.old.seen heading elements.now }
+        requires made { IsMadeOf (vector_limits N.limits) N.body elements.now live.old kinds.old }
+        requires entries { entries.items ≡ [] }
+        ensures { self.new.seen ≡ self.old.seen }
+    {
+        if !self.begin_file(heading, elements) {
+            hub.tap(rt, entries);
+            return;
+        }
+        let is_renewed = hub.renew(rt, &self.prefix, live, kinds, entries);
+        self.missed = self.missed || !is_renewed;
+    }
+
+    // Begins the file anew with these elements, and says whether it was so.
+    fn begin_file(&mut self, heading: LogHeading, elements: &[i64]) -> bool
+        requires may { MayBeginAnew K.there self.old }
+        requires begins { BeginsAnew N.limits N.numbers self.old.seen heading elements.now }
+        ensures { self.new.seen ≡ self.old.seen }
+    {
+        match self.writer.begin_anew(self.alloc, heading, elements) {
+            Ok(()) => {
+                self.renewed = self.prefix.count();
+                self.elements = heading.elements;
+                self.tried = 0;
+                true
+            }
+            Err(_) => false,
+        }
+    }
+}
+
+// What comes next for a log that was given these edits, whose file was begun anew after so many of them with so many elements.
+fn next_of<N: Naming>(prefix: &HistoryPrefix<N>, renewed: u64, elements: u32) -> Came
+    requires some { renewed ≤ length prefix.now }
+    requires elements { elements ≡ length (list_of (take renewed prefix.now)) }
+    ensures from { result.from ≡ length (renewed_after renewed prefix.now) }
+    ensures renewed { result.renewed ≡ renewed }
+{
+    Came {
+        from: u64::from(elements) + (prefix.count() - renewed),
+        renewed,
+    }
+}
+
+// How the file begins that comes after so many edits of a hub, with these elements. None where its number is too great.
+fn heading_after(numbers: LogHeading, edits: u64, elements: &[i64]) -> Option<LogHeading>
+    requires few { edits ≤ 2 ^ 62 }
+    requires short { length elements.now ≤ 1048568 }
+    ensures heading { IfSome result (λ heading. heading ≡ record { base = told_number numbers edits; elements = length elements.now }) }
+    ensures base { IfSome result (λ heading. heading.base ≤ 2 ^ 62) }
+{
+    if numbers.base > MOST_NUMBER {
+        return None;
+    }
+    let base = told_number(numbers, edits);
+    if base > MOST_NUMBER {
+        return None;
+    }
+    Some(LogHeading {
+        base,
+        elements: elements.len() as u32,
+    })
 }
 
 // What writes a transcript from its first line on, or goes on behind a log, and was given nothing yet.
@@ -229,28 +547,38 @@ fn finish_log<W: Write>(transcript: TranscriptWriter, writer: &mut W) -> Result<
     Ok(())
 }
 
-// Gives what came since an edit to a transcript writer that was given what came before, and says that it was so: entries are missing
-// otherwise, and nothing is given.
+// Gives what came to a transcript writer that was given what came before, and says that it was so: if it isn't what comes next, entries are missing, and nothing is
+// given.
 fn take<N: Naming, W: Write>(
     transcript: &mut TranscriptWriter,
     seen: &mut HistoryPrefix<N>,
-    from: u64,
+    next: Came,
+    came: Came,
     prefix: HistoryPrefix<N>,
     entries: &[LogEntry],
     writer: &mut W,
 ) -> bool
     requires begins { IsPrefix seen.old prefix }
-    requires came { CameSince prefix from (map entry_of entries.now) }
-    ensures log { (log : Option LogThere) (start : Option (List ℕ)) → IsLogOf log start (record { written = state_with (W.contents writer.old) transcript.old; seen = seen.old })
-        → IsLogOf log start (record { written = state_with (W.contents writer.new) transcript.new; seen = seen.new }) }
+    requires next { next.from ≡ length (renewed_after next.renewed seen.old) }
+    requires came { CameSince (renewed_after came.renewed prefix) came.from (map entry_of entries.now) }
+    ensures log { (made : Option (List ℕ)) (limits : Bounds) (numbers : LogHeading) (log : Option LogThere) (start : Option (List ℕ)) (renewed elements : ℕ) (is_log : Bool) → next.renewed ≡ renewed
+        → IsLogInFile made limits numbers log start renewed elements is_log (record { written = state_with (W.contents writer.old) transcript.old; seen = seen.old })
+        → IsLogInFile made limits numbers log start renewed elements is_log (record { written = state_with (W.contents writer.new) transcript.new; seen = seen.new }) }
     ensures more { IsPrefix seen.old seen.new }
 {
-    if from != seen.count() {
+    if !is_next(came, next) {
         return false;
     }
     give_all(transcript, entries, writer);
     *seen = prefix;
     true
+}
+
+// Whether what came is what comes next.
+fn is_next(came: Came, next: Came) -> bool
+    ensures { result ≡ true → came ≡ next }
+{
+    came.renewed == next.renewed && came.from == next.from
 }
 
 // Gives entries to a transcript writer.

@@ -1,5 +1,5 @@
 //! How a line of a session is answered.
-ghost use Rattle.std.specs.Prelude.{◌≡◌, ◌≤◌, ◌^◌, ◌++◌, ◌∷◌, [], ℕ, All, List, OnOk, IfErr, length, true, vec_len};
+ghost use Rattle.std.specs.Prelude.{◌≡◌, ◌≤◌, ◌^◌, ◌++◌, ◌∷◌, [], ℕ, All, List, OnOk, IfErr, IfOk, length, true, vec_len};
 ghost use Rattle.lv_geometry.specs.declared.refusals.Refusal.{Refusal};
 ghost use Rattle.lv_bodies.specs.Long.{CanFoldLong};
 ghost use Rattle.lv_bodies.specs.Plain.{plain_value};
@@ -10,6 +10,7 @@ ghost use Rattle.lv_transcript.specs.declared.claimed.Claimed.{Claimed};
 ghost use Rattle.lv_transcript.specs.Transcript.{IsTrueAnswer};
 ghost use Rattle.lv_hub.specs.Counting.{Counts, having_seen};
 ghost use Rattle.lv_hub.specs.Numbering.{told_number};
+ghost use Rattle.lv_hub.specs.Renewing.{IsOfOneVector};
 ghost use Rattle.lv_hub.specs.Replying.{SessionCommandAnswer, SessionLineAnswer, TellsEdit, TellsReduction, TellsScan};
 ghost use Rattle.lv_hub.specs.Session.{are_listed, listed_if, most_listed, session_at};
 ghost use Rattle.lv_hub.specs.Told.{EditTold, ValueTold};
@@ -45,6 +46,8 @@ pub struct SessionPlace<'a, N: WithBody<Six>, T> {
     ghost told_by: { numbers ≡ N.numbers },
     ghost low: { numbers.base ≤ 2 ^ 62 },
     ghost lists: { are_listed keeps ≡ N.lists },
+    // Only a hub of one vector has its reductions listed: their numbers are the vector's.
+    ghost one: { N.lists ≡ true → IsOfOneVector N.limits },
 }
 
 /// Answers a line of a session, on a hub: its share counts what is accepted, and `answers` lists the reductions, which stay true.
@@ -267,6 +270,7 @@ fn value_with_place<N: WithBody<Six>, T: Wait, L: SessionLog<N>>(
     hi: u32,
 ) -> Result<Answered, Refusal>
     ensures told { ValueTold N.limits share.old.seen share.new.seen kind lo hi result }
+    ensures number { IsOfOneVector N.limits → IfOk result (λ answered. answered.edit ≡ length share.new.seen) }
     ensures share { share.new ≡ having_seen share.old share.new.seen }
 {
     if !is_kept {

@@ -3,10 +3,9 @@ ghost use Rattle.std.specs.Prelude.{◌≡◌, IfErr};
 
 use crate::hubs::Hub;
 use crate::naming::WithBody;
-use crate::operation_log::{Begun, OperationLog};
+use crate::operation_log::{Begun, LogWriter, OperationLog};
 use lv_bodies::Six;
 use lv_script::Fault;
-use std::io::Write;
 use std::sync::{Mutex, Wait};
 
 /// A record of what a hub comes to, or none.
@@ -27,7 +26,8 @@ impl<N: WithBody<Six>> SessionLog<N> for NoLog {
 }
 
 /// One writes what others have done too: so whoever finds its own entry written writes nothing.
-impl<N: WithBody<Six>, W: Write + Drop, K: Begun> SessionLog<N> for Mutex<OperationLog<N, W, K>> {
+impl<N: WithBody<Six>, W: LogWriter + Drop, K: Begun> SessionLog<N>
+    for Mutex<OperationLog<N, W, K>> {
     fn record<T: Wait>(&self, rt: &T, hub: &Hub<Six, N>) -> Result<(), Fault> {
         self.lock(rt).record(rt, hub)
     }

@@ -1,10 +1,9 @@
 //! Threads that are told of the edits that change the answers to their questions.
-ghost use Rattle.std.specs.Prelude.{◌≡◌, ◌++◌, ◌∷◌, [], None, IfErr, IfOk, OnErr, OnOk};
-ghost use Rattle.lv_edits.specs.Kept.{IsLegalInLimits};
+ghost use Rattle.std.specs.Prelude.{◌≡◌, ◌≤◌, ◌^◌, ◌++◌, ◌∷◌, [], None, IfErr, IfOk, IfSome, OnErr, OnOk};
 ghost use Rattle.lv_edits.specs.Verdict.{IsRefusal};
 ghost use Rattle.lv_standing.specs.Queries.{watch_answer};
 ghost use Rattle.lv_hub.specs.Notes.{IsToldIf, question_refusal};
-ghost use Rattle.lv_hub.specs.Told.{history_of};
+ghost use Rattle.lv_hub.specs.Renewing.{IsRun};
 
 use crate::ended::Ended;
 use crate::hubs::Hub;
@@ -105,10 +104,11 @@ impl<N: WithBody<Six>> Subscriber<N> {
         hub: &Hub<Six, N>,
     ) -> Result<Option<Told>, Refusal>
         ensures told { IfOk result (IsToldIf N.limits self.old self.new) }
+        ensures few { IfOk result (λ found. IfSome found (λ told. told.edit ≤ 2 ^ 62)) }
         ensures err { IfErr result (λ refusal. refusal ≡ Refusal.NoMemory) }
         // Told or not, it has seen the edits of a vector within the limits. That these are all edits of the hub so far isn't a clause: a
         // hub's contracts don't name its state.
-        ensures current { IfOk result (λ told. IsLegalInLimits (history_of N.limits self.new.share.seen)) }
+        ensures current { IfOk result (λ told. IsRun N.limits self.new.share.seen) }
         ensures unchanged { OnErr result (self.new ≡ self.old) }
     {
         let Ok(mut notes) = Vec::with_capacity(alloc, self.queries.queries().len()) else {
@@ -116,7 +116,7 @@ impl<N: WithBody<Six>> Subscriber<N> {
         };
         let seen = self.share.seen();
         let edit = hub.answer_all(rt, &mut self.share, &mut self.queries);
-        if u64::from(edit) == seen {
+        if edit == seen {
             return Ok(None);
         }
         self.queries.put_due(&mut notes);
@@ -132,6 +132,7 @@ impl<N: WithBody<Six>> Subscriber<N> {
         hub: &Hub<Six, N>,
     ) -> Result<Option<Told>, Refusal>
         ensures told { IfOk result (IsToldIf N.limits self.old self.new) }
+        ensures few { IfOk result (λ found. IfSome found (λ told. told.edit ≤ 2 ^ 62)) }
         ensures err { IfErr result (λ refusal. refusal ≡ Refusal.NoMemory) }
         ensures unchanged { OnErr result (self.new ≡ self.old) }
     {

@@ -1,5 +1,5 @@
 //! The tap of a desk: what has come since its log was written last.
-ghost use Rattle.std.specs.Prelude.{◌≡◌, ◌+◌, ◌<◌, ◌≤◌, ◌++◌, ◌∷◌, [], IfSome, Option, option_map, IsTrue, length, vec_capacity};
+ghost use Rattle.std.specs.Prelude.{◌≡◌, ◌<◌, [], IsTrue, vec_capacity};
 ghost use Rattle.lv_edits.specs.Kept.{CarriesElement};
 ghost use Rattle.lv_hub.specs.declared.log_entry.LogEntry.TheVariants as logged;
 ghost use Rattle.lv_hub.specs.Logging.{HasPlace, TapState, with_entry};
@@ -24,6 +24,13 @@ impl Model for Tap {
     ghost Value = { TapState };
 
     ghost view = { λ t. record { from = t.from; entries = t.entries.items; room = vec_capacity t.entries } };
+}
+
+/// What was handed over for a log: the edits since the vector had so many, and after how many edits of the hub it was made anew last.
+#[derive(Clone, Copy)]
+pub struct Came {
+    pub from: u64,
+    pub renewed: u64,
 }
 
 impl Tap {

@@ -5,15 +5,20 @@ use Rattle.std.specs.Io.KnownBytes.{Appends}
 use Rattle.lv_edits.specs.declared.edit.Edit.{Edit}
 use Rattle.lv_lines.specs.declared.fault.Fault.{Fault}
 use Rattle.lv_transcript.specs.declared.claimed.Claimed.{Claimed}
-use Rattle.lv_hub.specs.Logging.{LogEnds, LogThere, WroteWhole}
+use Rattle.lv_geometry.specs.Bounds.{Bounds}
+use Rattle.lv_transcript.specs.declared.log_heading.LogHeading.{LogHeading}
+use Rattle.lv_hub.specs.Logging.{EndsInFile, LogThere, WroteWhole}
+use Rattle.lv_hub.specs.Renewing.{IsOfOneVector}
+use Rattle.lv_hub.proofs.LogLaws.{end_of_one}
 use Rattle.lv_server.specs.Starting.{Records}
 use Rattle.lv_server.specs.Writing.{Writes}
 use Rattle.lv_server.proofs.ServedLaws.{if_some}
 
--- a log that ended well was written whole
-pub whole_so : (log : Option LogThere) (start contents : Option (List ℕ)) (journal : List Edit) (ended : Result Unit Fault) → LogEnds log start contents journal ended → IfOk ended (λ done. WroteWhole log start contents journal)
-whole_so log start contents journal (Ok done) ends = ends
-whole_so log start contents journal (Err fault) ends = tt
+-- the log of a hub of one vector that ended well was written whole
+pub whole_so : {V : Type 0} (made : Option (List ℕ)) (contents : V → Option (List ℕ)) (limits : Bounds) (numbers : LogHeading) (log : Option LogThere) (start : Option (List ℕ)) (edits : List Edit) (file : Option V) (ended : Result Unit Fault) → IsOfOneVector limits
+    → IfSome file (λ file. EndsInFile made limits numbers log start (contents file) edits ended) → IfOk ended (λ done. IfSome file (λ file. WroteWhole log start (contents file) edits))
+whole_so made contents limits numbers log start edits file (Ok done) one ends = if_some file (λ f ends. end_of_one made limits numbers log start (contents f) edits (Ok done) one ends) ends
+whole_so made contents limits numbers log start edits file (Err fault) one ends = tt
 
 -- where neither the transcript nor its file failed, both have one journal
 pub records_so : {V F : Type 0} (contents : V → Option (List ℕ)) (start : Option (List ℕ)) (history first second : List Edit) (listed : List Claimed) (old new : Option (List ℕ))

@@ -20,10 +20,10 @@ use Rattle.lv_geometry.specs.Bounds.{Bounds}
 use Rattle.lv_lines.specs.Replies.{LinesServed}
 use Rattle.lv_edits.specs.History.{History}
 use Rattle.lv_edits.specs.Kept.{IsLegalInLimits}
-use Rattle.lv_transcript.specs.Transcript.{AreAccepted, AreInOrder, IsSoundTranscript, IsTrueAnswer, Transcribes, greatest, transcript_text}
+use Rattle.lv_transcript.specs.Transcript.{AreAccepted, IsSoundTranscript, IsTrueAnswer, Transcribes, greatest, transcript_text}
 use Rattle.lv_hub.specs.Counting.{AreTogether, ShareState}
 use Rattle.lv_hub.specs.Session.{KeepTies, SessionState, SessionStep, session_at}
-use Rattle.lv_hub.specs.Told.{IsVector, history_of}
+use Rattle.lv_hub.specs.Renewing.{IsClosed, IsOfOneVector}
 use Rattle.lv_server.specs.Served.{AreHeld, FailsToServe, Served, Sides, Transcript, answered_to, ended_well}
 use Rattle.lv_server.specs.Starting.{start_of}
 use Rattle.lv_server.specs.Tasks.{AreAllHeld, AreHeldFrom, IsHeldFrom, IsHeldOnce, Sitting, TakesBack, begun_at, state_of}
@@ -263,15 +263,15 @@ pub ordered_text : (journal : List Edit) (listed : List Claimed) → IsTextOf jo
 ordered_text journal listed =
     record { answers = by_edit listed; text_is = refl; permutes = by_edit_permutes listed; ties = λ edit. by_edit_ties edit listed; order = by_edit_order listed }
 
--- the text of a closed hub's journal was written
-pub closed_so : {T : Type 0} (limits : Bounds) (share : ShareState) (h : History) (listed : List Claimed) (journal : List Edit) (old new : Option (List ℕ)) (result : Result T Fault) → journal ≡ h.journal
-    → IsVector limits h → AreAccepted greatest h.journal → IsPrefix share.seen h.journal → length h.journal ≡ share.count → Writes journal listed old new result → WritesClosed limits share listed old new result
-closed_so limits share h listed journal old new result is vector accepted seen counted written =
-    let same : h ≡ history_of limits h.journal = λ i. record { limits = vector.limits_are i; journal = h.journal } in
+-- the text of the edits of a hub of one vector that was closed was written
+pub closed_so : {T : Type 0} (limits : Bounds) (share : ShareState) (h : History) (edits : List Edit) (listed : List Claimed) (journal : List Edit) (old new : Option (List ℕ)) (result : Result T Fault) → IsOfOneVector limits → IsClosed limits edits h
+    → journal ≡ h.journal → IsPrefix share.seen edits → length edits ≡ share.count → Writes journal listed old new result → WritesClosed limits share listed old new result
+closed_so limits share h edits listed journal old new result one closed is seen counted written =
+    let same : h.journal ≡ edits = ap (λ (h : History). h.journal) (closed.one one) in
     record {
-      journal = h.journal;
-      of = record { within = subst IsLegalInLimits same vector.within; accepted = accepted; seen = seen; counted = counted };
-      written = subst (λ journal. Writes journal listed old new result) is written;
+      journal = edits;
+      of = record { within = subst IsLegalInLimits (closed.one one) closed.legal; accepted = subst (AreAccepted greatest) same closed.accepted; seen = seen; counted = counted };
+      written = subst (λ journal. Writes journal listed old new result) (is ∙ same) written;
     }
 
 -- what follows of what there is, if there is something

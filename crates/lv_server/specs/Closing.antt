@@ -1,16 +1,20 @@
 -- How the hub of a server that goes on from a log is closed.
-use Rattle.std.specs.Prelude.{ℕ, Option, IfSome, List}
+use Rattle.std.specs.Prelude.{◌≡◌, ℕ, Ok, Option, IfSome, List, length}
+use mathlib.Core.List.{IsPrefix}
 use Rattle.lv_geometry.specs.Bounds.{Bounds}
 use Rattle.lv_edits.specs.declared.edit.Edit.{Edit}
+use Rattle.lv_transcript.specs.declared.log_heading.LogHeading.{LogHeading}
 use Rattle.lv_hub.specs.Counting.{ShareState}
-use Rattle.lv_hub.specs.Logging.{LogThere, WroteWhole}
+use Rattle.lv_hub.specs.Logging.{EndsInFile, LogThere}
 use Rattle.lv_hub.specs.Noticing.{NoticesState}
+use Rattle.lv_hub.specs.Renewing.{IsRun}
 use Rattle.lv_hub.specs.Watchers.{AllTellLast, LeftState}
-use Rattle.lv_server.specs.Writing.{IsJournal}
 
--- a hub was closed by a share: subscribers told the last of its journal, all edits of which the file has, if there is one
-pub record ClosesLog {V : Type 0} (contents : V → Option (List ℕ)) (log : Option LogThere) (start : Option (List ℕ)) (limits : Bounds) (share : ShareState) (left : List LeftState) (told : List NoticesState) (file : Option V) : Type 0 where
-  pub journal : List Edit
-  pub of : IsJournal limits share journal
-  pub last : AllTellLast journal left told
-  pub whole : IfSome file (λ file. WroteWhole log start (contents file) journal)
+-- a hub was closed by a share: subscribers told the last of its edits, all of which its last file has, if there is one
+pub record ClosesLog {V : Type 0} (made : Option (List ℕ)) (contents : V → Option (List ℕ)) (log : Option LogThere) (start : Option (List ℕ)) (limits : Bounds) (numbers : LogHeading) (share : ShareState) (left : List LeftState) (told : List NoticesState) (file : Option V) : Type 0 where
+  pub edits : List Edit
+  pub run : IsRun limits edits
+  pub seen : IsPrefix share.seen edits
+  pub counted : length edits ≡ share.count
+  pub last : AllTellLast edits left told
+  pub whole : IfSome file (λ file. EndsInFile made limits numbers log start (contents file) edits (Ok tt))

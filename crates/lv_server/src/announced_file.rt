@@ -3,6 +3,10 @@
 ghost use Rattle.std.specs.Prelude.{◌≡◌};
 
 use crate::escaped::Escaped;
+use lv_hub::LogWriter;
+use lv_script::Fault;
+use lv_transcript::LogHeading;
+use std::alloc::Global;
 use std::io;
 use std::io::{Error, Write};
 
@@ -60,5 +64,23 @@ impl<'a, E: Eprint + Copy, F: Write + Drop> Write for AnnouncedFile<'a, E, F> {
             self.tell(error);
         }
         flushed
+    }
+}
+
+/// It is begun anew as the file is, which tells itself why it can't be.
+impl<'a, E: Eprint + Copy, F: LogWriter + Drop> LogWriter for AnnouncedFile<'a, E, F> {
+    ghost made = { F.made };
+
+    fn is_due(&self) -> bool {
+        self.file.is_due()
+    }
+
+    fn begin_anew(
+        &mut self,
+        alloc: Global,
+        heading: LogHeading,
+        elements: &[i64],
+    ) -> Result<(), Fault> {
+        self.file.begin_anew(alloc, heading, elements)
     }
 }

@@ -4,12 +4,14 @@ use crate::announced_file::AnnouncedFile;
 use crate::board_sessions::hold_sessions;
 use crate::clients::{Clients, first_unwritten};
 use crate::identity::{is_written, standard_files};
+use crate::log_places::LogFolder;
 use crate::log_server::serve_log;
 use crate::names::Names;
 use crate::opened_client::{open_all, open_input, open_with_log};
 use crate::program_error::{ProgramError, Reason};
 use crate::server::{Plan, serve};
 use crate::store_file::StartedLog;
+use crate::stored_log::LogPlan;
 use crate::waited::Waited;
 use lv_bodies::Kind;
 use lv_geometry::Limits;
@@ -62,25 +64,33 @@ where
     }
 }
 
-/// Opens files and a log, and serves them from where the log ends; they are waited for by a clock, and updates go to the log, with
-/// `logs_answers` also answers. What can't be written to the log is told at once, and is the fault at the end. What a subscriber was told
+/// Opens files and a log, and serves them from where the log ends; they are waited for by a clock, and updates go to the log, and
+/// answers where that is planned. What can't be written to the log is told at once, and is the fault at the end. What a subscriber was told
 /// that couldn't be written is the fault once all else is done.
 pub fn serve_logged_files<
     C: Clock + Copy + Send,
-    R: Eprint + Files<File = File> + Sync + Threads + Wait,
+    R: Eprint + Files<File = File> + LogFolder + Sync + Threads + Wait,
 >(
     clock: C,
     rt: &R,
     alloc: Global,
     plan: Plan,
-    logs_answers: bool,
+    kept: LogPlan,
     names: Names<'_>,
 ) -> Result<(), ProgramError> {
-    let (Clients { streams, watches }, log) = open_with_log(clock, rt, alloc, plan.limits, names)?;
+    let (Clients { streams, watches }, log) = open_with_log(
+        clock,
+        rt,
+        alloc,
+        plan.limits,
+        kept,
+        names,
+    )?;
     let StartedLog {
         file,
         heading,
         edits,
+        ..
     } = log;
     let file = AnnouncedFile::new(rt, names.of_record().unwrap_or(""), file);
     let begun = edits.journal();
@@ -88,7 +98,7 @@ pub fn serve_logged_files<
         rt,
         alloc,
         plan,
-        logs_answers,
+        kept.logs_answers,
         heading,
         begun,
         streams,

@@ -1,12 +1,10 @@
 //! A server that goes on from a log of elements, whose file stays a log of all edits.
 
-ghost use Rattle.std.specs.Prelude.{◌≡◌, ◌+◌, ◌≤◌, ◌^◌, IfOk, IfSome, Ok, [], Some, is_some, map, true, false, vec_capacity, vec_len};
-ghost use Rattle.lv_hub.specs.Logging.{IsLogOfEdits, log_of_edits};
+ghost use Rattle.std.specs.Prelude.{◌≡◌, ◌+◌, ◌<◌, ◌≤◌, ◌^◌, IfOk, IfSome, Ok, [], Some, is_some, map, nat_eq, true, false, vec_capacity, vec_len};
+ghost use Rattle.lv_hub.specs.Logging.{AreLasting, IsLogOfEdits, log_of_edits};
 ghost use Rattle.lv_hub.specs.Session.{are_listed};
-ghost use Rattle.lv_hub.specs.Watched.{WatchState};
 ghost use Rattle.lv_server.specs.Closing.{ClosesLog};
-ghost use Rattle.lv_server.specs.PlainLogged.{LogServed};
-ghost use Rattle.lv_server.specs.Served.{Sides};
+ghost use Rattle.lv_server.specs.PlainLogged.{LogServed, served_limits};
 
 use crate::clients::{Clients, Gathered};
 use crate::opened_client::OpenedClient;
@@ -15,9 +13,10 @@ use crate::server::{Plan, serve_all};
 use crate::transcript::{all_or_failure, end_log, shown};
 use lv_bodies::Six;
 use lv_edits::Edit;
+use lv_geometry::Limits;
 use lv_hub::{
-    Begun, Hub, KeptAnswers, Leaving, LogHeading, Opened, OperationLog, Share, Watch, Watched,
-    WithBody,
+    Begun, Hub, KeptAnswers, Leaving, LogHeading, LogWriter, Opened, OperationLog, Share, Watch,
+    Watched, WithBody,
 };
 use lv_script::Fault;
 use std::alloc::Global;
@@ -34,7 +33,11 @@ use std::thread::Threads;
 /// Where an edit that the log has is refused, that is the fault: `NoMemory`, or else `ReadFault`. After a write that fails, or a flush, no edit is told
 /// of any more: sessions end, and the fault is `WriteFault`. Where sessions end with faults, the first of them is the fault. A failure gives
 /// nothing back; the file has a log then too, with each edit that was told of.
-pub fn serve_log<F: Read + Write + Send + Drop, V: Write + Send + Drop, R: Threads + Wait + Sync>(
+pub fn serve_log<
+    F: Read + Write + Send + Drop,
+    V: LogWriter + Send + Drop,
+    R: Threads + Wait + Sync,
+>(
     rt: &R,
     alloc: Global,
     plan: Plan,
@@ -50,7 +53,7 @@ pub fn serve_log<F: Read + Write + Send + Drop, V: Write + Send + Drop, R: Threa
     ensures back { IfOk result (λ done. is_some done.1 ≡ true) }
     // Replies are the plain interpreter's, at beginnings of one list of edits, and the file has all of that list.
     ensures served { IfOk result (λ done. IfSome done.1 (λ kept. LogServed plan.limits heading begun.now (map (λ s. record { lines = F.remaining s.lines; replies = F.contents s.replies }) streams.items) (map (λ s. record { lines = F.remaining s.lines; replies = F.contents s.replies }) done.0.items)
-        (map (λ w. record { questions = w.questions.items; contents = F.contents w.notes }) watches.items) (map (λ w. w.notices) done.2.items) (V.contents file) (V.contents kept))) }
+        (map (λ w. record { questions = w.questions.items; contents = F.contents w.notes }) watches.items) (map (λ w. w.notices) done.2.items) V.made (V.contents file) (V.contents kept))) }
 {
     let parts = streams.len() as u64 + watches.len() as u64 + 1;
     serve_log_as::<Brand, Brand, F, V, R>(
@@ -85,7 +88,7 @@ fn serve_log_as<
     N: WithBody<Six> + Send + Sync,
     K: Begun + Send + Sync,
     F: Read + Write + Send + Drop,
-    V: Write + Send + Drop,
+    V: LogWriter + Send + Drop,
     R: Threads + Wait + Sync,
 >(
     rt: &R,
@@ -105,7 +108,7 @@ fn serve_log_as<
     requires all { blank.parts ≡ N.parts }
     requires parts { blank.parts ≡ parts }
     requires one_each { parts ≡ vec_len clients.streams + vec_len clients.watches + 1 }
-    requires limits { plan.limits ≡ N.limits }
+    requires limits { N.limits ≡ served_limits plan.limits }
     requires history { opened ≡ N.history }
     requires numbers { heading ≡ N.numbers }
     requires base { heading.base ≤ 2 ^ 62 }
@@ -117,12 +120,13 @@ fn serve_log_as<
     requires log { IsLogOfEdits heading begun.now }
     ensures back { IfOk result (λ done. is_some done.1 ≡ true) }
     ensures served { IfOk result (λ done. IfSome done.1 (λ kept. LogServed plan.limits heading begun.now (map (λ s. record { lines = F.remaining s.lines; replies = F.contents s.replies }) clients.streams.items) (map (λ s. record { lines = F.remaining s.lines; replies = F.contents s.replies }) done.0.items)
-        (map (λ w. record { questions = w.questions.items; contents = F.contents w.notes }) clients.watches.items) (map (λ w. w.notices) done.2.items) (V.contents file) (V.contents kept))) }
+        (map (λ w. record { questions = w.questions.items; contents = F.contents w.notes }) clients.watches.items) (map (λ w. w.notices) done.2.items) V.made (V.contents file) (V.contents kept))) }
 {
-    let (hub, mut share) = Hub::<Six, N>::new(alloc, plan.limits, body, blank, parts, opened);
+    let (hub, mut share) = open_hub::<N>(alloc, plan.limits, body, blank, parts, opened);
+    let lasts = lasting(plan.limits);
     let file = Some(file);
     let served = serve_all::<N, K, F, V, R>(
-        rt, alloc, plan, heading, keeps, begun, &hub, &mut share, clients, file, true,
+        rt, alloc, plan, heading, keeps, lasts, begun, &hub, &mut share, clients, file, true,
     );
     match served {
         Ok((all, log, leaving)) => {
@@ -137,8 +141,50 @@ fn serve_log_as<
     }
 }
 
-// Closes a hub, ends its log, and gives its file back. Then subscribers that have ended tell the last. Takes no memory.
-fn close_log<N: WithBody<Six>, K: Begun, F: Write + Drop, V: Write + Drop>(
+/// Whether a hub goes on when the edits of its vector are used up, which has these limits: where the vector may have as many as any.
+pub fn lasts(limits: Limits) -> bool
+    ensures lasts { result ≡ nat_eq limits.edits 16777215 }
+    ensures few { limits.edits ≤ 16777215 }
+{
+    limits.edits() == 16_777_215
+}
+
+// The limits of the vector of such a hub, or none.
+fn lasting(limits: Limits) -> Option<Limits>
+    ensures lasting { IfSome result (AreLasting (served_limits limits)) }
+    ensures few { limits.edits ≤ 16777215 }
+{
+    if lasts(limits) { Some(limits) } else { None }
+}
+
+// A hub of a vector with these limits, which goes on where it may.
+fn open_hub<N: WithBody<Six>>(
+    alloc: Global,
+    limits: Limits,
+    body: Six,
+    blank: Blank,
+    parts: u64,
+    opened: Opened,
+) -> (Hub<Six, N>, Share<N>)
+    requires name { blank.name ≡ N.name }
+    requires all { blank.parts ≡ N.parts }
+    requires parts { blank.parts ≡ parts }
+    requires some { 0 < parts }
+    requires limits { N.limits ≡ served_limits limits }
+    requires history { opened ≡ N.history }
+    requires body { N.body ≡ Some body }
+    ensures body { result.0 ≡ body }
+    ensures share { result.1 ≡ record { parts = parts; count = 0; seen = [] } }
+{
+    if lasts(limits) {
+        Hub::lasting(alloc, limits, body, blank, parts, opened)
+    } else {
+        Hub::new(alloc, limits, body, blank, parts, opened)
+    }
+}
+
+// Closes a hub, ends its log, and gives its last file back. Then subscribers that have ended tell the last. Takes no memory.
+fn close_log<N: WithBody<Six>, K: Begun, F: Write + Drop, V: LogWriter + Drop>(
     hub: Hub<Six, N>,
     share: Share<N>,
     log: Option<OperationLog<N, V, K>>,
@@ -148,13 +194,13 @@ fn close_log<N: WithBody<Six>, K: Begun, F: Write + Drop, V: Write + Drop>(
     requires none { leaving.watched.items ≡ [] }
     requires room { vec_len leaving.left ≤ vec_capacity leaving.watched }
     ensures back { is_some result.0 ≡ is_some log }
-    ensures closed { IfOk result.1 (λ done. ClosesLog V.contents K.there K.start N.limits share leaving.left.items (map (λ w. w.notices) result.2.items) result.0) }
+    ensures closed { IfOk result.1 (λ done. ClosesLog V.made V.contents K.there K.start N.limits N.numbers share leaving.left.items (map (λ w. w.notices) result.2.items) result.0) }
 {
     let share = shown(&log, share);
-    let mut live = hub.close(share);
-    let (file, ended) = end_log(log, live.journal());
-    let watched = leaving.tell(&mut live, ended.is_ok());
-    drop(live);
+    let (mut live, edits) = hub.finish(share);
+    let (file, ended) = end_log(log, &edits);
+    let watched = leaving.tell(&mut live, edits.count(), ended.is_ok());
+    drop((live, edits));
     (file, logged(ended), watched)
 }
 

@@ -4,12 +4,16 @@ ghost use Rattle.std.specs.Prelude.{◌≡◌, IfOk};
 ghost use Rattle.lv_server.specs.Stores.{IsRightStore, MayStart};
 
 use crate::clients::Clients;
+use crate::folders::Found;
 use crate::identity::{Identity, is_written, standard_files};
 use crate::log_file::{LogFile, names_of, open_locked};
+use crate::log_places::{LogFolder, LogPlaces};
+use crate::log_server::lasts;
 use crate::names::{Names, REPLIES, first_clash};
 use crate::output_file::{Access, OutputFile};
 use crate::program_error::{ProgramError, Reason};
 use crate::store_file::{StartedLog, StoreFile};
+use crate::stored_log::{LogPlan, StoredLog};
 use crate::waited::Waited;
 use lv_geometry::Limits;
 use lv_hub::{Query, Unasked, read_questions};
@@ -97,24 +101,26 @@ pub fn open_all<C: Clock + Copy, R: Files<File = File>>(
 }
 
 /// Opens each file and that of its replies likewise, and the log that a server goes on from, which comes last, is locked before it is read, and begins, or has
-/// a torn line cut off, once all are found fit. It is so where it has whole lines that are a log, whose updates keep to these limits, or is new.
-pub fn open_with_log<C: Clock + Copy, R: Eprint + Files<File = File>>(
+/// a torn line cut off, once all are found fit. It is so where it has whole lines that are a log, whose updates keep to these limits, or is new. One that
+/// may be made anew has nothing in its way beside it.
+pub fn open_with_log<'a, C: Clock + Copy, R: Eprint + Files<File = File> + LogFolder>(
     clock: C,
-    rt: &R,
+    rt: &'a R,
     alloc: Global,
     limits: Limits,
-    names: Names<'_>,
+    kept: LogPlan,
+    names: Names<'a>,
 ) -> Result<
     (
         Clients<Waited<C, File>>,
-        StartedLog<Waited<C, LogFile<File>>>,
+        StartedLog<StoredLog<'a, C, &'a R>>,
     ),
     ProgramError,
 >
     ensures { IfOk result (λ opened. MayStart opened.1.heading opened.1.edits.journal) }
 {
     let (clients, mut all) = room_for(alloc, names)?;
-    match open_and_start(clock, rt, alloc, limits, names, &mut all) {
+    match open_and_start(clock, rt, alloc, limits, kept, names, &mut all) {
         Ok(log) => {
             let clients = empty_all(clock, all, clients, names.sessions)?;
             Ok((clients, log))
@@ -161,14 +167,15 @@ fn open_and_ask<R: Files<File = File>>(
 }
 
 // Opens them, reads what subscribers ask, and opens and begins the log. One that was made here and can't begin is taken away.
-fn open_and_start<C: Clock + Copy, R: Eprint + Files<File = File>>(
+fn open_and_start<'a, C: Clock + Copy, R: Eprint + Files<File = File> + LogFolder>(
     clock: C,
-    rt: &R,
+    rt: &'a R,
     alloc: Global,
     limits: Limits,
-    names: Names<'_>,
+    kept: LogPlan,
+    names: Names<'a>,
     all: &mut Vec<OpenedClient<File>>,
-) -> Result<StartedLog<Waited<C, LogFile<File>>>, ProgramError>
+) -> Result<StartedLog<StoredLog<'a, C, &'a R>>, ProgramError>
     ensures { IfOk result (λ log. MayStart log.heading log.edits.journal) }
 {
     open_each(rt, alloc, names.of_clients(), all)?;
@@ -176,7 +183,7 @@ fn open_and_start<C: Clock + Copy, R: Eprint + Files<File = File>>(
     let name = names.of_record().unwrap_or("");
     let store = StoreFile::open(clock, rt, alloc, name, names.clients, true)?;
     let output = store.output;
-    match start(clock, rt, alloc, limits, names, store, all) {
+    match start(clock, rt, alloc, limits, kept, names, store, all) {
         Ok(log) => Ok(log),
         Err(error) => {
             let _ = output.is_removed(rt, name);
@@ -186,15 +193,16 @@ fn open_and_start<C: Clock + Copy, R: Eprint + Files<File = File>>(
 }
 
 // Begins the log, once it is seen that no client reads or writes it, and that it is fit.
-fn start<C: Clock + Copy, R: Eprint + Files<File = File>>(
+fn start<'a, C: Clock + Copy, R: Eprint + Files<File = File> + LogFolder>(
     clock: C,
-    rt: &R,
+    rt: &'a R,
     alloc: Global,
     limits: Limits,
-    names: Names<'_>,
+    kept: LogPlan,
+    names: Names<'a>,
     store: StoreFile,
     all: &[OpenedClient<File>],
-) -> Result<StartedLog<Waited<C, LogFile<File>>>, ProgramError>
+) -> Result<StartedLog<StoredLog<'a, C, &'a R>>, ProgramError>
     requires { IsRightStore store.found }
     ensures { IfOk result (λ log. MayStart log.heading log.edits.journal) }
 {
@@ -203,13 +211,77 @@ fn start<C: Clock + Copy, R: Eprint + Files<File = File>>(
         return Err(ProgramError::new(Fault::WriteFault, Reason::RecordTaken, names.clients));
     }
     store.check_log(alloc, limits)?;
-    store.start(
+    let name = names.of_record().unwrap_or("");
+    let places = LogPlaces::of(alloc, name, names.clients, kept.drops_old)?;
+    if lasts(limits) {
+        see_places(rt, &places, store.output.identity, all)?;
+    }
+    let started = store.start(clock, rt, alloc, name, names.syncs)?;
+    Ok(stored(clock, rt, places, kept, names, started))
+}
+
+// Sees that nothing is in the way beside a log when it is made anew, and that no client reads or writes it.
+fn see_places<R: Files<File = File>>(
+    rt: &R,
+    places: &LogPlaces<'_>,
+    log: Identity,
+    all: &[OpenedClient<File>],
+) -> Result<(), ProgramError> {
+    places.see(rt, log)?;
+    let [kept, made] = places.found(rt);
+    if is_at(all, kept) {
+        return Err(places.fault(Reason::KeptUsed));
+    }
+    if is_at(all, made) {
+        return Err(places.fault(Reason::CompactingUsed));
+    }
+    Ok(())
+}
+
+// Whether a client reads or writes what was found under a name.
+fn is_at(all: &[OpenedClient<File>], found: Found) -> bool {
+    match found {
+        Found::Regular(identity) => is_used(all, usize::MAX, identity),
+        Found::Nothing | Found::Else => false,
+    }
+}
+
+// The same log, as one that may be made anew.
+fn stored<'a, C: Clock + Copy, R: Eprint + LogFolder>(
+    clock: C,
+    rt: &'a R,
+    places: LogPlaces<'a>,
+    kept: LogPlan,
+    names: Names<'a>,
+    log: StartedLog<Waited<C, LogFile<File>>>,
+) -> StartedLog<StoredLog<'a, C, &'a R>>
+    ensures heading { result.heading ≡ log.heading }
+    ensures edits { result.edits ≡ log.edits }
+{
+    let StartedLog {
+        file,
+        output,
+        length,
+        heading,
+        edits,
+    } = log;
+    let file = StoredLog::new(
         clock,
         rt,
-        alloc,
-        names.of_record().unwrap_or(""),
+        places,
         names.syncs,
-    )
+        kept.compact_at,
+        file,
+        output,
+        length,
+    );
+    StartedLog {
+        file,
+        output,
+        length,
+        heading,
+        edits,
+    }
 }
 
 // Opens them in order, and sees that none is written that is read or written otherwise.

@@ -59,6 +59,8 @@ pub enum Reason {
     /// An update of a log, by its number in the file.
     #[error("' is a log whose update {0} is rejected within --buckets and --edits: {1}")]
     OverLimits(u32, Refusal),
+    #[error("' is a log with 16777215 updates, which is too long to be continued: `livevec compact` makes it short")]
+    FullLog,
     #[error("' can't be replaced by what was made of it")]
     Unreplaced,
     #[error("' is there, and its folder can't be flushed to the disk")]
@@ -95,6 +97,10 @@ pub enum Reason {
     KeptTaken,
     #[error(".compacting' is there and no regular file: remove it")]
     CompactingTaken,
+    #[error(".1' is read or written here, and would have what was there before: name another file, or give --drop-old")]
+    KeptUsed,
+    #[error(".compacting' is read or written here, and a new log would be made there: name another file")]
+    CompactingUsed,
 }
 
 impl Reason {
@@ -107,6 +113,7 @@ impl Reason {
             Reason::RecordTaken | Reason::RecordLink => true,
             Reason::RecordNames | Reason::RecordLocked => true,
             Reason::KeptTaken | Reason::CompactingTaken => true,
+            Reason::KeptUsed | Reason::CompactingUsed => true,
             _ => false,
         }
     }

@@ -5,12 +5,13 @@ ghost use Rattle.lv_transcript.specs.Joined.{in_a_row};
 ghost use Rattle.lv_server.specs.PlainServed.{ServedPlainly};
 ghost use Rattle.lv_server.specs.Starting.{Records, start_of};
 ghost use Rattle.lv_transcript.specs.Transcribing.{IsUnused};
-ghost use Rattle.lv_server.specs.Served.{FailsToServe, Served, Sides};
+ghost use Rattle.lv_server.specs.Served.{FailsToServe, Served};
 ghost use Rattle.lv_server.specs.Tasks.{AreAllHeld};
-ghost use Rattle.lv_hub.specs.Logging.{MayGoOn, edits_there};
+ghost use Rattle.lv_hub.specs.Logging.{AreLasting, MayGoOn, edits_there};
 ghost use Rattle.lv_hub.specs.Numbering.{from_the_first};
+ghost use Rattle.lv_hub.specs.Renewing.{IsOfOneVector};
 ghost use Rattle.lv_hub.specs.Session.{are_listed};
-ghost use Rattle.lv_hub.specs.Watched.{ServedWatched, WatchState};
+ghost use Rattle.lv_hub.specs.Watched.{ServedWatched};
 ghost use Rattle.lv_hub.specs.Watchers.{AreLeft};
 
 use crate::clients::{Clients, Gathered, Present, begin_all, take_back};
@@ -22,8 +23,8 @@ use lv_bodies::Six;
 use lv_edits::Edit;
 use lv_geometry::{Limits, Refusal};
 use lv_hub::{
-    Begun, Hub, KeptAnswers, Leaving, LogHeading, Opened, OperationLog, SessionPlace, Share, Watch,
-    Watched, WithBody, from_the_first, leave_all,
+    Begun, Hub, KeptAnswers, Leaving, LogHeading, LogWriter, Opened, OperationLog, SessionPlace,
+    Share, Watch, Watched, WithBody, from_the_first, leave_all,
 };
 use lv_script::Fault;
 use std::alloc::Global;
@@ -61,7 +62,7 @@ pub struct Plan {
 /// to the file before stays there, and is for its audit to tell.
 pub fn serve<
     F: Read + Write + Send + Drop,
-    V: Write + Send + Drop,
+    V: LogWriter + Send + Drop,
     W: Write,
     R: Threads + Wait + Sync,
 >(
@@ -108,7 +109,7 @@ fn serve_as<
     N: WithBody<Six> + Send + Sync,
     K: Begun + Send + Sync,
     F: Read + Write + Send + Drop,
-    V: Write + Send + Drop,
+    V: LogWriter + Send + Drop,
     W: Write,
     R: Threads + Wait + Sync,
 >(
@@ -147,7 +148,7 @@ fn serve_as<
 {
     let (hub, mut share) = Hub::<Six, N>::new(alloc, plan.limits, body, blank, parts, opened);
     let served = serve_all::<N, K, F, V, R>(
-        rt, alloc, plan, numbers, keeps, begun, &hub, &mut share, clients, file, false,
+        rt, alloc, plan, numbers, keeps, None, begun, &hub, &mut share, clients, file, false,
     );
     match served {
         Ok((all, log, leaving)) => {
@@ -175,12 +176,12 @@ fn serve_as<
 }
 
 /// Serves them on a hub, and gathers what they leave: the reductions in the order of the sessions, and what subscribers were told. Its
-/// share has all parts, and has them again.
+/// share has all parts, and has them again. Where the hub goes on when its vector's edits are used up, these are that vector's limits; then no reductions are listed.
 pub fn serve_all<
     N: WithBody<Six> + Send + Sync,
     K: Begun + Send + Sync,
     F: Read + Write + Send + Drop,
-    V: Write + Send + Drop,
+    V: LogWriter + Send + Drop,
     R: Threads + Wait + Sync,
 >(
     rt: &R,
@@ -188,6 +189,7 @@ pub fn serve_all<
     plan: Plan,
     numbers: LogHeading,
     keeps: KeptAnswers,
+    lasts: Option<Limits>,
     begun: &[Edit],
     hub: &Hub<Six, N>,
     share: &mut Share<N>,
@@ -202,6 +204,8 @@ pub fn serve_all<
     requires numbers { numbers ≡ N.numbers }
     requires base { numbers.base ≤ 2 ^ 62 }
     requires lists { are_listed keeps ≡ N.lists }
+    requires one { N.lists ≡ true → IsOfOneVector N.limits }
+    requires lasts { IfSome lasts (AreLasting N.limits) }
     requires all { share.old.parts ≡ N.parts }
     requires parts { share.old.parts ≡ vec_len clients.streams + vec_len clients.watches + 1 }
     requires count { share.old.count ≡ 0 }
@@ -216,7 +220,7 @@ pub fn serve_all<
 {
     let start = share.prefix();
     begin(rt, hub, share, begun)?;
-    let log = begin_log::<N, K, V, R>(rt, alloc, file, is_log, hub, share)?;
+    let log = begin_log::<N, K, V, R>(rt, alloc, file, is_log, numbers, lasts, hub, share)?;
     let room = Gathered::with_room(alloc, clients.streams.len())?;
     let present = begin_all(alloc, numbers, share, &start, clients)?;
     let Present {

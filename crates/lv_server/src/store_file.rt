@@ -8,6 +8,7 @@ use crate::escaped::Escaped;
 use crate::folders::{Found, KEPT, beside, found_at, sync_folder};
 use crate::identity::Identity;
 use crate::log_file::{LogFile, names_of, open_locked};
+use crate::log_server::lasts;
 use crate::output_file::{Access, OutputFile};
 use crate::program_error::{ProgramError, Reason};
 use crate::waited::Waited;
@@ -30,8 +31,13 @@ const NEW: LogHeading = LogHeading {
     elements: 0,
 };
 
-// The first line of a log before which nothing came, without its LF, and its length.
+// The first line of a log before which nothing came, without its LF, and its length with it.
 const FIRST_LINE: [u8; 13] = *b"livevec 2 0 0";
+
+const NEW_LENGTH: u64 = 14;
+
+// How many updates a vector has at most that is to be made anew.
+const MOST_SERVED: u32 = 16_777_214;
 
 /// A log, or a front of a transcript, that is open and locked, and what was found in it. Nothing of it has changed.
 #[derive(Drop)]
@@ -54,6 +60,10 @@ pub struct StoreFile {
 #[derive(Drop)]
 pub struct StartedLog<F: Drop> {
     pub file: F,
+    /// Which file it is.
+    pub output: OutputFile,
+    /// How many bytes it has.
+    pub length: u64,
     pub heading: LogHeading,
     pub edits: Edits,
 }
@@ -124,6 +134,9 @@ impl StoreFile {
         }
         if self.found.heading.is_none() && !self.is_blank() {
             return Err(ProgramError::new(Fault::ReadFault, Reason::NoLog, self.number));
+        }
+        if lasts(limits) && self.found.edits.edit() > MOST_SERVED {
+            return Err(ProgramError::new(Fault::ReadFault, Reason::FullLog, self.number));
         }
         self.check_limits(alloc, limits)
     }
@@ -209,23 +222,33 @@ impl StoreFile {
     {
         let StoreFile {
             file,
+            output,
             found,
             number,
             ..
         } = self;
-        let FoundFront { edits, heading, .. } = found;
+        let FoundFront {
+            edits,
+            heading,
+            whole,
+            ..
+        } = found;
         let mut file = Waited::new(clock, LogFile { file, syncs });
         let Some(heading) = heading else {
             drop(edits);
             write_new(alloc, number, &mut file)?;
             return Ok(StartedLog {
                 file,
+                output,
+                length: NEW_LENGTH,
                 heading: NEW,
                 edits: Edits::new(alloc, Limits::greatest()),
             });
         };
         Ok(StartedLog {
             file,
+            output,
+            length: whole,
             heading,
             edits,
         })

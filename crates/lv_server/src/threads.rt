@@ -8,8 +8,8 @@ use crate::program_error::{ProgramError, Reason};
 use crate::server::Plan;
 use lv_bodies::Six;
 use lv_hub::{
-    Begun, Hub, OpenGate, OperationLog, SessionLog, SessionPlace, Watcher, WithBody, attend,
-    run_session,
+    Begun, Hub, LogWriter, OpenGate, OperationLog, SessionLog, SessionPlace, Watcher, WithBody,
+    attend, run_session,
 };
 use lv_script::Fault;
 use lv_transcript::Queue;
@@ -25,7 +25,7 @@ pub fn hold_all<
     N: WithBody<Six> + Send + Sync,
     K: Begun + Send + Sync,
     F: Read + Write + Send + Drop,
-    V: Write + Send + Drop,
+    V: LogWriter + Send + Drop,
     R: Threads + Wait + Sync,
 >(
     place: &SessionPlace<'_, N, R>,
@@ -74,7 +74,7 @@ fn hold_beside<
     N: WithBody<Six> + Send + Sync,
     K: Begun + Send + Sync,
     F: Read + Write + Send + Drop,
-    V: Write + Send + Drop,
+    V: LogWriter + Send + Drop,
     R: Threads + Wait + Sync,
 >(
     place: &SessionPlace<'_, N, R>,
@@ -107,7 +107,7 @@ fn watch_all<
     N: WithBody<Six> + Send + Sync,
     K: Begun + Send + Sync,
     F: Write + Send + Drop,
-    V: Write + Send + Drop,
+    V: LogWriter + Send + Drop,
     R: Threads + Wait + Sync,
 >(
     rt: &R,
@@ -128,7 +128,7 @@ fn watch_each<
     N: WithBody<Six> + Send + Sync,
     K: Begun + Send + Sync,
     F: Write + Send + Drop,
-    V: Write + Send + Drop,
+    V: LogWriter + Send + Drop,
     R: Threads + Wait + Sync,
 >(
     rt: &R,
@@ -154,7 +154,7 @@ fn hold_each<
     N: WithBody<Six> + Send + Sync,
     K: Begun + Send + Sync,
     F: Read + Write + Send + Drop,
-    V: Write + Send + Drop,
+    V: LogWriter + Send + Drop,
     R: Threads + Wait + Sync,
 >(
     place: &SessionPlace<'_, N, R>,
@@ -175,7 +175,7 @@ fn hold_in_place<
     N: WithBody<Six> + Send + Sync,
     K: Begun + Send + Sync,
     F: Read + Write + Send + Drop,
-    V: Write + Send + Drop,
+    V: LogWriter + Send + Drop,
     R: Threads + Wait + Sync,
 >(
     place: &SessionPlace<'_, N, R>,
@@ -195,7 +195,7 @@ fn hold_waiting<
     N: WithBody<Six> + Send + Sync,
     K: Begun + Send + Sync,
     F: Read + Write + Send + Drop,
-    V: Write + Send + Drop,
+    V: LogWriter + Send + Drop,
     R: Threads + Wait + Sync,
 >(
     place: &SessionPlace<'_, N, R>,
@@ -218,7 +218,7 @@ fn hold_waiting<
 }
 
 // Holds a session that waits. Where it finds no memory to begin with it waits still, and nothing is changed.
-fn hold<N: WithBody<Six>, K: Begun, F: Read + Write + Drop, V: Write + Drop, R: Wait>(
+fn hold<N: WithBody<Six>, K: Begun, F: Read + Write + Drop, V: LogWriter + Drop, R: Wait>(
     place: &SessionPlace<'_, N, R>,
     log: Option<&Mutex<OperationLog<N, V, K>>>,
     task: &mut Task<N, F>,

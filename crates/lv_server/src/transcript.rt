@@ -1,12 +1,13 @@
 //! The transcript of a server: its file, which is written as edits come, and what is written at the close.
 
-ghost use Rattle.std.specs.Prelude.{◌≡◌, ◌⊎◌, ◌<◌, ◌≤◌, ℕ, All, Err, HoldsAt, IfErr, IfOk, IfSome, List, MatchResult, None, Ok, OnOk, [], false, is_some, length, map, true, vec_capacity, vec_len};
+ghost use Rattle.std.specs.Prelude.{◌≡◌, ◌⊎◌, ◌<◌, ◌≤◌, All, Err, IfErr, IfOk, IfSome, MatchResult, None, Ok, [], is_some, map, true, vec_capacity, vec_len};
 ghost use mathlib.Core.List.{IsPrefix};
 ghost use Rattle.lv_transcript.specs.Joined.{in_a_row};
 ghost use Rattle.lv_transcript.specs.Transcribing.{IsUnused};
-ghost use Rattle.lv_transcript.specs.Transcript.{AreAccepted, AreInOrder, IsTrueAnswer, greatest};
+ghost use Rattle.lv_transcript.specs.Transcript.{AreAccepted, IsTrueAnswer, greatest};
 ghost use Rattle.lv_hub.specs.Counting.{having_seen};
-ghost use Rattle.lv_hub.specs.Logging.{MayGoOn, WroteWhole, edits_there};
+ghost use Rattle.lv_hub.specs.Logging.{AreLasting, EndsInFile, MayGoOn, edits_there};
+ghost use Rattle.lv_hub.specs.Renewing.{IsOfOneVector};
 ghost use Rattle.lv_hub.specs.Watchers.{ClosesTelling};
 ghost use Rattle.lv_server.specs.Starting.{Records};
 ghost use Rattle.lv_server.specs.Writing.{FailsToClose, Writes, WritesClosed};
@@ -15,7 +16,11 @@ use crate::opened_client::OpenedClient;
 use crate::program_error::{ProgramError, Reason};
 use lv_bodies::Six;
 use lv_edits::Edit;
-use lv_hub::{Begun, Hub, Leaving, OperationLog, SessionLog, Share, Watched, WithBody};
+use lv_geometry::Limits;
+use lv_hub::{
+    Begun, HistoryPrefix, Hub, Leaving, LogHeading, LogWriter, OperationLog, SessionLog, Share,
+    Watched, WithBody,
+};
 use lv_script::Fault;
 use lv_transcript::{Queue, TranscriptWriter, write_joined_transcript};
 use std::alloc::Global;
@@ -23,31 +28,35 @@ use std::io::Write;
 use std::sync::{Mutex, Wait};
 
 /// The log of a hub, where there is a file for it: it goes on behind the edits that were there, or begins a transcript.
-pub fn begin_log<N: WithBody<Six>, K: Begun, V: Write + Drop, R: Wait>(
+pub fn begin_log<N: WithBody<Six>, K: Begun, V: LogWriter + Drop, R: Wait>(
     rt: &R,
     alloc: Global,
     file: Option<V>,
     is_log: bool,
+    numbers: LogHeading,
+    lasts: Option<Limits>,
     hub: &Hub<Six, N>,
     share: &Share<N>,
 ) -> Result<Option<Mutex<OperationLog<N, V, K>>>, ProgramError>
     requires start { IfSome file (λ file. K.start ≡ V.contents file) }
     requires log { is_log ≡ is_some K.there }
     requires goes_on { MayGoOn K.there }
+    requires numbers { numbers ≡ N.numbers }
+    requires lasts { IfSome lasts (AreLasting N.limits) }
     requires seen { IfSome file (λ _. share.now.seen ≡ edits_there K.there) }
     ensures { IfOk result (λ log. is_some log ≡ is_some file) }
 {
     let Some(file) = file else {
         return Ok(None);
     };
-    match OperationLog::begin(rt, alloc, file, is_log, hub, share) {
+    match OperationLog::begin(rt, alloc, file, is_log, numbers, lasts, hub, share) {
         Ok(log) => Ok(Some(Mutex::new(log))),
         Err(_) => Err(ProgramError::memory()),
     }
 }
 
 /// The log, once no session is held any more: what came last is recorded. Where that fails, the log's end tells it.
-pub fn unlocked<N: WithBody<Six>, K: Begun, V: Write + Drop, R: Wait>(
+pub fn unlocked<N: WithBody<Six>, K: Begun, V: LogWriter + Drop, R: Wait>(
     rt: &R,
     hub: &Hub<Six, N>,
     log: Option<Mutex<OperationLog<N, V, K>>>,
@@ -64,7 +73,7 @@ pub fn unlocked<N: WithBody<Six>, K: Begun, V: Write + Drop, R: Wait>(
 /// Closes a hub and writes its transcript by what was made for it, ends its log, and gives its file back. Then subscribers that
 /// have ended tell the last. Takes no memory. The transcript's fault comes before that of the log. A call drops the vector, as one above drops the hub: the proof of a body
 /// that does so by itself is long.
-pub fn write_closed<N: WithBody<Six>, K: Begun, F: Write + Drop, V: Write + Drop, W: Write>(
+pub fn write_closed<N: WithBody<Six>, K: Begun, F: Write + Drop, V: LogWriter + Drop, W: Write>(
     hub: Hub<Six, N>,
     share: Share<N>,
     queues: &mut Vec<Queue>,
@@ -74,6 +83,7 @@ pub fn write_closed<N: WithBody<Six>, K: Begun, F: Write + Drop, V: Write + Drop
     writer: &mut W,
 ) -> (Option<V>, Result<(), ProgramError>, Vec<Watched<F>>)
     requires parts { share.parts ≡ N.parts }
+    requires one { IsOfOneVector N.limits }
     requires all_true { All (IsTrueAnswer share.seen) (in_a_row queues.old.items) }
     requires unused { IsUnused transcript }
     requires none { leaving.watched.items ≡ [] }
@@ -87,16 +97,16 @@ pub fn write_closed<N: WithBody<Six>, K: Begun, F: Write + Drop, V: Write + Drop
     ensures told { IfOk result.1 (λ done. ClosesTelling share leaving.left.items (map (λ w. w.notices) result.2.items) (W.contents writer.old) (W.contents writer.new)) }
 {
     let share = shown(&log, share);
-    let mut live = hub.close(share);
+    let (mut live, edits) = hub.finish(share);
     let written = write_in_order(live.journal(), queues, transcript, writer);
-    let (file, ended) = end_log(log, live.journal());
-    let watched = leaving.tell(&mut live, ended.is_ok());
-    drop(live);
+    let (file, ended) = end_log(log, &edits);
+    let watched = leaving.tell(&mut live, edits.count(), ended.is_ok());
+    drop((live, edits));
     (file, first_failure(written, ended), watched)
 }
 
 /// A share that has seen what was recorded too.
-pub fn shown<N: WithBody<Six>, K: Begun, V: Write + Drop>(
+pub fn shown<N: WithBody<Six>, K: Begun, V: LogWriter + Drop>(
     log: &Option<OperationLog<N, V, K>>,
     share: Share<N>,
 ) -> Share<N>
@@ -111,21 +121,21 @@ pub fn shown<N: WithBody<Six>, K: Begun, V: Write + Drop>(
     share
 }
 
-/// Ends a log, if there is one, by the journal of the hub, and gives its file back.
-pub fn end_log<N: WithBody<Six>, K: Begun, V: Write + Drop>(
+/// Ends a log, if there is one, by all edits of the hub, and gives its file back.
+pub fn end_log<N: WithBody<Six>, K: Begun, V: LogWriter + Drop>(
     log: Option<OperationLog<N, V, K>>,
-    journal: &[Edit],
+    edits: &HistoryPrefix<N>,
 ) -> (Option<V>, Result<(), Fault>)
-    requires { IfSome log (λ log. IsPrefix log.seen journal.now) }
+    requires { IfSome log (λ log. IsPrefix log.seen edits.now) }
     ensures late { IfErr result.1 (λ fault. fault ≡ Fault.WriteFault) }
     ensures back { is_some result.0 ≡ is_some log }
-    // The file has all edits of the journal, each answer true of those before it, and the last line of a transcript.
-    ensures whole { IfOk result.1 (λ done. IfSome result.0 (λ file. WroteWhole K.there K.start (V.contents file) journal.now)) }
+    // Its last file has all edits, each answer true of those before it, and the last line of a transcript; unless a write has failed.
+    ensures ends { IfSome result.0 (λ file. EndsInFile V.made N.limits N.numbers K.there K.start (V.contents file) edits.now result.1) }
 {
     let Some(log) = log else {
         return (None, Ok(()));
     };
-    let (file, ended) = log.end(journal);
+    let (file, ended) = log.end(edits);
     (Some(file), ended)
 }
 

@@ -1,5 +1,6 @@
 //! Streams that are waited for.
 
+use lv_hub::LogWriter;
 use std::io::{Error, ErrorKind, Read, Write};
 use std::time::{Clock, Duration};
 use std::{io, thread};
@@ -78,3 +79,6 @@ impl<C: Clock + Copy, W: Write + Drop> Write for Waited<C, W> {
         Err(Error::from(ErrorKind::WouldBlock))
     }
 }
+
+/// The file of a transcript is never begun anew.
+impl<C: Clock + Copy, W: Write + Drop> LogWriter for Waited<C, W> {}

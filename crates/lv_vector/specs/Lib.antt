@@ -20,6 +20,7 @@ pub use Rattle.lv_standing.proofs.QueryLaws
 pub use Rattle.lv_hub.specs.declared.told.Told as ToldType
 pub use Rattle.lv_hub.specs.Counting
 pub use Rattle.lv_hub.specs.Notes
+pub use Rattle.lv_hub.specs.Renewing
 pub use Rattle.lv_hub.specs.Told as Hub
 pub use Rattle.lv_series.specs.Plain as PlainSeries
 pub use Rattle.lv_series.specs.Series

@@ -1,6 +1,7 @@
 //! What the tests share: what they do to a hub and see of it, and a place where threads wait.
 ghost use Rattle.std.specs.Prelude.{◌≡◌, true};
 ghost use Rattle.lv_hub.specs.Numbering.{from_the_first};
+ghost use Rattle.lv_hub.specs.Renewing.{IsOfOneVector};
 
 use crate::same::assert_same;
 use lv_bodies::{Body, Six, Sum};
@@ -24,6 +25,7 @@ pub(crate) fn place_of<'a, N: WithBody<Six>, R: Wait>(
 ) -> SessionPlace<'a, N, R>
     requires numbers { N.numbers ≡ from_the_first }
     requires lists { N.lists ≡ true }
+    requires one { IsOfOneVector N.limits }
 {
     SessionPlace {
         rt,

@@ -67,6 +67,8 @@ impl Write for HeldFile<'_> {
     }
 }
 
+impl LogWriter for HeldFile<'_> {}
+
 // The replies of the session whose edit is recorded. Notes whether they come before the file was written.
 #[derive(Drop)]
 struct LateReplies<'a> {
@@ -170,9 +172,9 @@ fn end_log<N: WithBody<Six>, K: Begun>(
 {
     let mut share = share;
     log.show(&mut share);
-    let live = hub.close(share);
-    let (file, ended) = log.end(live.journal());
+    let (live, edits) = hub.finish(share);
     drop(live);
+    let (file, ended) = log.end(&edits);
     (file.bytes, ended)
 }
 
@@ -205,7 +207,8 @@ fn hold_logged<N: WithBody<Six> + Send + Sync, K: Begun + Send + Sync, R: Thread
         stage,
         bytes: Vec::new(alloc),
     };
-    match OperationLog::<N, HeldFile<'_>, K>::begin(rt, alloc, file, false, &hub, &share) {
+    let numbers = from_the_first();
+    match OperationLog::<N, _, K>::begin(rt, alloc, file, false, numbers, None, &hub, &share) {
         Ok(log) => {
             let log = Mutex::new(log);
             let places = (place_of(rt, alloc, &hub), place_of(rt, alloc, &hub));

@@ -22,6 +22,7 @@ returns-in-Ok-list-clause-answer g c =
       record {
         result = Ok answered;
         told = c.in-Ok.ensures.told;
+        number = λ on. c.in-Ok.ensures.number (c.args.place.now.one on);
         lists = inl (refl, ap (λ items. session_at new items) (c.in-Ok-list.ensures.listed ∙ ap₂ (λ listing xs. listed_if listing xs (listed_of kind c.args.lo c.args.hi answered)) c.args.place.now.lists c.make_place-is_kept.ensures.items) ∙ seen_and_listed c.args.share.now new c.args.answers.now.items _ c.in-Ok.ensures.share);
       },
       c.put_answer.ensures.text ∙ ap (λ n. c.args.held.now.items ++ answer_text n kind answered.value) c.last_number.ensures,
@@ -34,6 +35,7 @@ returns-in-Err-list-clause-answer g c =
       record {
         result = Ok c.in-Ok.field-0;
         told = c.in-Ok.ensures.told;
+        number = λ on. c.in-Ok.ensures.number (c.args.place.now.one on);
         lists = inr (sym c.args.place.now.lists ∙ c.in-Err-list.ensures.unchanged.0, refl, ap (λ items. session_at new items) (c.in-Err-list.ensures.unchanged.2 ∙ c.make_place-is_kept.ensures.items) ∙ seen_and_listed c.args.share.now new c.args.answers.now.items _ c.in-Ok.ensures.share);
       },
       c.put_refusal.ensures.text ∙ ap (λ refusal. c.args.held.now.items ++ refused_text refusal) c.in-Err-list.ensures.unchanged.1,
@@ -46,6 +48,7 @@ returns-in-Err-clause-answer g c =
       record {
         result = Err c.in-Err.refusal;
         told = c.in-Err.ensures.told;
+        number = λ on. tt;
         lists = (refl, ap (λ items. session_at new items) c.make_place-is_kept.ensures.items ∙ seen_and_listed c.args.share.now new c.args.answers.now.items _ c.in-Err.ensures.share);
       },
       c.put_refusal-in-Err.ensures.text,

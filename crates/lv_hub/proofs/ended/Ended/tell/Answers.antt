@@ -1,5 +1,5 @@
 -- Proof of `Ended::tell`: the last that there is to tell, by the vector of the hub that was closed.
-use Rattle.std.proofs.Common.{◌∙◌, length, ap, map}
+use Rattle.std.proofs.Common.{◌∙◌, ap, map}
 use Rattle.lv_bodies.specs.Plain.{program_table}
 use Rattle.lv_standing.specs.Queries.{watch_answer}
 use Rattle.lv_standing.specs.QuerySets.{with_answers}
@@ -12,9 +12,6 @@ put_due-requires-clause-asked c =
     let set = c.self.inside.queries in
     let edits = c.args.live.now.history.journal in
     each_answered set c.ask.new.self (watch_answer edits) (c.ask.ensures.answers ∙ ap (with_answers set) (all_answered program_table edits set.queries))
-
-pub returns-clause-edit : goal.returns-clause-edit
-returns-clause-edit c = c.edit.ensures ∙ ap (λ live. length live.history.journal) c.ask.ensures.same
 
 pub returns-clause-notes : goal.returns-clause-notes
 returns-clause-notes c =

@@ -1,13 +1,19 @@
 -- Proof of `Hub::try_value`: the plain value of a kind over a range, where a log has room for it.
 use Rattle.std.proofs.Common.{◌≡◌, rules}
 use mathlib.Core.List.{IsPrefix}
-use Rattle.lv_hub.proofs.ToldLaws.{value_told}
+use Rattle.lv_hub.proofs.ToldLaws.{value_number, value_told}
 use Rattle.lv_hub.proofs.hubs.Hub.try_value.Goals as goal
 
 -- it was answered by what the lock held
 pub returns-clause-told : goal.returns-clause-told
 returns-clause-told g c =
-    let h = c.deref_mut-2.result.now.live.history in
+    let edits = c.deref_mut-2.result.now.edits in
     let seen : IsPrefix c.args.share.now.seen c.show.new.share.seen = search rules in
-    let is : c.show.new.share.seen ≡ h.journal = search rules in
-    value_told g.N.Naming.limits h _ _ c.args.kind c.args.lo c.args.hi c.value_logged.result c.value_logged.ensures.vector seen is c.value_logged.ensures.ok c.value_logged.ensures.err
+    let is : c.show.new.share.seen ≡ edits = search rules in
+    value_told g.N.Naming.limits edits _ _ c.args.kind c.args.lo c.args.hi c.value_logged.result c.value_logged.ensures.within seen is c.value_logged.ensures.ok c.value_logged.ensures.err
+
+pub returns-clause-number : goal.returns-clause-number
+returns-clause-number g c =
+    let edits = c.deref_mut-2.result.now.edits in
+    let is : c.show.new.share.seen ≡ edits = search rules in
+    value_number g.N.Naming.limits edits _ c.value_logged.result is c.value_logged.ensures.number

@@ -3,8 +3,9 @@ use Rattle.std.proofs.Common.{◌∙◌, [], ◌∷◌, refl, ap, sym, subst, ar
 use Rattle.std.proofs.lemmas.Iterator.Adapters.{YieldsList-from_vec}
 use Rattle.std.proofs.lemmas.Iterator.Consumers.{YieldsList-turn, YieldsList-end}
 use Rattle.std.proofs.lemmas.List.{length_push, map-append, map-id}
+use Rattle.lv_edits.specs.History.{list_of}
 use Rattle.lv_edits.specs.Kept.{IsLegalInLimits}
-use Rattle.lv_hub.specs.Watchers.{AllTellLast, TellsLast}
+use Rattle.lv_hub.specs.Watchers.{AllTellLast}
 use Rattle.lv_hub.proofs.WatchedLaws.{tells_one_more}
 use Rattle.lv_hub.proofs.leaving.Leaving.tell.Goals as goal
 
@@ -12,7 +13,7 @@ pub loop-one-init : goal.loop-one-init
 loop-one-init g c = (
   tt,
   tt,
-  rw c.requires.none tt,
+  λ edits many same. rw c.requires.none tt,
   record { body = refl; history = refl; claimed = λ n. refl; kept = λ n. refl },
   omega (arith, ap length c.requires.none, c.args.self.watched.ok.0),
   refl,
@@ -25,8 +26,8 @@ loop-one-preserved g c =
     let same = c.tell.ensures.same in (
       tt,
       tt,
-      tells_one_more c.args.live.now.history.journal c.loop-one.yielded (map (λ w. w.notices) c.loop-one.watched.items) _ c.in-Some.one c.tell.result.notices i.2
-          (subst (λ h. TellsLast h.journal c.in-Some.one c.tell.result.notices) i.3.history c.tell.ensures.last)
+      λ edits many alike. tells_one_more edits c.loop-one.yielded (map (λ w. w.notices) c.loop-one.watched.items) _ c.in-Some.one c.tell.result.notices (i.2 edits many alike)
+          (c.tell.ensures.last edits many (ap (λ h. list_of h.journal) i.3.history ∙ alike))
           (ap (map (λ w. w.notices)) c.push_reserved.ensures.items ∙ map-append (λ w. w.notices) c.loop-one.watched.items (c.tell.result ∷ [])),
       record {
         body = same.body ∙ i.3.body;
@@ -38,8 +39,8 @@ loop-one-preserved g c =
       c.push_reserved.ensures.capacity ∙ i.5,
     )
 
-pub tell-requires : goal.tell-requires
-tell-requires g c = subst IsLegalInLimits (sym c.loop-one.invariant.3.history) c.requires.legal
+pub tell-requires-clause-legal : goal.tell-requires-clause-legal
+tell-requires-clause-legal g c = subst IsLegalInLimits (sym c.loop-one.invariant.3.history) c.requires.legal
 
 pub push_reserved-requires : goal.push_reserved-requires
 push_reserved-requires g c =
@@ -51,7 +52,7 @@ pub returns-clause-last : goal.returns-clause-last
 returns-clause-last g c =
     let gives = c.into_iter-one-iterator.ensures.into_iter_gives in
     let end = YieldsList-end (YieldsList-from_vec c.args.self.left.items gives.0 (gives.1 ∙ c.args.self.left.ok.0)) c.loop-one.yielded c.loop-one.one-iterator c.loop-one.yielded_by c.next.result c.next.new.self c.in-None.is c.next.ensures.steps in
-    subst (λ ls. AllTellLast c.args.live.now.history.journal ls (map (λ w. w.notices) c.loop-one.watched.items)) (sym (map-id c.loop-one.yielded) ∙ end.0) c.loop-one.invariant.2
+    λ edits many alike. subst (λ ls. AllTellLast edits ls (map (λ w. w.notices) c.loop-one.watched.items)) (sym (map-id c.loop-one.yielded) ∙ end.0) (c.loop-one.invariant.2 edits many alike)
 
 pub returns-clause-same : goal.returns-clause-same
 returns-clause-same g c = c.loop-one.invariant.3

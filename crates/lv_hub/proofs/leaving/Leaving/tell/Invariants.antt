@@ -1,14 +1,14 @@
 -- What the loop keeps in `Leaving::tell`: has each tell the last, in order, by the vector of the hub that was closed.
 use Rattle.std.proofs.Common.{◌≡◌, length, map, vec_capacity, vec_len}
 use Rattle.lv_live.specs.State.{SameLive}
-use Rattle.lv_hub.specs.Watchers.{AllTellLast}
+use Rattle.lv_hub.proofs.WatchedLaws.{AllTellLastAt}
 use Rattle.lv_hub.proofs.leaving.Leaving.tell.Given as goal
 
 abbrev pub invariant-loop-one : goal.invariant-loop-one
 invariant-loop-one g l =
     (goal.iterator-loop-one g).can_next l.one-iterator ×
     (goal.iterator-loop-one g).is_finite l.one-iterator ×
-    AllTellLast l.fn.live.history.journal l.yielded (map (λ w. w.notices) l.watched.items) ×
+    AllTellLastAt l.fn.live.history.journal l.fn.edit l.yielded (map (λ w. w.notices) l.watched.items) ×
     SameLive l.fn.live l.live ×
     (vec_len l.watched ≡ length l.yielded) ×
     (vec_capacity l.watched ≡ vec_capacity l.fn.self.watched)

@@ -2,14 +2,17 @@
 use Rattle.std.proofs.Common.{Option, ℕ, List, [], ◌∙◌, subst}
 use Rattle.lv_transcript.specs.Transcribing.{WasGivenOf, state_with}
 use Rattle.lv_hub.specs.Logging.{heading_of, there_of}
-use Rattle.lv_hub.proofs.LogLaws.{log_begins}
+use Rattle.lv_hub.proofs.LogLaws.{in_file_begins}
 use Rattle.lv_hub.proofs.operation_log.OperationLog.new.Goals as goal
 
 pub invariant_of-result : goal.invariant_of-result
 invariant_of-result g c =
     let transcript = c.in_ok-transcript.transcript in
     let log = g.K.Begun.there in (
-      log_begins log g.K.Begun.start (state_with (g.W.Write.contents c.args.writer) transcript) c.prefix.result c.requires.goes_on (c.prefix.ensures ∙ c.requires.seen)
+      in_file_begins g.W.LogWriter.made g.N.Naming.limits g.N.Naming.numbers log g.K.Begun.start c.args.is_log (state_with (g.W.Write.contents c.args.writer) transcript) c.prefix.result c.requires.log c.requires.goes_on
+          (c.prefix.ensures ∙ c.requires.seen)
           (subst (λ (k : Option (List ℕ)). WasGivenOf (heading_of log) (there_of log) g.K.Begun.start [] (state_with k transcript)) c.requires.start (c.in_ok-transcript.ensures log c.requires.log g.K.Begun.start)),
       c.requires.log,
+      c.requires.numbers,
+      c.requires.lasts,
     )

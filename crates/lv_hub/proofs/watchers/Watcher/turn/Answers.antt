@@ -10,3 +10,7 @@ returns-in-Ok-Some g c =
     let new : WatcherState = record { subscriber = c.next.new.self; notices = c.tell.new.self } in
     let wrote : WritesMore (told_text g.N.Naming.numbers c.in-Ok-Some.told) old.notices new.notices = subst (λ numbers. WritesMore (told_text numbers c.in-Ok-Some.told) old.notices new.notices) c.self.invariant.2 c.tell.ensures in
     rw (← c.self.view_is) (watches_one g.N.Naming.limits g.N.Naming.numbers old new c.in-Ok-Some.told (rw c.in-Ok-Some.field-0-is at c.in-Ok-Some.ensures.told) wrote)
+
+-- what was told is an edit of a hub, which has few enough
+pub tell-requires-clause-few : goal.tell-requires-clause-few
+tell-requires-clause-few g c = rw c.in-Ok-Some.field-0-is at c.in-Ok-Some.ensures.few

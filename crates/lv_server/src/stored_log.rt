@@ -1,0 +1,200 @@
+//! The log of a server, whose file is made anew where it is long.
+
+ghost use Rattle.std.specs.Prelude.{◌≡◌, ◌≤◌, length};
+
+use crate::log_file::LogFile;
+use crate::log_places::{LogFolder, LogPlaces};
+use crate::output_file::OutputFile;
+use crate::program_error::{ProgramError, Reason};
+use crate::waited::Waited;
+use lv_hub::LogWriter;
+use lv_script::Fault;
+use lv_transcript::{LogHeading, write_log};
+use std::alloc::Global;
+use std::fs::File;
+use std::io::{Error, ErrorKind, Write};
+use std::time::Clock;
+use std::{io, mem};
+
+/// How the log of a server is kept.
+#[derive(Clone, Copy)]
+pub struct LogPlan {
+    /// Whether answers are written there too.
+    pub logs_answers: bool,
+    /// From how many bytes on it is made anew.
+    pub compact_at: u64,
+    /// Whether the old file needn't be kept then.
+    pub drops_old: bool,
+}
+
+/// The log of a server. It is made anew, in another file that takes its place, once it has so many bytes and is twice as long as when it was made last.
+#[derive(Drop)]
+pub struct StoredLog<'a, C: Copy, E: Copy> {
+    clock: C,
+    rt: E,
+    places: LogPlaces<'a>,
+    // Whether what is flushed is to be on the disk.
+    syncs: bool,
+    // The least number of bytes from which on it is made anew.
+    least: u64,
+    file: Waited<C, LogFile<File>>,
+    output: OutputFile,
+    // How many bytes it has, and from how many on it is made anew next.
+    length: u64,
+    due: u64,
+    // Whether it was told that it can't be made anew.
+    is_told: bool,
+    // Whether the file may be lost, since its name may not be on the disk.
+    is_lost: bool,
+}
+
+impl<'a, C: Clock + Copy, R: Eprint + LogFolder> StoredLog<'a, C, &'a R> {
+    /// A log that is open and locked, at its end, and has so many bytes. It is made anew from so many bytes on at least.
+    pub fn new(
+        clock: C,
+        rt: &'a R,
+        places: LogPlaces<'a>,
+        syncs: bool,
+        least: u64,
+        file: Waited<C, LogFile<File>>,
+        output: OutputFile,
+        length: u64,
+    ) -> StoredLog<'a, C, &'a R> {
+        StoredLog {
+            clock,
+            rt,
+            places,
+            syncs,
+            least,
+            file,
+            output,
+            length,
+            due: least,
+            is_told: false,
+            is_lost: false,
+        }
+    }
+
+    // Makes another file of these elements, and puts it in place of the one that there is. If that fails, this one stays.
+    fn renew(
+        &mut self,
+        alloc: Global,
+        heading: LogHeading,
+        elements: &[i64],
+    ) -> Result<(), ProgramError>
+        requires count { heading.elements ≡ length elements.now }
+        requires few { length elements.now ≤ 1048568 }
+    {
+        let (file, output) = self.rt.make(&self.places, self.output)?;
+        match self.fill_and_replace(alloc, heading, elements, file) {
+            Ok((file, length)) => {
+                drop(mem::replace(&mut self.file, file));
+                self.output = output;
+                self.length = length;
+                self.sync_name();
+                Ok(())
+            }
+            Err(error) => {
+                self.rt.unmake(&self.places, output);
+                Err(error)
+            }
+        }
+    }
+
+    // Fills the new file, and puts it in place of the old one. Says how many bytes it has.
+    fn fill_and_replace(
+        &self,
+        alloc: Global,
+        heading: LogHeading,
+        elements: &[i64],
+        file: File,
+    ) -> Result<(Waited<C, LogFile<File>>, u64), ProgramError>
+        requires count { heading.elements ≡ length elements.now }
+        requires few { length elements.now ≤ 1048568 }
+    {
+        let syncs = self.syncs;
+        let mut log = Waited::new(self.clock, LogFile { file, syncs });
+        match write_log(alloc, heading, elements, &mut log) {
+            Ok(()) => {}
+            Err(Fault::NoMemory) => return Err(ProgramError::memory()),
+            Err(_) => return Err(self.places.fault(Reason::Uncompacted)),
+        }
+        let Ok(made) = log.stream().file.metadata() else {
+            return Err(self.places.fault(Reason::Uncompacted));
+        };
+        let old = &self.file.stream().file;
+        self.rt
+            .replace(&self.places, old, self.output, &log.stream().file)?;
+        Ok((log, made.len()))
+    }
+
+    // Flushes the new file's name to the disk. Where that fails and is wanted, nothing more is written: after a crash the name might lead to the old
+    // file.
+    fn sync_name(&mut self) {
+        if let Err(error) = self.rt.sync_name(&self.places) {
+            self.is_lost = self.syncs;
+            if self.syncs {
+                self.tell(error);
+            }
+        }
+    }
+
+    // Tells why it can't be made anew.
+    fn tell(&self, error: ProgramError) {
+        let files = [self.places.name];
+        let error = ProgramError::new(error.fault, error.reason, 0);
+        let _ = eprintln!(self.rt;
+            "livevec: the log isn't made anew: {}",
+            error.in_words(&files)
+        );
+    }
+}
+
+impl<'a, C: Clock + Copy, E: Copy> Write for StoredLog<'a, C, E> {
+    fn write(&mut self, buf: &[u8]) -> io::Result<usize> {
+        if self.is_lost {
+            return Err(Error::from(ErrorKind::Other));
+        }
+        let written = self.file.write(buf);
+        if let Ok(count) = &written {
+            self.length = self.length.saturating_add(*count as u64);
+        }
+        written
+    }
+
+    fn flush(&mut self) -> io::Result<()> {
+        if self.is_lost {
+            return Err(Error::from(ErrorKind::Other));
+        }
+        self.file.flush()
+    }
+}
+
+impl<'a, C: Clock + Copy, R: Eprint + LogFolder> LogWriter for StoredLog<'a, C, &'a R> {
+    fn is_due(&self) -> bool {
+        self.length >= self.due
+    }
+
+    fn begin_anew(
+        &mut self,
+        alloc: Global,
+        heading: LogHeading,
+        elements: &[i64],
+    ) -> Result<(), Fault> {
+        let renewed = self.renew(alloc, heading, elements);
+        self.due = self.length.saturating_mul(2).max(self.least);
+        match renewed {
+            Ok(()) => {
+                self.is_told = false;
+                Ok(())
+            }
+            Err(error) => {
+                if !self.is_told {
+                    self.tell(error);
+                }
+                self.is_told = true;
+                Err(error.fault)
+            }
+        }
+    }
+}

@@ -1,0 +1,174 @@
+"""Parts of logs that are made anew while they are served: more updates than a vector takes, and a chain of kills between small files."""
+import os
+import random
+import signal
+import subprocess
+import time
+from array import array
+
+from soak_parts.cut_off import KILLS
+from soak_parts.logs import MADE, QUERIES, Log
+from soak_parts.program import PROGRAM, SEED, session, stop, told, whole_lines
+
+EDITS = int(os.environ.get("SOAK_EDITS", "40000000"))
+SESSIONS = 16
+CHANGES = tuple(MADE.values())
+
+
+def make(elements, edit):
+    """Makes an update on a plain list, as a log or a line of a session tells it."""
+    what, *numbers = edit.split()
+    if what == "push":
+        elements.append(int(numbers[0]))
+    elif what == "pop":
+        elements.pop()
+    elif what == "write":
+        elements[int(numbers[0])] = int(numbers[1])
+    elif what == "truncate":
+        del elements[int(numbers[0]):]
+
+
+def numbered(name, before):
+    """The updates of a session by their numbers, as its replies tell them, in order. A reply that tells a number at or before the first is wrong."""
+    made = []
+    for line, reply in zip(whole_lines(name), replies_of(name)):
+        words = reply.split()
+        if words[0] == "edit":
+            if int(words[1]) <= before or not line.startswith(MADE[words[2]]):
+                stop(f"{name}: {line!r} was answered by {reply!r}, behind {before}")
+            made.append((int(words[1]), line))
+    return made
+
+
+def replies_of(name):
+    return whole_lines(f"{name}.out")
+
+
+def check(room, names, before, elements, ended):
+    """Sees that the log has what was told of, also in what its file no longer tells. Says what it has, and the list after it."""
+    log = Log(f"{room}/log")
+    verdict = told(["audit", "--front"], open(f"{room}/log", "rb").read()).stdout.decode()
+    if not verdict.startswith(f"log {log.base} base {log.elements} elements {len(log.edits) - log.elements} edits "):
+        stop(f"a log was called {verdict!r}")
+    made = sorted(sum((numbered(name, before) for name in names), []))
+    numbers = [number for number, _ in made]
+    if len(set(numbers)) != len(numbers) or numbers and numbers[-1] > log.last():
+        stop(f"of the updates behind {before}, which end at {log.last()}, these were told of: {numbers[-5:]}")
+    if any(number > log.base and log.edit(number) != line for number, line in made):
+        stop("an update was told of, and the log has another of its number")
+    for line in whole_lines(f"{room}/w.out"):
+        if int(line.split()[1]) > log.last():
+            stop(f"a subscriber was told {line!r}, and the log's last update is {log.last()}")
+    # what was kept, where it is kept, ends where the file begins
+    if os.path.exists(f"{room}/log.1") and not os.path.samefile(f"{room}/log.1", f"{room}/log"):
+        old = Log(f"{room}/log.1")
+        if old.last() == log.base and old.list() != [int(edit.split()[1]) for edit in log.edits[:log.elements]]:
+            stop(f"the elements of a log aren't those after the {log.base} updates before it")
+    after = log.list()
+    if ended:
+        # each update was told of: so the list is known
+        if numbers != list(range(before + 1, log.last() + 1)):
+            stop(f"updates behind {before} end at {log.last()}, of which {len(numbers)} were told of")
+        for _, edit in made:
+            make(elements, edit)
+        if elements != after:
+            stop(f"after {log.last()} updates a log has {len(after)} elements, and a plain list {len(elements)}")
+    return log, after
+
+
+def renewals(room):
+    """One log is served by one server after the other, which make it anew again and again, and each of which is killed or ends."""
+    signal.signal(signal.SIGINT, signal.default_int_handler)
+    dice, kills, ends, anew, total = random.Random(SEED), 0, 0, 0, 0
+    names = [f"{room}/{name}" for name in ("a", "b")]
+    open(f"{room}/w", "w").write(QUERIES)
+    elements = []
+    while kills < KILLS:
+        for name in names:
+            open(name, "w").write("truncate 100\n" + session(dice, 20000))
+        for name in names + [f"{room}/w"]:
+            open(f"{name}.out", "w").close()
+        was = Log(f"{room}/log")
+        before, turn = was.last(), kills + ends
+        words = ["serve", "--log", f"{room}/log", "--compact-at", str(dice.choice((1, 2000, 20000, 60000))), "--watch", f"{room}/w", *names]
+        words += ["--sync"] * (turn % 2) + ["--drop-old"] * (turn // 2 % 2) + ["--log-answers"] * (turn // 4 % 2)
+        process = subprocess.Popen([PROGRAM, *words], stdout=subprocess.PIPE, stderr=subprocess.PIPE)
+        if turn % 8:
+            time.sleep(dice.random() * 0.5)
+            process.send_signal(dice.choice((signal.SIGKILL, signal.SIGTERM, signal.SIGINT)))
+        printed, said = process.communicate()
+        kills, ends = kills + (process.returncode < 0), ends + (process.returncode == 0)
+        if process.returncode > 0 or printed or said.count(b"\n") != said.count(b"cut off\n"):
+            stop(f"serve --log ended with {process.returncode}, after {printed[:100]!r} and {said[:200]!r}")
+        if not os.path.exists(f"{room}/log"):
+            continue
+        log, elements = check(room, names, before, elements, process.returncode == 0)
+        total, anew = total + log.last() - before, anew + (log.base > was.base)
+    print(f"renewals: {kills} kills of one server after the other, and {ends} ends; {total} updates, of which none was lost that was told of; {anew} of the servers had made their log anew")
+
+
+def lines_of(dice, count):
+    """Lines that are quick to make: of 50 blocks by turns, with some more pushes than pops."""
+    blocks = []
+    for _ in range(50):
+        rolls = [dice.random() for _ in range(1000)]
+        blocks.append("".join(f"push {dice.randrange(1000)}\n" if roll < 0.44 else "pop\n" if roll < 0.87 else f"write {dice.randrange(5)} {dice.randrange(1000)}\n" for roll in rolls))
+    return (dice.choice(blocks) for _ in range(count // 1000))
+
+
+def worn(room):
+    """More updates than a vector takes, by 16 sessions of one server: numbers go on, and the list at the end is a plain one's."""
+    dice = random.Random(SEED)
+    names = [f"{room}/s{number}" for number in range(SESSIONS)]
+    for name in names:
+        with open(name, "w") as file:
+            file.writelines(lines_of(dice, EDITS // SESSIONS))
+    open(f"{room}/w", "w").write("watch all sum 0 1048568\nwatch last best last 50\n")
+    ran = subprocess.run([PROGRAM, "serve", "--log", f"{room}/log", "--watch", f"{room}/w", *names], capture_output=True)
+    if ran.returncode or ran.stdout or ran.stderr:
+        stop(f"serve --log ended with {ran.returncode}, {ran.stderr[:200]!r}")
+    # which session made the update of a number: then its lines, in turn, are the updates
+    by = bytearray(EDITS + 1)
+    refused = 0
+    for number, name in enumerate(names, 1):
+        with open(f"{name}.out") as file:
+            for line in file:
+                if line.startswith("edit "):
+                    edit = int(line.split(" ", 2)[1])
+                    if by[edit]:
+                        stop(f"the number {edit} came twice")
+                    by[edit] = number
+                else:
+                    refused += 1
+    last = EDITS // SESSIONS // 1000 * 1000 * SESSIONS - refused
+    if not all(by[1:last + 1]) or any(by[last + 1:]):
+        stop(f"{refused} lines were rejected, and the numbers aren't those up to {last}")
+    check_worn(room, names, by, last)
+    print(f"worn: {last} updates and {refused} rejected lines by {SESSIONS} sessions of one server; no number missing or twice, and the elements are a plain list's")
+
+
+def check_worn(room, names, by, last):
+    """Sees that a log has the elements that a plain list has after all updates, in the order of their numbers."""
+    lines = [accepted(name) for name in names]
+    elements = array("q")
+    for number in by[1:last + 1]:
+        make(elements, next(lines[number - 1]))
+    kept = array("q")
+    with open(f"{room}/log") as file:
+        _, _, base, count = next(file).split()
+        edits = 0
+        for line in file:
+            make(kept, line[2:])
+            edits += 1
+    if int(base) + edits - int(count) != last or int(base) == 0 and last > 16777215:
+        stop(f"the log begins with {base} and {count}, has {edits} updates, and {last} were made")
+    if kept != elements:
+        stop(f"the log has {len(kept)} elements, and a plain list {len(elements)}")
+
+
+def accepted(name):
+    """The lines of a session that were accepted."""
+    with open(name) as lines, open(f"{name}.out") as replies:
+        for line, reply in zip(lines, replies):
+            if reply.startswith("edit "):
+                yield line
