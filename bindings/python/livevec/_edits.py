@@ -28,7 +28,7 @@ class _Edits(_Elements):
     __slots__ = ()
 
     def push(self, value: int) -> int:
-        """Puts an element at the end, and gives its index. O(1) amortised. Raises Worn, Full, NoMemory; OverflowError where it does not fit 64 bits."""
+        """Puts an element at the end, and gives its index. O(log n) amortised. Raises Worn, Full, NoMemory; OverflowError where it does not fit 64 bits."""
         return self._edited(_push(self._at, _as_i64(value))).place
 
     def append(self, value: int) -> None:
@@ -36,11 +36,11 @@ class _Edits(_Elements):
         self.push(value)
 
     def pop(self) -> int:
-        """Drops the last element, and gives it. O(1). Raises Worn, Empty, NoMemory."""
+        """Drops the last element, and gives it. O(log n). Raises Worn, Empty, NoMemory."""
         return self._edited(_pop(self._at)).value
 
     def write(self, index: int, value: int) -> int:
-        """Overwrites an element, and gives the one before. O(1) amortised. Raises Worn, OutOfRange, NoMemory; OverflowError where it does not fit 64 bits."""
+        """Overwrites an element, and gives the one before. O(log n) amortised. Raises Worn, OutOfRange, NoMemory; OverflowError where it does not fit 64 bits."""
         return self._edited(_write(self._at, self._index(index), _as_i64(value)), index).value
 
     def __setitem__(self, index: int, value: int) -> None:
@@ -53,11 +53,11 @@ class _Edits(_Elements):
         return self._edited(_reserve(self._at, _as_u32(elements, "elements"))).place
 
     def swap(self, first: int, second: int) -> int:
-        """Exchanges two elements, whose indices may be one, and gives the one at the first now. O(1) amortised. Raises Worn, OutOfRange, NoMemory."""
+        """Exchanges two elements, whose indices may be one, and gives the one at the first now. O(log n) amortised. Raises Worn, OutOfRange, NoMemory."""
         return self._edited(_swap(self._at, self._index(first), self._index(second)), *([max(first, second)] if min(first, second) >= 0 else [])).value
 
     def truncate(self, elements: int) -> int:
-        """Keeps so many elements, the first ones, and gives how many were dropped. O(1). Raises Worn, OutOfRange, NoMemory. It gives no memory back."""
+        """Keeps so many elements, the first ones, and gives how many were dropped. O(log n) amortised. Raises Worn, OutOfRange, NoMemory. It gives no memory back."""
         return self._edited(_truncate(self._at, _as_u32(elements, "elements"))).place
 
     def _edited(self, told: _Edited, *given: int) -> _Edited:
@@ -151,5 +151,5 @@ class _Edits(_Elements):
             raise _refuse(did.refusal, did.detail, did.done, did.place, f"indices[{did.place}]" if did.refusal in _PLACED else "")
 
     def clear(self) -> None:
-        """Drops all elements, by one edit. O(1). Raises Worn, NoMemory. It gives no memory back."""
+        """Drops all elements, by one edit. O(log n) amortised. Raises Worn, NoMemory. It gives no memory back."""
         self.truncate(0)

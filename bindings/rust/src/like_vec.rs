@@ -62,7 +62,7 @@ impl Vector {
         Ok(made)
     }
 
-    /// Drops all elements, by one edit. O(1). Refused with `Worn`, `NoMemory`, in this order. It gives no memory back.
+    /// Drops all elements, by one edit. O(log n) amortised. Refused with `Worn`, `NoMemory`, in this order. It gives no memory back.
     pub fn clear(&mut self) -> Result<Truncated, Refusal> {
         self.truncate(0)
     }

@@ -109,17 +109,17 @@ impl Vector {
         Ok(Vector { raw: raw::Vector::with_table(limits.buckets(), limits.edits(), table)?, limits, table: Some(*table), only: None })
     }
 
-    /// Puts an element at the end. O(1) amortised. Refused with `Worn`, `Full`, `NoMemory`, in this order.
+    /// Puts an element at the end. O(log n) amortised. Refused with `Worn`, `Full`, `NoMemory`, in this order.
     pub fn push(&mut self, value: i64) -> Result<Pushed, Refusal> {
         self.raw.push(value).map(|did| Pushed { edit: did.edit, index: did.place })
     }
 
-    /// Drops the last element. O(1). Refused with `Worn`, `Empty`, `NoMemory`, in this order.
+    /// Drops the last element. O(log n). Refused with `Worn`, `Empty`, `NoMemory`, in this order.
     pub fn pop(&mut self) -> Result<Popped, Refusal> {
         self.raw.pop().map(|did| Popped { edit: did.edit, value: did.value })
     }
 
-    /// Overwrites an element. O(1) amortised: the next question computes anew what it touched. Refused with `Worn`, `OutOfRange`, `NoMemory`, in this order.
+    /// Overwrites an element. O(log n) amortised. Refused with `Worn`, `OutOfRange`, `NoMemory`, in this order.
     pub fn write(&mut self, index: impl AsIndex, value: i64) -> Result<Written, Refusal> {
         self.raw.write(narrow(index), value).map(|did| Written { edit: did.edit, before: did.value })
     }
@@ -130,12 +130,12 @@ impl Vector {
         self.raw.reserve(narrow(elements)).map(|did| Reserved { edit: did.edit, capacity: did.place })
     }
 
-    /// Exchanges the elements at two indices, which may be one. O(1) amortised. Refused with `Worn`, `OutOfRange`, `NoMemory`, in this order.
+    /// Exchanges the elements at two indices, which may be one. O(log n) amortised. Refused with `Worn`, `OutOfRange`, `NoMemory`, in this order.
     pub fn swap(&mut self, first: impl AsIndex, second: impl AsIndex) -> Result<Swapped, Refusal> {
         self.raw.swap(narrow(first), narrow(second)).map(|did| Swapped { edit: did.edit, first: did.value })
     }
 
-    /// Keeps so many elements, the first ones, and drops the others. O(1). Refused with `Worn`, `OutOfRange`, `NoMemory`, in this order. It gives
+    /// Keeps so many elements, the first ones, and drops the others. O(log n) amortised. Refused with `Worn`, `OutOfRange`, `NoMemory`, in this order. It gives
     /// no memory back.
     pub fn truncate(&mut self, elements: impl AsIndex) -> Result<Truncated, Refusal> {
         self.raw.truncate(narrow(elements)).map(|did| Truncated { edit: did.edit, dropped: did.place })
