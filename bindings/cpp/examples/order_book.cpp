@@ -8,12 +8,7 @@ namespace {
 
 class book {
   public:
-    std::int64_t change(side of, std::uint32_t level, std::int64_t by)
-    {
-        const std::int64_t now = sides_[of][level] + by;
-        sides_[of].write(level, now);
-        return now;
-    }
+    void change(side of, std::uint32_t level, std::int64_t by) { sides_[of].write(level, sides_[of][level] + by); }
     std::uint32_t best_bid() const { return sides_[BID].where_last_at_least(0, LEVELS, 1).value_or(LEVELS); }
     std::uint32_t best_ask() const { return sides_[ASK].where_first_at_least(0, LEVELS, 1).value_or(LEVELS); }
     std::int64_t depth(side of, std::uint32_t lo, std::uint32_t hi) const { return sides_[of].sum(lo, hi); }

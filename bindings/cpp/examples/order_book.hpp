@@ -1,10 +1,9 @@
 /* A day of an order book with 65,536 price levels, by any of four books that print the same: order_book.cpp has livevec, order_book_plain.cpp loops,
  * order_book_tree.cpp a flat segment tree, and order_book_map.cpp std::map.
  *
- * A book has what is bid and what is offered at each level. It has change(side, level, by), which gives what the level has then, best_bid(), the
- * highest level at which something is bid, best_ask(), the lowest at which something is offered, both LEVELS if there is none, and depth(side, lo, hi),
- * all that a side has at the levels from lo up to hi. Both bests are known after each message: an order can only bring that of its side nearer, and
- * where the best level is emptied the book is asked for the next. */
+ * A book has what is bid and what is offered at each level. It has change(side, level, by), best_bid(), the highest level at which something is bid,
+ * best_ask(), the lowest at which something is offered, both LEVELS if there is none, and depth(side, lo, hi), all that a side has at the levels from
+ * lo up to hi. Both bests are asked after each message. */
 #ifndef ORDER_BOOK_HPP
 #define ORDER_BOOK_HPP
 
@@ -30,61 +29,45 @@ class numbers {
     std::uint64_t state_ = 1;
 };
 
-/* A book, and the best levels of both sides. */
-template <class Book> struct quoted {
-    Book &book;
-    std::uint32_t bid = LEVELS, ask = LEVELS;
-
-    void change(side of, std::uint32_t level, std::int64_t by)
-    {
-        std::uint32_t &best = of == BID ? bid : ask;
-        if (book.change(of, level, by) == 0) {
-            if (level == best)
-                best = of == BID ? book.best_bid() : book.best_ask();
-        } else if (best == LEVELS || (of == BID ? level > best : level < best)) {
-            best = level;
-        }
-    }
-};
-
 /* An order comes in behind the middle, mostly near it; each fourth message takes all that the best level of a side has. */
-template <class Book> void receive(quoted<Book> &all, numbers &next, std::uint32_t middle)
+template <class Book> void receive(Book &book, numbers &next, std::uint32_t middle, std::uint32_t bid, std::uint32_t ask)
 {
     const side which = next(2) ? BID : ASK;
-    const std::uint32_t best = which == BID ? all.bid : all.ask;
+    const std::uint32_t best = which == BID ? bid : ask;
     if (next(4) == 0 && best != LEVELS)
-        return all.change(which, best, -all.book.depth(which, best, best + 1));
+        return book.change(which, best, -book.depth(which, best, best + 1));
     const std::uint32_t away = next(next(8) ? NEAR : middle / 2);
-    all.change(which, which == BID ? middle - 1 - away : middle + away, 1 + next(1000));
+    book.change(which, which == BID ? middle - 1 - away : middle + away, 1 + next(1000));
 }
 
 /* A bid at the level of an offer, or above, is a trade. */
-template <class Book> void trade(quoted<Book> &all)
+template <class Book> void trade(Book &book, std::uint32_t bid, std::uint32_t ask)
 {
-    const std::uint32_t bid = all.bid, ask = all.ask;
-    const std::int64_t most = std::min(all.book.depth(BID, bid, bid + 1), all.book.depth(ASK, ask, ask + 1));
-    all.change(BID, bid, -most);
-    all.change(ASK, ask, -most);
+    const std::int64_t most = std::min(book.depth(BID, bid, bid + 1), book.depth(ASK, ask, ask + 1));
+    book.change(BID, bid, -most);
+    book.change(ASK, ask, -most);
 }
 
-/* A day of so many messages as the program is told, or MESSAGES: the middle wanders, and after each message both bests are known. Tells now and then
+/* A day of so many messages as the program is told, or MESSAGES: the middle wanders, and after each message both bests are asked. Tells now and then
  * what the book has, and at last on standard error how many nanoseconds all messages took, and how many they were. */
 template <class Book> int day(Book &book, const char *name, int argc, char **argv)
 {
     const std::uint32_t messages = argc > 1 ? static_cast<std::uint32_t>(std::atol(argv[1])) : MESSAGES;
     numbers next;
     std::uint64_t bests = 0;
-    std::uint32_t middle = LEVELS / 2;
-    quoted<Book> all{book};
+    std::uint32_t middle = LEVELS / 2, bid = LEVELS, ask = LEVELS;
     const auto start = std::chrono::steady_clock::now();
     for (std::uint32_t message = 1; message <= messages; message++) {
         middle = std::clamp<std::uint32_t>(middle + next(9) - 4, LEVELS / 4, LEVELS / 4 * 3);
-        receive(all, next, middle);
-        if (all.bid != LEVELS && all.ask != LEVELS && all.bid >= all.ask)
-            trade(all);
-        bests = bests * 31 + all.bid * 7 + all.ask;
+        receive(book, next, middle, bid, ask);
+        bid = book.best_bid(), ask = book.best_ask();
+        if (bid != LEVELS && ask != LEVELS && bid >= ask) {
+            trade(book, bid, ask);
+            bid = book.best_bid(), ask = book.best_ask();
+        }
+        bests = bests * 31 + bid * 7 + ask;
         if (messages >= SHOWN && message % (messages / SHOWN) == 0)
-            std::cout << "after " << message << ": bid " << all.bid << ", ask " << all.ask << ", depth " << book.depth(BID, middle - NEAR, middle) << " and "
+            std::cout << "after " << message << ": bid " << bid << ", ask " << ask << ", depth " << book.depth(BID, middle - NEAR, middle) << " and "
                       << book.depth(ASK, middle, middle + NEAR) << ", checksum " << bests << '\n';
     }
     const std::chrono::duration<double, std::nano> took = std::chrono::steady_clock::now() - start;

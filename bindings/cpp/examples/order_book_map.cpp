@@ -7,13 +7,11 @@ namespace {
 
 class book {
   public:
-    std::int64_t change(side of, std::uint32_t level, std::int64_t by)
+    void change(side of, std::uint32_t level, std::int64_t by)
     {
         const auto at = sides_[of].try_emplace(level, 0).first;
-        const std::int64_t now = at->second += by;
-        if (now == 0)
+        if ((at->second += by) == 0)
             sides_[of].erase(at);
-        return now;
     }
     std::uint32_t best_bid() const { return sides_[BID].empty() ? std::uint32_t(LEVELS) : sides_[BID].rbegin()->first; }
     std::uint32_t best_ask() const { return sides_[ASK].empty() ? std::uint32_t(LEVELS) : sides_[ASK].begin()->first; }

@@ -8,7 +8,7 @@ namespace {
 
 class book {
   public:
-    std::int64_t change(side of, std::uint32_t level, std::int64_t by) { return sides_[of][level] += by; }
+    void change(side of, std::uint32_t level, std::int64_t by) { sides_[of][level] += by; }
     std::uint32_t best_bid() const
     {
         for (std::uint32_t level = LEVELS; level-- > 0;)

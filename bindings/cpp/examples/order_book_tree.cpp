@@ -8,11 +8,10 @@ namespace {
 
 class tree {
   public:
-    std::int64_t change(std::uint32_t level, std::int64_t by)
+    void change(std::uint32_t level, std::int64_t by)
     {
         for (std::uint32_t node = level + LEVELS; node > 0; node /= 2)
             sums_[node] += by;
-        return sums_[level + LEVELS];
     }
     /* The last level with something, or the first. */
     std::uint32_t found(bool is_last) const
@@ -44,7 +43,7 @@ class tree {
 
 class book {
   public:
-    std::int64_t change(side of, std::uint32_t level, std::int64_t by) { return sides_[of].change(level, by); }
+    void change(side of, std::uint32_t level, std::int64_t by) { sides_[of].change(level, by); }
     std::uint32_t best_bid() const { return sides_[BID].found(true); }
     std::uint32_t best_ask() const { return sides_[ASK].found(false); }
     std::int64_t depth(side of, std::uint32_t lo, std::uint32_t hi) const { return sides_[of].sum(lo, hi); }
