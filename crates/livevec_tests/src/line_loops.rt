@@ -9,7 +9,7 @@ use lv_bodies::{Kind, Sum, fold_slice};
 use lv_geometry::Limits;
 use lv_script::devices::{FailingReader, Failure};
 use lv_script::{
-    Fault, HELD, Line, LineHandler, ReplyBuffer, Slice, print_command, put, put_element,
+    Fault, HELD, Line, LineHandler, MOST_READ, ReplyBuffer, Slice, print_command, put, put_element,
     put_number, put_running_scan, put_wide, read_line, run_script, serve_lines,
 };
 use std::alloc::{AllocError, Global};
@@ -31,6 +31,8 @@ impl<W: Write> LineHandler<W> for Echo {
 
     ghost step = { λ old number line reply new. (new ≡ number) × (reply ≡ decimal number ++ 32 ∷ decimal (length line) ++ 10 ∷ []) };
 
+    ghost may_send = { λ _. Unit {0} };
+
     fn handle(
         &mut self,
         number: u32,
@@ -43,6 +45,10 @@ impl<W: Write> LineHandler<W> for Echo {
         put_number(buffer.held, line.len() as u64);
         put(buffer.held, b"\n");
         self.last = number;
+        Ok(())
+    }
+
+    fn before_send(&self) -> Result<(), Fault> {
         Ok(())
     }
 }
@@ -70,7 +76,7 @@ fn check_echo(
     };
     let mut writer = writer(alloc, takes)?;
     let mut echo = Echo { last: 0 };
-    let ended = serve_lines(alloc, &mut echo, &mut reader, &mut writer);
+    let ended = serve_lines(MOST_READ, alloc, &mut echo, &mut reader, &mut writer);
     assert_same(rt, &(ended, writer.taken.as_slice()), &(end, replies));
     drop(writer);
     Ok(echo.last)
@@ -150,7 +156,7 @@ fn replies_are_flushed(rt: HostRuntime) {
             flushed: 0,
             fails,
         };
-        let result = serve_lines(rt.alloc(), &mut echo, &mut reader, &mut writer);
+        let result = serve_lines(MOST_READ, rt.alloc(), &mut echo, &mut reader, &mut writer);
         assert_same(&rt, &result, &end);
         assert_same(&rt, &writer.flushed, &flushed);
     }

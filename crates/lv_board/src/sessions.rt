@@ -15,7 +15,9 @@ use crate::bodies::BoardBody;
 use crate::seats::Seat;
 use lv_bodies::Kind;
 use lv_machine::Call;
-use lv_script::{Fault, LINE, Line, LineHandler, ReplyBuffer, read_board_line, serve_lines};
+use lv_script::{
+    Fault, LINE, Line, LineHandler, MOST_READ, ReplyBuffer, read_board_line, serve_lines,
+};
 use std::alloc::Global;
 use std::io::{Read, Write};
 use std::marker::PhantomData;
@@ -72,7 +74,7 @@ fn hold<S, B: SeatedAs<S>, A: Answerer<S>, R: Read, W: Write>(
         answerer,
         of: PhantomData,
     };
-    serve_lines(alloc, &mut session, reader, writer)
+    serve_lines(MOST_READ, alloc, &mut session, reader, writer)
 }
 
 // What answers the lines of a session.
@@ -96,6 +98,8 @@ impl<'s, 'a, S, B: SeatedAs<S> + BoardBody, A: Answerer<S>, W: Write> LineHandle
 
     ghost step = { SittingStep A.does B.the_kind };
 
+    ghost may_send = { λ _. Unit {0} };
+
     fn handle(
         &mut self,
         number: u32,
@@ -105,6 +109,10 @@ impl<'s, 'a, S, B: SeatedAs<S> + BoardBody, A: Answerer<S>, W: Write> LineHandle
         buffer.make_room(LINE)?;
         let line = read_board_line(self.kind, line);
         self.answerer.answer(self.seat, number, line, buffer.held);
+        Ok(())
+    }
+
+    fn before_send(&self) -> Result<(), Fault> {
         Ok(())
     }
 }

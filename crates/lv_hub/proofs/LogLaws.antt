@@ -4,6 +4,7 @@ use Rattle.std.proofs.lemmas.List.Elements.{All-cons, All-head, All-nil, All-tai
 use Rattle.std.proofs.lemmas.List.{drop-append-le, length-append, length-drop, length-map, length_push, map-append, take-append-le, take_all}
 use Rattle.std.proofs.lemmas.Grind.{flat_map-append}
 use Rattle.std.proofs.Math.Seq.{drop-length}
+use Rattle.std.specs.Io.KnownBytes.{Appends}
 use mathlib.Core.List.{IsPrefix}
 use Rattle.lv_geometry.specs.Bounds.{Bounds}
 use Rattle.lv_geometry.specs.Elements.{IsElement}
@@ -18,7 +19,7 @@ use Rattle.lv_lines.specs.Output.{Writes}
 use Rattle.lv_lines.proofs.OutputLemmas.{Writes-all}
 use Rattle.lv_transcript.specs.declared.log_heading.LogHeading.{LogHeading}
 use Rattle.lv_transcript.specs.Fronts.{AreTrueAfter, AreTrueOf, Entry, IsFrontOf, IsPush, IsWholeFront, edits_in, entry_line}
-use Rattle.lv_transcript.specs.Transcribing.{Adds, EndsWhole, GoesOn, GotFrontOf, IsUnused, IsUnusedOf, WasGiven, WasGivenOf, WriterState, WritingState, WroteOrHolds, all_entries, front_bytes_of, state_with}
+use Rattle.lv_transcript.specs.Transcribing.{Adds, EndsWhole, GoesOn, GotFrontOf, IsUnused, IsUnusedOf, WasGiven, WasGivenOf, WriterState, WritingState, WroteOrHolds, all_entries, bytes_behind, front_bytes_of, state_with}
 use Rattle.lv_transcript.specs.Logs.{pushes_of_elements}
 use Rattle.lv_transcript.specs.Transcript.{AreAccepted, AreAcceptedAfter, IsHeading, IsTrueAnswer, ended, greatest, heading_line}
 use Rattle.lv_transcript.proofs.LogTexts.{log_is_sound}
@@ -26,7 +27,7 @@ use Rattle.lv_transcript.proofs.ReplayLemmas.{list_of_none}
 use Rattle.lv_transcript.proofs.TranscribedFronts.{entry_lines_front, unused}
 use Rattle.lv_hub.specs.declared.log_entry.LogEntry.{LogEntry}
 use Rattle.lv_hub.specs.declared.log_entry.LogEntry.TheVariants as logged
-use Rattle.lv_hub.specs.Logging.{AreLasting, BeginsAnew, CameSince, EndsInFile, EndsText, HasFront, HasFrontOfFile, HasLog, IsLogInFile, IsLogOf, IsLogOfEdits, LogEnds, LogFile, LogState, LogThere, MayGoOn, TapState, Taps, edits_there, entry_of, heading_after, heading_of, last_after, log_after, log_of_edits, there_of, with_entry}
+use Rattle.lv_hub.specs.Logging.{AreLasting, BeginsAnew, CameSince, EndsInFile, EndsText, HasFront, HasAll, HasAllOfFile, HasFrontOfFile, HasLog, IsLogInFile, IsLogOf, IsLogOfEdits, LogEnds, LogFile, LogState, LogThere, MayGoOn, TapState, Taps, WereRecorded, edits_there, entry_of, heading_after, heading_of, last_after, log_after, log_of_edits, there_of, with_entry}
 use Rattle.lv_hub.specs.Numbering.{told_number}
 use Rattle.lv_hub.specs.Renewing.{IsOfOneVector, lasting, renewed_after}
 use Rattle.lv_hub.proofs.PrefixLaws.{prefix_length, prefix_self, prefix_whole}
@@ -216,6 +217,14 @@ take_begin xs ys more =
     take_length [] = refl
     take_length (x ∷ xs) = ap (λ (es : List Edit). x ∷ es) (take_length xs)
 
+-- where nothing is held, and no write has failed, a text was written
+all_written : (start : Option (List ℕ)) (s : WritingState) (text : List ℕ) → s.failed ≡ false → s.held ≡ [] → WroteOrHolds s.failed start s.contents s.held text → Appends start s.contents text
+all_written start s text fine none wrote =
+    Writes-all start s.contents text (subst (λ (held : List ℕ). Writes start [] s.contents held text) none (sent s.failed fine wrote))
+  where
+    sent : (failed : Bool) → failed ≡ false → WroteOrHolds failed start s.contents s.held text → Writes start [] s.contents s.held text
+    sent failed ok wrote = rw ok at wrote
+
 module _ (log : Option LogThere) (start : Option (List ℕ)) where
   -- of a hub that has the edits that were there
   pub log_begins : (written : WritingState) (seen : List Edit) → MayGoOn log → seen ≡ edits_there log → WasGivenOf (heading_of log) (there_of log) start [] written → IsLogOf log start record { written = written; seen = seen }
@@ -266,6 +275,14 @@ module _ (log : Option LogThere) (start : Option (List ℕ)) where
     got = was.given.front (true_behind log was.entries was.goes_on was.all_true);
   }
 
+  -- where nothing is held and no write has failed, all that it was given is written
+  pub log_all : (s : LogState) → s.written.failed ≡ false → s.written.held ≡ [] → IsLogOf log start s → HasAll log start s.written.contents s.seen
+  log_all s fine none was = record {
+    entries = was.entries;
+    edits_are = was.edits_are;
+    written = all_written start s.written (bytes_behind (heading_of log) (there_of log) was.entries) fine none was.given.text;
+  }
+
 -- ---- its end
 
 -- a transcript has its last line then
@@ -276,12 +293,9 @@ ends_transcript start contents entries (Err fault) ends = ends.1
 -- what goes on behind a log ends where all that was held is written
 ends_log : (log : LogThere) (start : Option (List ℕ)) (s : WritingState) (entries : List Entry) → s.failed ≡ false → s.held ≡ [] → WasGivenOf (Some log.heading) (Some log.entries) start entries s → EndsText (Some log) start s.contents entries (Ok tt)
 ends_log log start s entries fine none given = (
-  Writes-all start s.contents (ended (map entry_line entries)) (all_sent s.failed fine given.text),
+  all_written start s (ended (map entry_line entries)) fine none given.text,
   λ holds. subst (λ (bytes : List ℕ). IsFrontOf (Some log.heading) bytes (log.entries ++ entries)) (sym (text_of_both (Some log.heading) log.entries entries)) (entry_lines_front (Some log.heading) (log.entries ++ entries) holds),
 )
-  where
-    all_sent : (failed : Bool) → failed ≡ false → WroteOrHolds failed start s.contents s.held (ended (map entry_line entries)) → Writes start [] s.contents [] (ended (map entry_line entries))
-    all_sent failed ok text = subst (λ (held : List ℕ). Writes start [] s.contents held (ended (map entry_line entries))) none (rw ok at text)
 
 -- what was given before the last write was given after it
 given_still : (log : Option LogThere) (start : Option (List ℕ)) (entries : List Entry) (old new : WritingState) → Adds old [] new → WasGivenOf (heading_of log) (there_of log) start entries old → WasGivenOf (heading_of log) (there_of log) start entries new
@@ -488,6 +502,18 @@ module _ (made : Option (List ℕ)) (limits : Bounds) (numbers : LogHeading) (lo
     file = was.file;
     front = log_front was.file.there was.file.begun record { written = s.written; seen = renewed_after was.file.renewed s.seen } was.given;
   }
+
+  -- once nothing is held, and no write has failed, it has written all edits
+  pub in_file_all : (renewed elements : ℕ) (is_log : Bool) (s : LogState) → s.written.failed ≡ false → s.written.held ≡ [] → IsLogInFile made limits numbers log start renewed elements is_log s
+      → HasAllOfFile made limits numbers log start s.written.contents s.seen
+  in_file_all renewed elements is_log s fine none was = record {
+    file = was.file;
+    all = log_all was.file.there was.file.begun record { written = s.written; seen = renewed_after was.file.renewed s.seen } fine none was.given;
+  }
+
+  -- so these edits were recorded
+  pub were_recorded : (edits all : List Edit) (contents : Option (List ℕ)) → IsPrefix edits all → HasAllOfFile made limits numbers log start contents all → WereRecorded made limits numbers log start edits
+  were_recorded edits all contents begins has = record { then_all = all; contents = contents; begins = begins; has = has }
 
   -- how it ends that has all edits, or that hasn't
   pub in_file_ends : (renewed elements : ℕ) (is_log : Bool) (s : LogState) (edits : List Edit) (contents : Option (List ℕ)) (result : Result Unit Fault) (was : IsLogInFile made limits numbers log start renewed elements is_log s) → IsPrefix s.seen edits

@@ -13,7 +13,7 @@ use Rattle.lv_hub.specs.declared.log_entry.LogEntry.{LogEntry}
 use Rattle.lv_hub.specs.declared.log_entry.LogEntry.TheVariants as logged
 use Rattle.lv_transcript.specs.declared.log_heading.LogHeading.{LogHeading}
 use Rattle.lv_transcript.specs.Fronts.{AreTrueAfter, AreTrueOf, Entry, HasElements, IsFrontOf, edits_in, entry_line}
-use Rattle.lv_transcript.specs.Transcribing.{GotFrontOf, WasGivenOf, WritingState, all_entries, bytes_before, whole_bytes}
+use Rattle.lv_transcript.specs.Transcribing.{GotFrontOf, WasGivenOf, WritingState, all_entries, bytes_before, bytes_behind, whole_bytes}
 use Rattle.lv_transcript.specs.Transcript.{ended}
 use Rattle.lv_transcript.specs.Logs.{log_text}
 use Rattle.lv_hub.specs.Numbering.{told_number}
@@ -131,6 +131,12 @@ module _ (log : Option LogThere) (start : Option (List ℕ)) where
     pub begins : IsPrefix (edits_there log ++ edits_in entries) edits
     pub got : GotFrontOf (heading_of log) (there_of log) start contents entries
 
+  -- all edits of a journal were written: entries with just these, behind what was there
+  pub record HasAll (contents : Option (List ℕ)) (journal : List Edit) : Type 0 where
+    pub entries : List Entry
+    pub edits_are : edits_there log ++ edits_in entries ≡ journal
+    pub written : Appends start contents (bytes_behind (heading_of log) (there_of log) entries)
+
   -- a log was written whole: entries that go on behind what was there, true in the order of time, with all edits of a journal
   pub record WroteWhole (contents : Option (List ℕ)) (journal : List Edit) : Type 0 where
     pub entries : List Entry
@@ -200,6 +206,18 @@ pub record IsLogInFile (made : Option (List ℕ)) (limits : Bounds) (numbers : L
 pub record HasFrontOfFile (made : Option (List ℕ)) (limits : Bounds) (numbers : LogHeading) (log : Option LogThere) (start contents : Option (List ℕ)) (edits : List Edit) : Type 0 where
   pub file : LogFile made limits numbers log start edits
   pub front : HasFront file.there file.begun contents (renewed_after file.renewed edits)
+
+-- all edits of the hub were written in that file, or are among those that it was begun anew after
+pub record HasAllOfFile (made : Option (List ℕ)) (limits : Bounds) (numbers : LogHeading) (log : Option LogThere) (start contents : Option (List ℕ)) (edits : List Edit) : Type 0 where
+  pub file : LogFile made limits numbers log start edits
+  pub all : HasAll file.there file.begun contents (renewed_after file.renewed edits)
+
+-- there was a time when all edits of the hub were written, and these begin them
+pub record WereRecorded (made : Option (List ℕ)) (limits : Bounds) (numbers : LogHeading) (log : Option LogThere) (start : Option (List ℕ)) (edits : List Edit) : Type 0 where
+  pub then_all : List Edit
+  pub contents : Option (List ℕ)
+  pub begins : IsPrefix edits then_all
+  pub has : HasAllOfFile made limits numbers log start contents then_all
 
 -- how the log of a hub with these edits ends: in its last file
 pub record EndsInFile (made : Option (List ℕ)) (limits : Bounds) (numbers : LogHeading) (log : Option LogThere) (start contents : Option (List ℕ)) (edits : List Edit) (result : Result Unit Fault) : Type 0 where

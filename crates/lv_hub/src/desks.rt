@@ -5,7 +5,7 @@ ghost use Rattle.lv_geometry.specs.Elements.{IsElement};
 ghost use Rattle.lv_geometry.specs.declared.nodes.Node.{Node};
 ghost use Rattle.lv_bodies.specs.Plain.{program_table};
 ghost use Rattle.lv_edits.specs.History.{list_of};
-ghost use Rattle.lv_edits.specs.Kept.{CarriesElement};
+ghost use Rattle.lv_edits.specs.Kept.{CarriesElement, IsLegalInLimits};
 ghost use Rattle.lv_edits.specs.Verdict.{Answers, IsRefusal, verdict_of};
 ghost use Rattle.lv_edits.specs.Ranges.{range_refusal};
 ghost use Rattle.lv_refresh.specs.Claim.{IsNextJob, wants_job};
@@ -212,11 +212,10 @@ impl<B: Body, N: WithBody<B>> Desk<B, N> {
         if is_full(&self.tap, self.lasts, self.live.edit(), self.head.count()) {
             return Err(self.refusal_without_place(&edit));
         }
-        let receipt = apply_beside(&mut self.live, &mut self.kinds, edit)?;
+        let receipt = make_edit(&mut self.live, &mut self.kinds, &mut self.tap, edit)?;
         share.enter(&mut self.book);
         self.head.append(edit);
         share.see(&mut self.head);
-        take_edit(&mut self.tap, edit);
         Ok(with_capacity(receipt, self.capacity))
     }
 
@@ -658,6 +657,28 @@ fn has_place(tap: &Option<Tap>) -> bool
         Some(tap) => tap.has_place(),
         None => true,
     }
+}
+
+// Makes an edit of the vector, and keeps it for a log, if there is one.
+fn make_edit<B: Body>(
+    live: &mut Live<B>,
+    kinds: &mut Kinds,
+    tap: &mut Option<Tap>,
+    edit: Edit,
+) -> Result<Receipt, Refusal>
+    requires kept { AreReady kinds.old.table live.old.history.journal kinds.old }
+    requires place { IfSome tap.old HasPlace }
+    ensures answer { Answers live.old.history edit result live.new.history }
+    ensures limits { IsLegalInLimits live.new.history }
+    ensures refresh { SameRefresh live.old live.new }
+    ensures kept { AreReady kinds.old.table live.new.history.journal kinds.new }
+    ensures taken { OnOk result (tap.new ≡ option_map (with_entry (logged.Edit edit)) tap.old) }
+    ensures element { OnOk result (IfSome tap.old (λ _. CarriesElement edit)) }
+    ensures unchanged { OnErr result (tap.new ≡ tap.old) }
+{
+    let receipt = apply_beside(live, kinds, edit)?;
+    take_edit(tap, edit);
+    Ok(receipt)
 }
 
 // Keeps an edit for a log, if there is one.

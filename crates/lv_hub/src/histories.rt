@@ -1,5 +1,5 @@
 //! The history of a hub: its edits in one list, to which only its head adds.
-ghost use Rattle.std.specs.Prelude.{◌≡◌, ◌<◌, ◌≤◌, ◌^◌, ◌++◌, ◌∷◌, ◌⊎◌, [], length};
+ghost use Rattle.std.specs.Prelude.{◌≡◌, ◌<◌, ◌≤◌, ◌^◌, ◌++◌, ◌∷◌, ◌⊎◌, [], length, true};
 ghost use mathlib.Core.List.{IsPrefix};
 ghost use Rattle.logbook.specs.Pages.{may_write};
 ghost use Rattle.lv_hub.specs.Growing.{IsUnspent, head_of};
@@ -267,6 +267,18 @@ impl<N: Naming> HistoryPrefix<N> {
             seen: self.seen.again(),
             of: PhantomData,
         }
+    }
+
+    /// Whether it begins another prefix: if it has seen no more than that.
+    pub fn begins(&self, other: &HistoryPrefix<N>) -> bool
+        ensures { result ≡ true → IsPrefix self.now other.now }
+    {
+        let mut both = self.seen.again();
+        both.learn(&other.seen);
+        if other.edits < self.edits {
+            return false;
+        }
+        true
     }
 
     /// The longer of two prefixes, which the other begins.

@@ -52,7 +52,8 @@ impl<F: Write + Drop> Notices<F> {
     pub fn tell(&mut self, numbers: LogHeading, told: &Told, is_recorded: bool)
         requires base { numbers.base ≤ 2 ^ 62 }
         requires few { told.now.edit ≤ 2 ^ 62 }
-        ensures { WritesMore (told_text numbers told.now) self.old self.new }
+        ensures written { WritesMore (told_text numbers told.now) self.old self.new }
+        ensures unrecorded { is_recorded ≡ false → self.new.contents ≡ self.old.contents }
     {
         if self.failed {
             return;

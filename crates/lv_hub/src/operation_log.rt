@@ -8,7 +8,7 @@ ghost use Rattle.lv_transcript.specs.declared.log_heading.LogHeading.{LogHeading
 ghost use Rattle.lv_transcript.specs.Fronts.{Entry};
 ghost use Rattle.lv_transcript.specs.Transcribing.{Adds, IsUnusedOf, WasGivenOf, state_with};
 ghost use Rattle.lv_hub.specs.Counting.{having_seen};
-ghost use Rattle.lv_hub.specs.Logging.{AreLasting, BeginsAnew, CameSince, EndsInFile, EndsText, HasFrontOfFile, HasLog, IsLogInFile, LogThere, MayBeginAnew, MayGoOn, edits_there, entry_of, heading_after, heading_of, there_of};
+ghost use Rattle.lv_hub.specs.Logging.{AreLasting, BeginsAnew, CameSince, EndsInFile, EndsText, HasAllOfFile, HasFrontOfFile, HasLog, IsLogInFile, LogThere, MayBeginAnew, MayGoOn, edits_there, entry_of, heading_after, heading_of, there_of};
 ghost use Rattle.lv_hub.specs.Numbering.{told_number};
 ghost use Rattle.lv_hub.specs.Renewing.{IsMadeOf, renewed_after, vector_limits};
 
@@ -192,9 +192,17 @@ impl<N: WithBody<Six>, W: LogWriter + Drop, K: Begun> OperationLog<N, W, K> {
         })
     }
 
-    /// Writes what has come since, and has the hub's vector made anew where that is due. Whatever a write comes to, the writer has got a front of the log's
-    /// present file. The fault is `WriteFault`, where a write fails or has failed, or the vector takes no more edits and can't be made anew.
-    pub fn record<R: Wait>(&mut self, rt: &R, hub: &Hub<Six, N>) -> Result<(), Fault>
+    /// Writes what has come since, and has the hub's vector made anew where that is due. Then the writer has got all edits, and these begin with what a share has
+    /// seen. Whatever a write comes to, the writer has got a front of the log's present file. The fault is `WriteFault`, where a write fails or has failed, or the vector
+    /// takes no more edits and can't be made anew.
+    pub fn record<R: Wait>(
+        &mut self,
+        rt: &R,
+        hub: &Hub<Six, N>,
+        share: &Share<N>,
+    ) -> Result<(), Fault>
+        ensures all { OnOk result (HasAllOfFile W.made N.limits N.numbers K.there K.start self.new.written.contents self.new.seen) }
+        ensures covers { OnOk result (IsPrefix share.now.seen self.new.seen) }
         ensures front { HasFrontOfFile W.made N.limits N.numbers K.there K.start self.new.written.contents self.new.seen }
         ensures more { IsPrefix self.old.seen self.new.seen }
         ensures fault { IfErr result (λ fault. fault ≡ Fault.WriteFault) }
@@ -202,10 +210,25 @@ impl<N: WithBody<Six>, W: LogWriter + Drop, K: Begun> OperationLog<N, W, K> {
         self.write(rt, hub);
         self.renew_if_due(rt, hub);
         self.missed = self.missed || self.is_worn();
-        if self.has_failed() {
+        // A vector that is made anew leaves nothing to write.
+        self.flush();
+        if !self.has_all(share) {
             return Err(Fault::WriteFault);
         }
         Ok(())
+    }
+
+    // Whether all is written, and begins with what a share has seen.
+    fn has_all(&self, share: &Share<N>) -> bool
+        requires sent { self.now.written.failed ≡ false → self.now.written.held ≡ [] }
+        ensures all { result ≡ true → HasAllOfFile W.made N.limits N.numbers K.there K.start self.now.written.contents self.now.seen }
+        ensures covers { result ≡ true → IsPrefix share.now.seen self.now.seen }
+        ensures front { HasFrontOfFile W.made N.limits N.numbers K.there K.start self.now.written.contents self.now.seen }
+    {
+        if self.has_failed() {
+            return false;
+        }
+        share.is_within(&self.prefix)
     }
 
     // Takes what has come since out of the hub, and writes it.

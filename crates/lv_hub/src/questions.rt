@@ -7,7 +7,9 @@ ghost use Rattle.lv_hub.specs.Asking.{Asks, Finds, ReadsQuestions, TakesUnless, 
 use crate::subscribers::MOST_QUERIES;
 use lv_geometry::Refusal;
 use lv_lines::grammar::spells;
-use lv_lines::{Fault, Line, LineGrammar, LineHandler, ReplyBuffer, read_line_by, serve_lines};
+use lv_lines::{
+    Fault, Line, LineGrammar, LineHandler, MOST_READ, ReplyBuffer, read_line_by, serve_lines,
+};
 use lv_script::read_query;
 use lv_standing::{Query, QuerySet};
 use std::alloc::Global;
@@ -44,7 +46,7 @@ pub fn read_questions<R: Read>(alloc: Global, reader: &mut R) -> Result<Vec<Quer
         queries: QuerySet::new(alloc, MOST_QUERIES),
         damage: None,
     };
-    match serve_lines(alloc, &mut asker, reader, &mut io::sink()) {
+    match serve_lines(MOST_READ, alloc, &mut asker, reader, &mut io::sink()) {
         Ok(()) => found(asker),
         Err(fault) => Err(Unasked::Fault(fault)),
     }
@@ -104,6 +106,8 @@ impl<W: Write> LineHandler<W> for Asker {
 
     ghost step = { AskStep };
 
+    ghost may_send = { λ _. Unit {0} };
+
     fn handle(
         &mut self,
         number: u32,
@@ -111,6 +115,10 @@ impl<W: Write> LineHandler<W> for Asker {
         _buffer: &mut ReplyBuffer<'_, W>,
     ) -> Result<(), Fault> {
         self.take(number, read_line_by(&WatchGrammar, line));
+        Ok(())
+    }
+
+    fn before_send(&self) -> Result<(), Fault> {
         Ok(())
     }
 }

@@ -1,5 +1,5 @@
 //! How a line of a session is answered.
-ghost use Rattle.std.specs.Prelude.{◌≡◌, ◌≤◌, ◌^◌, ◌++◌, ◌∷◌, [], ℕ, All, List, OnOk, IfErr, IfOk, length, true, vec_len};
+ghost use Rattle.std.specs.Prelude.{◌≡◌, ◌⊎◌, ◌≤◌, ◌^◌, ◌++◌, ◌∷◌, [], ℕ, All, List, OnOk, IfErr, IfOk, length, true, vec_len};
 ghost use Rattle.lv_geometry.specs.declared.refusals.Refusal.{Refusal};
 ghost use Rattle.lv_bodies.specs.Long.{CanFoldLong};
 ghost use Rattle.lv_bodies.specs.Plain.{plain_value};
@@ -63,6 +63,7 @@ pub fn answer_line<N: WithBody<Six>, T: Wait, L: SessionLog<N>, W: Write>(
     requires room { HasRoom buffer.old.held.now LINE }
     requires all_true { All (IsTrueAnswer share.old.seen) answers.old.items }
     ensures places { SamePlaces buffer.old buffer.new }
+    ensures sent { (buffer.new.writer.now ≡ buffer.old.writer.now) ⊎ L.has_recorded log.now share.new.seen }
     ensures ok { OnOk result ((reply : List ℕ)
         × SessionLineAnswer N.limits N.numbers N.lists (session_at share.old answers.old.items) number line reply (session_at share.new answers.new.items)
         × Puts W.contents buffer.old buffer.new reply) }
@@ -88,17 +89,20 @@ pub fn answer_line<N: WithBody<Six>, T: Wait, L: SessionLog<N>, W: Write>(
 pub(crate) fn make_room<N: WithBody<Six>, T: Wait, L: SessionLog<N>, W: Write>(
     place: &SessionPlace<'_, N, T>,
     log: &L,
+    share: &Share<N>,
     buffer: &mut ReplyBuffer<'_, W>,
 ) -> Result<(), Fault>
     ensures places { SamePlaces buffer.old buffer.new }
+    ensures sent { (buffer.new.writer.now ≡ buffer.old.writer.now) ⊎ L.has_recorded log.now share.now.seen }
     ensures ok { OnOk result (Puts W.contents buffer.old buffer.new []) }
     ensures room { OnOk result (HasRoom buffer.new.held.now LINE) }
     ensures fault { IfErr result (λ fault. (fault ≡ Fault.WriteFault) × PutsFront W.contents buffer.old buffer.new []) }
 {
     if buffer.held.capacity() - buffer.held.len() < LINE {
-        log.record(place.rt, place.hub)?;
+        log.record(place.rt, place.hub, share)?;
+        return buffer.make_room(LINE);
     }
-    buffer.make_room(LINE)
+    Ok(())
 }
 
 // Answers a command, which is bad unless it is an edit, a reduction or a scan. Only the reply to a scan may be longer than
@@ -114,6 +118,7 @@ fn answer<N: WithBody<Six>, T: Wait, L: SessionLog<N>, W: Write>(
 ) -> Result<(), Fault>
     requires { HasRoom buffer.old.held.now LINE }
     ensures places { SamePlaces buffer.old buffer.new }
+    ensures sent { (buffer.new.writer.now ≡ buffer.old.writer.now) ⊎ L.has_recorded log.now share.new.seen }
     ensures ok { OnOk result ((reply : List ℕ)
         × SessionCommandAnswer N.limits N.numbers N.lists (session_at share.old answers.old.items) number command reply (session_at share.new answers.new.items)
         × Puts W.contents buffer.old buffer.new reply) }
@@ -201,7 +206,7 @@ fn edit_with_place<N: WithBody<Six>, T: Wait, L: SessionLog<N>>(
         if let Some(answer) = place.hub.try_edit(place.rt, share, edit) {
             return answer;
         }
-        if log.record(place.rt, place.hub).is_err() {
+        if log.record(place.rt, place.hub, share).is_err() {
             break;
         }
     }
@@ -280,7 +285,7 @@ fn value_with_place<N: WithBody<Six>, T: Wait, L: SessionLog<N>>(
         if let Some(answer) = place.hub.try_value(place.rt, share, kind, lo, hi) {
             return answer;
         }
-        if log.record(place.rt, place.hub).is_err() {
+        if log.record(place.rt, place.hub, share).is_err() {
             break;
         }
     }
@@ -325,6 +330,7 @@ fn put_scanned<N: WithBody<Six>, T: Wait, L: SessionLog<N>, W: Write>(
 ) -> Result<(), Fault>
     requires { HasRoom buffer.old.held.now LINE }
     ensures places { SamePlaces buffer.old buffer.new }
+    ensures sent { (buffer.new.writer.now ≡ buffer.old.writer.now) ⊎ L.has_recorded log.now share.new.seen }
     ensures ok { OnOk result ((reply : List ℕ)
         × ((answers : List Claimed) → TellsScan N.limits N.numbers N.lists (session_at share.old answers) asked.now.inclusive asked.now.kind asked.now.lo asked.now.hi reply (session_at share.new answers))
         × Puts W.contents buffer.old buffer.new reply) }
@@ -340,6 +346,7 @@ fn put_scanned<N: WithBody<Six>, T: Wait, L: SessionLog<N>, W: Write>(
         Ok(stretch) => put_recorded_scan(
             place,
             log,
+            share,
             buffer,
             last_number(place, share),
             asked,
@@ -356,6 +363,7 @@ fn put_scanned<N: WithBody<Six>, T: Wait, L: SessionLog<N>, W: Write>(
 fn put_recorded_scan<N: WithBody<Six>, T: Wait, L: SessionLog<N>, W: Write>(
     place: &SessionPlace<'_, N, T>,
     log: &L,
+    share: &Share<N>,
     buffer: &mut ReplyBuffer<'_, W>,
     number: u64,
     asked: &Asked,
@@ -364,12 +372,13 @@ fn put_recorded_scan<N: WithBody<Six>, T: Wait, L: SessionLog<N>, W: Write>(
     requires can { CanFoldLong elements.now }
     requires room { HasRoom buffer.old.held.now LINE }
     ensures places { SamePlaces buffer.old buffer.new }
+    ensures sent { (buffer.new.writer.now ≡ buffer.old.writer.now) ⊎ L.has_recorded log.now share.now.seen }
     ensures ok { OnOk result (Puts W.contents buffer.old buffer.new
         (scan_text number asked.now.inclusive asked.now.kind (scan_by (plain_value asked.now.kind) asked.now.inclusive elements.now))) }
     ensures fault { IfErr result (λ fault. (fault ≡ Fault.WriteFault) × PutsFront W.contents buffer.old buffer.new
         (scan_text number asked.now.inclusive asked.now.kind (scan_by (plain_value asked.now.kind) asked.now.inclusive elements.now))) }
 {
-    log.record(place.rt, place.hub)?;
+    log.record(place.rt, place.hub, share)?;
     put_running_scan(
         buffer,
         number,

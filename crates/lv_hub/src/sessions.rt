@@ -1,6 +1,7 @@
 //! Sessions on a hub: lines that are read, and replies that are written.
 ghost use Rattle.std.specs.Prelude.{◌≡◌, ◌+◌, ◌≤◌, ◌++◌, ℕ, All, List, [], Ok, Err, MatchResult, OnOk, OnErr, IfOk, IfErr, vec_len, vec_capacity};
 ghost use mathlib.Core.List.{IsPrefix};
+ghost use Rattle.lv_edits.specs.declared.edit.Edit.{Edit};
 ghost use Rattle.lv_lines.specs.Replies.{LinesServed};
 ghost use Rattle.lv_transcript.specs.declared.claimed.Claimed.{Claimed};
 ghost use Rattle.lv_transcript.specs.Transcript.{AreInOrder, IsTrueAnswer};
@@ -15,7 +16,7 @@ use crate::replying::{SessionPlace, answer_line, make_room};
 use crate::session_logs::SessionLog;
 use crate::shares::Share;
 use lv_bodies::Six;
-use lv_script::{Claimed, Fault, LineHandler, ReplyBuffer, read_line, serve_lines};
+use lv_script::{Claimed, Fault, LineHandler, MOST_READ, ReplyBuffer, read_line, serve_lines};
 use std::alloc::AllocError;
 use std::io::{Read, Write};
 use std::marker::{Brand, Model, PhantomData};
@@ -45,6 +46,8 @@ pub fn run_session<N: WithBody<Six>, T: Wait, L: SessionLog<N>, R: Read, W: Writ
     // Line by line the replies are those of the plain interpreter, each at some edits of the hub's.
     ensures plain { LinesServed (PlainSessionStep N.limits N.numbers) (seen_by share.old) (seen_by share.new)
         (R.remaining reader.old) (R.remaining reader.new) (W.contents writer.old) (W.contents writer.new) result }
+    // All edits that it has seen are recorded.
+    ensures recorded { OnOk result (L.has_recorded log.now share.new.seen) }
     ensures parts { share.new.parts ≡ share.old.parts }
     ensures more { share.old.count ≤ share.new.count }
     ensures seen { IsPrefix share.old.seen share.new.seen }
@@ -81,17 +84,21 @@ fn listed(answers: Vec<Claimed>, ended: Result<(), Fault>) -> Result<Vec<Claimed
     Ok(answers)
 }
 
-/// What a share holds when it is lent to a session, and at most how many reductions that lists.
+/// What a share holds when it is lent to a session, at most how many reductions that lists, and which edits its log has recorded.
 pub trait SessionStart {
     ghost holding: { ShareState };
 
     ghost most: { ℕ };
+
+    ghost recorded: { List Edit → Type 0 };
 }
 
 impl SessionStart for Brand {
     ghost holding = { record { parts = 0; count = 0; seen = [] } };
 
     ghost most = { 0 };
+
+    ghost recorded = { λ edits. Unit {0} };
 }
 
 // Holds a session with a share, and gives the share back with the reductions that were answered.
@@ -104,6 +111,8 @@ fn hold<K: SessionStart, N: WithBody<Six>, T: Wait, L: SessionLog<N>, R: Read, W
 ) -> (Share<N>, Vec<Claimed>, Result<(), Fault>)
     requires lent { share ≡ K.holding }
     requires most { most_listed place.keeps ≡ K.most }
+    requires log { (edits : List Edit) → L.has_recorded log.now edits → K.recorded edits }
+    ensures recorded { OnOk result.2 (K.recorded result.0.seen) }
     ensures lines_served { LinesServed (TellsLine N.limits N.numbers N.lists) (session_at share []) (session_at result.0 result.1.items)
         (R.remaining reader.old) (R.remaining reader.new) (W.contents writer.old) (W.contents writer.new) result.2 }
     ensures parts { result.0.parts ≡ share.parts }
@@ -118,7 +127,7 @@ fn hold<K: SessionStart, N: WithBody<Six>, T: Wait, L: SessionLog<N>, R: Read, W
         answers: Vec::new(alloc),
         of: PhantomData,
     };
-    let ended = serve_lines(alloc, &mut session, reader, writer);
+    let ended = serve_lines(MOST_READ, alloc, &mut session, reader, writer);
     let Session { share, answers, .. } = session;
     (share, answers, ended)
 }
@@ -135,7 +144,8 @@ struct Session<'a, N: WithBody<Six>, T: Wait, L: SessionLog<N>, K: SessionStart>
 
 impl<'a, N: WithBody<Six>, T: Wait, L: SessionLog<N>, K: SessionStart> Model
     for Session<'a, N, T, L, K> {
-    ghost use Rattle.std.specs.Prelude.{◌≡◌, ◌≤◌, All, vec_len};
+    ghost use Rattle.std.specs.Prelude.{◌≡◌, ◌≤◌, All, List, vec_len};
+    ghost use Rattle.lv_edits.specs.declared.edit.Edit.{Edit};
     ghost use Rattle.lv_transcript.specs.Transcript.{IsTrueAnswer};
     ghost use Rattle.lv_hub.specs.Session.{SessionState, most_listed, session_at};
 
@@ -143,7 +153,7 @@ impl<'a, N: WithBody<Six>, T: Wait, L: SessionLog<N>, K: SessionStart> Model
 
     ghost view = { λ s. session_at s.share s.answers.items };
 
-    ghost invariant = { λ s. (s.share.parts ≡ K.holding.parts) × (K.holding.count ≤ s.share.count) × All (IsTrueAnswer s.share.seen) s.answers.items × (most_listed s.place.keeps ≡ K.most) × (vec_len s.answers ≤ K.most) };
+    ghost invariant = { λ s. (s.share.parts ≡ K.holding.parts) × (K.holding.count ≤ s.share.count) × All (IsTrueAnswer s.share.seen) s.answers.items × (most_listed s.place.keeps ≡ K.most) × (vec_len s.answers ≤ K.most) × ((edits : List Edit) → L.has_recorded s.log.now edits → K.recorded edits) };
 }
 
 impl<'a, N: WithBody<Six>, T: Wait, L: SessionLog<N>, K: SessionStart, W: Write> LineHandler<W>
@@ -154,13 +164,15 @@ impl<'a, N: WithBody<Six>, T: Wait, L: SessionLog<N>, K: SessionStart, W: Write>
 
     ghost step = { TellsLine N.limits N.numbers N.lists };
 
+    ghost may_send = { λ s. K.recorded s.seen };
+
     fn handle(
         &mut self,
         number: u32,
         line: &[u8],
         buffer: &mut ReplyBuffer<'_, W>,
     ) -> Result<(), Fault> {
-        make_room(&self.place, self.log, buffer)?;
+        make_room(&self.place, self.log, &self.share, buffer)?;
         answer_line(
             &self.place,
             self.log,
@@ -174,7 +186,7 @@ impl<'a, N: WithBody<Six>, T: Wait, L: SessionLog<N>, K: SessionStart, W: Write>
 
     // All that replies may tell is recorded before they go out.
     fn before_send(&self) -> Result<(), Fault> {
-        self.log.record(self.place.rt, self.place.hub)
+        self.log.record(self.place.rt, self.place.hub, &self.share)
     }
 }
 

@@ -1,5 +1,5 @@
 //! A thread's part of a hub.
-ghost use Rattle.std.specs.Prelude.{◌≡◌, ◌+◌, ◌%◌, ◌^◌, ◌<◌, ◌≤◌, length};
+ghost use Rattle.std.specs.Prelude.{◌≡◌, ◌+◌, ◌%◌, ◌^◌, ◌<◌, ◌≤◌, length, true};
 ghost use mathlib.Core.List.{IsPrefix};
 ghost use Rattle.lv_hub.specs.Counting.{AreTogether, ShareState, having_seen};
 
@@ -114,6 +114,13 @@ impl<N: Naming> Share<N> {
         ensures { result ≡ self.now.seen }
     {
         self.prefix.again()
+    }
+
+    // Whether a prefix of the same hub has seen all that it has.
+    pub(crate) fn is_within(&self, prefix: &HistoryPrefix<N>) -> bool
+        ensures { result ≡ true → IsPrefix self.now.seen prefix.now }
+    {
+        self.prefix.begins(prefix)
     }
 
     // How many edits it has seen.

@@ -62,6 +62,13 @@ impl<N: WithBody<Six>> Subscriber<N> {
         }
     }
 
+    /// Its share, which has seen the edits that it looked at last.
+    pub fn share(&self) -> &Share<N>
+        ensures { result.now ≡ self.now.share }
+    {
+        &self.share
+    }
+
     /// Pauses so long between two looks, in place of a millisecond.
     pub fn set_pause(&mut self, pause: Duration)
         ensures { self.new ≡ self.old }

@@ -1,8 +1,8 @@
 //! Subscribers beside sessions: what each is told goes to its file.
 
-ghost use Rattle.std.specs.Prelude.{◌≡◌, ◌+◌, ◌≤◌, ◌^◌, IfErr, IfOk, None, OnOk, [], map, vec_len};
+ghost use Rattle.std.specs.Prelude.{◌≡◌, ◌⊎◌, ◌+◌, ◌≤◌, ◌^◌, IfErr, IfOk, None, OnOk, [], map, vec_len};
 ghost use Rattle.lv_hub.specs.Asking.{IsRefusedFor, refusal_behind, refusal_of_all};
-ghost use Rattle.lv_hub.specs.Noticing.{Watches};
+ghost use Rattle.lv_hub.specs.Noticing.{Watches, WritesMore, told_text};
 ghost use Rattle.lv_standing.specs.Queries.{watch_answer};
 ghost use Rattle.lv_hub.specs.Watchers.{left_by, watcher_at};
 
@@ -14,6 +14,7 @@ use crate::notices::Notices;
 use crate::session_logs::SessionLog;
 use crate::shares::Share;
 use crate::subscribers::Subscriber;
+use crate::told::Told;
 use lv_bodies::Six;
 use lv_geometry::Refusal;
 use lv_standing::Query;
@@ -101,8 +102,7 @@ impl<N: WithBody<Six>, F: Write + Drop> Watcher<N, F> {
     {
         match self.subscriber.next(rt, alloc, hub) {
             Ok(Some(told)) => {
-                let is_recorded = log.record(rt, hub).is_ok();
-                self.notices.tell(self.numbers, &told, is_recorded);
+                self.tell(rt, hub, log, &told);
                 !self.notices.has_failed()
             }
             Ok(None) => false,
@@ -118,11 +118,21 @@ impl<N: WithBody<Six>, F: Write + Drop> Watcher<N, F> {
             return;
         }
         match self.subscriber.look(rt, alloc, hub) {
-            Ok(Some(told)) => {
-                let is_recorded = log.record(rt, hub).is_ok();
-                self.notices.tell(self.numbers, &told, is_recorded);
-            }
+            Ok(Some(told)) => self.tell(rt, hub, log, &told),
             Ok(None) | Err(_) => {}
+        }
+    }
+
+    // Writes the lines of what its subscriber was told, once all is recorded that it has seen. If that fails, no line is written any more.
+    fn tell<L: SessionLog<N>, R: Wait>(&mut self, rt: &R, hub: &Hub<Six, N>, log: &L, told: &Told)
+        requires few { told.now.edit ≤ 2 ^ 62 }
+        ensures recorded { (self.new.notices.contents ≡ self.old.notices.contents) ⊎ L.has_recorded log.now self.old.subscriber.share.seen }
+        ensures written { WritesMore (told_text N.numbers told.now) self.old.notices self.new.notices }
+        ensures subscriber { self.new.subscriber ≡ self.old.subscriber }
+    {
+        match log.record(rt, hub, self.subscriber.share()) {
+            Ok(()) => self.notices.tell(self.numbers, told, true),
+            Err(_) => self.notices.tell(self.numbers, told, false),
         }
     }
 

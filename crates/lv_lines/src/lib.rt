@@ -27,7 +27,7 @@ mod words;
 pub use command::Command;
 pub use fault::Fault;
 pub use line_handler::LineHandler;
-pub use line_loop::{MOST_NUMBERED, MOST_READ, serve_lines, serve_lines_within};
+pub use line_loop::{MOST_NUMBERED, MOST_READ, serve_lines};
 pub use lines::{Line, LineGrammar, read_line, read_line_by};
 pub use named_replies::{put_named, put_note, put_unwatched, put_watching};
 pub use numbers::{element, number, number_up_to};

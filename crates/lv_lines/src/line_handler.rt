@@ -1,5 +1,5 @@
 //! Who answers lines.
-ghost use Rattle.std.specs.Prelude.{◌≡◌, ℕ, ◌≤◌, List, [], length, OnOk, IfErr};
+ghost use Rattle.std.specs.Prelude.{◌≡◌, ◌⊎◌, ℕ, ◌≤◌, List, [], length, OnOk, IfErr};
 ghost use Rattle.std.specs.Io.KnownBytes.{Appends};
 ghost use Rattle.lv_lines.specs.Output.{Puts, PutsFront, SamePlaces};
 ghost use Rattle.lv_lines.specs.Replies.{Replies, FailsToReply};
@@ -19,6 +19,9 @@ pub trait LineHandler<W: Write> {
     // From a state, the line of a number may be answered with these bytes, to another state.
     ghost step: { State → ℕ → List ℕ → List ℕ → State → Type 0 };
 
+    // Replies may go out in this state.
+    ghost may_send: { State → Type 0 };
+
     /// Answers a line, of which it gets the first 121 bytes: puts the reply into the reply buffer, which it may
     /// send to make room. It has no other fault than `WriteFault`.
     fn handle(
@@ -33,13 +36,10 @@ pub trait LineHandler<W: Write> {
         ensures fault { IfErr result (λ fault. (fault ≡ Fault.WriteFault)
             × FailsToReply step (state self.old) number line.now (state self.new) (PutsFront W.contents buffer.old buffer.new)) };
 
-    /// Does what has to be done before replies go out: nothing, unless it says otherwise. It has no other fault than `WriteFault`, after
-    /// which no reply goes out.
+    /// Does what has to be done before replies go out: then they may. It has no other fault than `WriteFault`, after which no reply goes out.
     fn before_send(&self) -> Result<(), Fault>
-        ensures { IfErr result (λ fault. fault ≡ Fault.WriteFault) }
-    {
-        Ok(())
-    }
+        ensures may { OnOk result (may_send (state self.now)) }
+        ensures fault { IfErr result (λ fault. fault ≡ Fault.WriteFault) };
 }
 
 /// Sends replies, once what answers has done what it has to before. A fault is `WriteFault`; what is held then stays.
@@ -48,6 +48,9 @@ pub(crate) fn send<A: LineHandler<W>, W: Write>(
     buffer: &mut ReplyBuffer<'_, W>,
 ) -> Result<(), Fault>
     ensures places { SamePlaces buffer.old buffer.new }
+    ensures may { OnOk result (A.may_send (A.state handler.now)) }
+    // Nothing goes out unless it may.
+    ensures sent { (buffer.new.writer.now ≡ buffer.old.writer.now) ⊎ A.may_send (A.state handler.now) }
     ensures ok { OnOk result ((buffer.new.held.now.items ≡ [])
         × Appends (W.contents buffer.old.writer.now) (W.contents buffer.new.writer.now) buffer.old.held.now.items) }
     ensures fault { IfErr result (λ fault. (fault ≡ Fault.WriteFault) × PutsFront W.contents buffer.old buffer.new []) }

@@ -1,7 +1,7 @@
 //! The loop over lines: they are read and answered in turn, until the input ends.
-ghost use Rattle.std.specs.Prelude.{◌≡◌, ◌<◌, ◌≤◌, [], length, take, IfOk, IfErr, vec_len, vec_capacity};
+ghost use Rattle.std.specs.Prelude.{◌≡◌, ◌<◌, ◌≤◌, [], length, take, IfOk, IfErr, OnOk, vec_len, vec_capacity};
 ghost use Rattle.std.specs.Io.KnownBytes.{Keeps, Consumes, IsAtEnd};
-ghost use Rattle.lv_lines.specs.Replies.{LinesServed, LinesServedWithin};
+ghost use Rattle.lv_lines.specs.Replies.{LinesServedWithin};
 
 use crate::fault::Fault;
 use crate::line_handler::{LineHandler, send};
@@ -20,26 +20,13 @@ pub const MOST_READ: usize = 1 << 30;
 /// The greatest bound that may be given. The lines of so many bytes have numbers of 32 bits.
 pub const MOST_NUMBERED: usize = 4_294_967_293;
 
-/// Reads lines and has each answered, in turn and numbered from 1, until the input ends. The replies are
+/// Reads lines and has each answered, in turn and numbered from 1, until the input ends, of at most so many bytes. The replies are
 /// sent before more is read.
 ///
 /// Memory is taken before anything is read or written: where there is none, the fault is `NoMemory`. A
-/// failed read is `ReadFault`; an input of more than 2^30 bytes `TooLong`; a failed write, and one that takes
+/// failed read is `ReadFault`; an input of more bytes `TooLong`; a failed write, and one that takes
 /// no byte, `WriteFault`.
 pub fn serve_lines<A: LineHandler<W>, R: Read, W: Write>(
-    alloc: Global,
-    handler: &mut A,
-    reader: &mut R,
-    writer: &mut W,
-) -> Result<(), Fault>
-    ensures { LinesServed A.step (A.state handler.old) (A.state handler.new) (R.remaining reader.old) (R.remaining reader.new)
-        (W.contents writer.old) (W.contents writer.new) result }
-{
-    serve_lines_within(MOST_READ, alloc, handler, reader, writer)
-}
-
-/// The same of an input of at most `most` bytes: one of more is `TooLong`.
-pub fn serve_lines_within<A: LineHandler<W>, R: Read, W: Write>(
     most: usize,
     alloc: Global,
     handler: &mut A,
@@ -47,8 +34,10 @@ pub fn serve_lines_within<A: LineHandler<W>, R: Read, W: Write>(
     writer: &mut W,
 ) -> Result<(), Fault>
     requires { most ≤ MOST_NUMBERED }
-    ensures { LinesServedWithin A.step most (A.state handler.old) (A.state handler.new) (R.remaining reader.old) (R.remaining reader.new)
+    ensures served { LinesServedWithin A.step most (A.state handler.old) (A.state handler.new) (R.remaining reader.old) (R.remaining reader.new)
         (W.contents writer.old) (W.contents writer.new) result }
+    // All replies have gone out, and they may.
+    ensures may { OnOk result (A.may_send (A.state handler.new)) }
 {
     let Ok(mut chunk) = zeros(alloc, CHUNK) else {
         return Err(Fault::NoMemory);
@@ -79,8 +68,9 @@ fn read_lines<A: LineHandler<W>, R: Read, W: Write>(
     requires chunk { 0 < length chunk.old }
     requires held { held.old.items ≡ [] }
     requires room { HELD ≤ vec_capacity held.old }
-    ensures { LinesServedWithin A.step most (A.state handler.old) (A.state handler.new) (R.remaining reader.old) (R.remaining reader.new)
+    ensures served { LinesServedWithin A.step most (A.state handler.old) (A.state handler.new) (R.remaining reader.old) (R.remaining reader.new)
         (W.contents writer.old) (W.contents writer.new) result }
+    ensures may { OnOk result (A.may_send (A.state handler.new)) }
 {
     let mut buffer = ReplyBuffer { writer, held };
     let mut line_reader = LineReader::new();

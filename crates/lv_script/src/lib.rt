@@ -52,9 +52,9 @@ pub use laws::{
 pub use long_commands::{LongCommand, Search};
 pub use long_grammar::read_long_line;
 pub use lv_lines::{
-    Command, Fault, HELD, LINE, Line, LineHandler, MOST_NUMBERED, ReplyBuffer, print_command, put,
-    put_answer, put_bad, put_element, put_number, put_receipt, put_receipt_at, put_refusal,
-    put_wide, read_line, serve_lines,
+    Command, Fault, HELD, LINE, Line, LineHandler, MOST_NUMBERED, MOST_READ, ReplyBuffer,
+    print_command, put, put_answer, put_bad, put_element, put_number, put_receipt, put_receipt_at,
+    put_refusal, put_wide, read_line, serve_lines,
 };
 pub use lv_transcript::{
     Claimed, FrontVerdict, Verdict, audit, audit_front, read_front, write_transcript,

@@ -8,7 +8,7 @@ ghost use Rattle.lv_script.specs.Schedule.{ScheduleStep, actor_of, event_text, s
 use crate::schedule_lines::read_schedule_line;
 use crate::schedule_replies::{EVENT, put_outcome};
 use lv_bodies::Sum;
-use lv_lines::{Fault, LineHandler, ReplyBuffer, command_of, serve_lines};
+use lv_lines::{Fault, LineHandler, MOST_READ, ReplyBuffer, command_of, serve_lines};
 use lv_machine::{Event, Machine};
 use std::alloc::Global;
 use std::io::{Read, Write};
@@ -27,7 +27,7 @@ pub fn run_schedule<R: Read, W: Write>(
         (R.remaining reader.old) (R.remaining reader.new) (W.contents writer.old) (W.contents writer.new) result }
 {
     let mut player = Player { machine };
-    serve_lines(alloc, &mut player, reader, writer)
+    serve_lines(MOST_READ, alloc, &mut player, reader, writer)
 }
 
 // What answers the lines of a schedule: whoever plays it on a machine.
@@ -43,6 +43,8 @@ impl<W: Write> LineHandler<W> for Player<'_> {
 
     ghost step = { PlayedStep };
 
+    ghost may_send = { λ _. Unit {0} };
+
     fn handle(
         &mut self,
         number: u32,
@@ -57,6 +59,10 @@ impl<W: Write> LineHandler<W> for Player<'_> {
             }
             None => Ok(()),
         }
+    }
+
+    fn before_send(&self) -> Result<(), Fault> {
+        Ok(())
     }
 }
 

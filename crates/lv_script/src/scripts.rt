@@ -16,7 +16,7 @@ use crate::answers::answer;
 use crate::watch_replies::ROOM;
 use lv_bodies::Six;
 use lv_geometry::Limits;
-use lv_lines::{Fault, LineHandler, ReplyBuffer, command_of, read_line, serve_lines};
+use lv_lines::{Fault, LineHandler, MOST_READ, ReplyBuffer, command_of, read_line, serve_lines};
 use lv_live::Issued;
 use lv_standing::{Note, Standing};
 use std::alloc::Global;
@@ -82,7 +82,7 @@ pub(crate) fn answer_script<R: Read, W: Write>(
         issued: Issued::at_most(alloc, jobs),
         notes: Vec::new(alloc),
     };
-    let ended = serve_lines(alloc, &mut script, reader, writer);
+    let ended = serve_lines(MOST_READ, alloc, &mut script, reader, writer);
     drop(script);
     ended
 }
@@ -115,6 +115,8 @@ impl<W: Write> LineHandler<W> for Script {
 
     ghost step = { BoundedStep };
 
+    ghost may_send = { λ _. Unit {0} };
+
     fn handle(
         &mut self,
         number: u32,
@@ -132,5 +134,9 @@ impl<W: Write> LineHandler<W> for Script {
             ),
             None => Ok(()),
         }
+    }
+
+    fn before_send(&self) -> Result<(), Fault> {
+        Ok(())
     }
 }

@@ -16,7 +16,7 @@ use crate::long_grammar::read_long_line;
 use crate::series_scripts::answers::answer;
 use crate::watch_replies::ROOM;
 use lv_bodies::Automaton;
-use lv_lines::{Fault, LineHandler, ReplyBuffer, command_of, serve_lines};
+use lv_lines::{Fault, LineHandler, MOST_READ, ReplyBuffer, command_of, serve_lines};
 use lv_series::Series;
 use lv_standing::{Note, Query, QuerySet};
 use std::alloc::Global;
@@ -45,7 +45,7 @@ pub fn run_series_script<R: Read, W: Write>(
         queries: QuerySet::new(alloc, 64),
         notes: Vec::new(alloc),
     };
-    let ended = serve_lines(alloc, &mut script, reader, writer);
+    let ended = serve_lines(MOST_READ, alloc, &mut script, reader, writer);
     drop(script);
     ended
 }
@@ -78,6 +78,8 @@ impl<W: Write> LineHandler<W> for SeriesScript {
 
     ghost step = { SeriesStep };
 
+    ghost may_send = { λ _. Unit {0} };
+
     fn handle(
         &mut self,
         number: u32,
@@ -95,5 +97,9 @@ impl<W: Write> LineHandler<W> for SeriesScript {
             ),
             None => Ok(()),
         }
+    }
+
+    fn before_send(&self) -> Result<(), Fault> {
+        Ok(())
     }
 }

@@ -1,6 +1,5 @@
 -- Names the files of lemmas of `lv_server`.
 mod BesideLaws
-mod LogEdits
 mod LogServedLaws
 mod PlainServedLaws
 mod RecordingLaws

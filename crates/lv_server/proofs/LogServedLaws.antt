@@ -33,7 +33,7 @@ use Rattle.lv_server.specs.PlainLogged.{HasAllEdits, LogBegunAnew, LogGoesOn, Lo
 use Rattle.lv_server.specs.PlainServed.{AreHeldPlainly}
 use Rattle.lv_server.specs.Served.{Sides}
 use Rattle.lv_server.specs.Tasks.{AreAllHeld}
-use Rattle.lv_server.proofs.LogEdits.{edits_of_edits}
+use Rattle.lv_hub.proofs.LogLaws.{edits_of_edits}
 use Rattle.lv_server.proofs.PlainServedLaws.{held_plainly, made_so}
 use Rattle.lv_server.proofs.ServedLaws.{begins, if_some}
 

@@ -2,7 +2,7 @@
 use Rattle.std.proofs.Common.{◌≡◌, ℕ, Option, Some, Ok, List, subst}
 use Rattle.lv_edits.specs.declared.edit.Edit.{Edit}
 use Rattle.lv_hub.specs.Logging.{IsLogOfEdits}
-use Rattle.lv_server.proofs.LogEdits.{found_goes_on}
+use Rattle.lv_hub.proofs.LogLaws.{found_goes_on}
 use Rattle.lv_transcript.specs.declared.fronts.FoundFront.{FoundFront}
 use Rattle.lv_transcript.specs.declared.fronts.FrontVerdict.{FrontVerdict}
 use Rattle.lv_transcript.specs.declared.fronts.FrontVerdict.TheVariants as fronts

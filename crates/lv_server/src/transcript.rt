@@ -59,11 +59,12 @@ pub fn begin_log<N: WithBody<Six>, K: Begun, V: LogWriter + Drop, R: Wait>(
 pub fn unlocked<N: WithBody<Six>, K: Begun, V: LogWriter + Drop, R: Wait>(
     rt: &R,
     hub: &Hub<Six, N>,
+    share: &Share<N>,
     log: Option<Mutex<OperationLog<N, V, K>>>,
 ) -> Option<OperationLog<N, V, K>>
     ensures { is_some result ≡ is_some log }
 {
-    let _ = log.as_ref().record(rt, hub);
+    let _ = log.as_ref().record(rt, hub, share);
     match log {
         Some(log) => Some(log.into_inner()),
         None => None,

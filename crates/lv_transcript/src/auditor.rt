@@ -19,8 +19,8 @@ use lv_bodies::Shown;
 use lv_edits::{Edit, Edits};
 use lv_geometry::Limits;
 use lv_lines::{
-    Fault, LINE, LineHandler, ReplyBuffer, put, put_bad, put_number, put_shown, serve_lines,
-    write_whole,
+    Fault, LINE, LineHandler, MOST_READ, ReplyBuffer, put, put_bad, put_number, put_shown,
+    serve_lines, write_whole,
 };
 use std::alloc::{AllocError, Global};
 use std::io;
@@ -66,7 +66,7 @@ fn read_transcript<R: Read>(alloc: Global, reader: &mut R) -> Result<Verdict, Fa
     let Ok(mut auditor) = Auditor::new(alloc, false) else {
         return Err(Fault::NoMemory);
     };
-    serve_lines(alloc, &mut auditor, reader, &mut io::sink())?;
+    serve_lines(MOST_READ, alloc, &mut auditor, reader, &mut io::sink())?;
     auditor.verdict()
 }
 
@@ -137,6 +137,8 @@ impl<W: Write> LineHandler<W> for Auditor {
 
     ghost step = { CountedStep };
 
+    ghost may_send = { λ _. Unit {0} };
+
     fn handle(
         &mut self,
         number: u32,
@@ -144,6 +146,10 @@ impl<W: Write> LineHandler<W> for Auditor {
         _buffer: &mut ReplyBuffer<'_, W>,
     ) -> Result<(), Fault> {
         self.take_line(number, line);
+        Ok(())
+    }
+
+    fn before_send(&self) -> Result<(), Fault> {
         Ok(())
     }
 }

@@ -10,9 +10,7 @@ use crate::auditor::{Auditor, Stage, elements_of};
 use crate::log_heading::LogHeading;
 use crate::whole_lines::WholeLines;
 use lv_edits::Edits;
-use lv_lines::{
-    Fault, LINE, MOST_NUMBERED, put, put_bad, put_number, serve_lines_within, write_whole,
-};
+use lv_lines::{Fault, LINE, MOST_NUMBERED, put, put_bad, put_number, serve_lines, write_whole};
 use std::alloc::Global;
 use std::io;
 use std::io::{Read, Write};
@@ -132,7 +130,7 @@ pub fn read_front<R: Read + Drop>(
         return Err(Fault::NoMemory);
     };
     let mut whole = WholeLines::new(reader);
-    match serve_lines_within(most, alloc, &mut auditor, &mut whole, &mut io::sink()) {
+    match serve_lines(most, alloc, &mut auditor, &mut whole, &mut io::sink()) {
         Err(Fault::ReadFault) => {
             if whole.is_at_end() {
                 return auditor.found();

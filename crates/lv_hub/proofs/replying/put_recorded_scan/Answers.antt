@@ -13,4 +13,4 @@ returns-in_err-record-clause-fault g c =
     let p = err_from_is_err_and c.from_residual.result c.from_residual.ensures.1 in
     let asked = c.args.asked.now in
     let text = scan_text c.args.number asked.inclusive asked.kind (scan_by (plain_value asked.kind) asked.inclusive c.args.elements.now) in
-    rw p.1 (p.2 ∙ c.in_err-record.ensures, record { unsent = c.args.buffer.now.held.now.items ++ text; written = Writes-put _ _ _ _ refl })
+    rw p.1 (p.2 ∙ c.in_err-record.ensures.fault, record { unsent = c.args.buffer.now.held.now.items ++ text; written = Writes-put _ _ _ _ refl })

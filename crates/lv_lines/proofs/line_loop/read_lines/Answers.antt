@@ -25,8 +25,8 @@ reading-init g c =
       place = refl;
     }
 
-pub returns-in_err-send : goal.returns-in_err-send
-returns-in_err-send g c =
+pub returns-in_err-send-clause-served : goal.returns-in_err-send-clause-served
+returns-in_err-send-clause-served g c =
     let p = err_from_is_err_and c.from_residual.result c.from_residual.ensures.1 in
     let step = g.A.LineHandler.step in
     let state = g.A.LineHandler.state c.args.handler.now in
@@ -41,8 +41,8 @@ returns-in_err-send g c =
     _ _ _ c.send.new.buffer.writer.now (sym (c.send.ensures.places.0 ∙ loop.place)) (search rules)
     (LinesServed-unsent step state contents c.args.most _ _ loop.seen loop.read record here { contents = sent; held = held } (omega (arith, loop.count)) (PushesBytesFront-sent step (start_of state contents) here sent held loop.seen loop.fed unsent.1)))
 
-pub returns-in_err-count : goal.returns-in_err-count
-returns-in_err-count g c =
+pub returns-in_err-count-clause-served : goal.returns-in_err-count-clause-served
+returns-in_err-count-clause-served g c =
     let p = err_from_is_err_and c.from_residual-in_err-count.result c.from_residual-in_err-count.ensures.1 in
     let step = g.A.LineHandler.step in
     let state = g.A.LineHandler.state c.args.handler.now in
@@ -59,8 +59,8 @@ returns-in_err-count g c =
     _ _ _ c.send.new.buffer.writer.now (sym (c.send.ensures.places.0 ∙ loop.place)) (search rules)
     (LinesServed-unread step state contents c.args.most _ _ loop.seen (Consumes-kept _ _ _ loop.seen loop.read failed.1) mid (omega (arith, loop.count)) fed c.in_ok-send.ensures.ok.0))
 
-pub returns-then-is_empty : goal.returns-then-is_empty
-returns-then-is_empty g c =
+pub returns-then-is_empty-clause-served : goal.returns-then-is_empty-clause-served
+returns-then-is_empty-clause-served g c =
     let step = g.A.LineHandler.step in
     let state = g.A.LineHandler.state c.args.handler.now in
     let contents = g.W.Write.contents c.args.writer.now in
@@ -87,8 +87,8 @@ end_line-requires-clause-number g c =
     let here = point_of (g.A.LineHandler.state c.reading.handler) c.reading.line_reader g.W.Write.contents c.reading.buffer in
     omega (arith, c.requires.most, loop.count, number-PushesBytes step (start_of state contents) here loop.seen loop.fed refl)
 
-pub returns-in_err-end_line : goal.returns-in_err-end_line
-returns-in_err-end_line g c =
+pub returns-in_err-end_line-clause-served : goal.returns-in_err-end_line-clause-served
+returns-in_err-end_line-clause-served g c =
     let p = err_from_is_err_and c.from_residual-in_err-end_line.result c.from_residual-in_err-end_line.ensures.1 in
     let step = g.A.LineHandler.step in
     let state = g.A.LineHandler.state c.args.handler.now in
@@ -110,8 +110,8 @@ returns-in_err-end_line g c =
     _ _ _ c.end_line.new.buffer.writer.now (sym (c.end_line.ensures.places.0 ∙ c.send.ensures.places.0 ∙ loop.place)) (search rules)
     (LinesServed-unended step state contents c.args.most _ _ loop.seen read end (omega (arith, loop.count)) (loop.seen ++ 10 ∷ []) next (lines_of-ended loop.seen mid.kept fed.kept some) (PushesBytesFront-after step (start_of state contents) mid next loop.seen (10 ∷ []) fed (PushesBytesFront-line step mid next [] loop.ready.begun refl fails.1))))
 
-pub returns-then-count-eq0 : goal.returns-then-count-eq0
-returns-then-count-eq0 g c =
+pub returns-then-count-eq0-clause-served : goal.returns-then-count-eq0-clause-served
+returns-then-count-eq0-clause-served g c =
     let step = g.A.LineHandler.step in
     let state = g.A.LineHandler.state c.args.handler.now in
     let contents = g.W.Write.contents c.args.writer.now in
@@ -141,8 +141,8 @@ push_bytes-requires-clause-number g c =
     let fit = length-take-le c.in_ok-count.count c.read_front.new.chunk c.in_ok-count.ensures.within in
     omega (arith, c.requires.most, loop.count, fit, c.in_ok-count.ensures.few, number-PushesBytes step (start_of state contents) here loop.seen loop.fed refl)
 
-pub returns-in_err-push_bytes : goal.returns-in_err-push_bytes
-returns-in_err-push_bytes g c =
+pub returns-in_err-push_bytes-clause-served : goal.returns-in_err-push_bytes-clause-served
+returns-in_err-push_bytes-clause-served g c =
     let p = err_from_is_err_and c.from_residual-in_err-push_bytes.result c.from_residual-in_err-push_bytes.ensures.1 in
     let step = g.A.LineHandler.step in
     let state = g.A.LineHandler.state c.args.handler.now in
@@ -185,8 +185,8 @@ reading-preserved g c =
       place = c.push_bytes.ensures.places.0 ∙ c.send.ensures.places.0 ∙ loop.place;
     }
 
-pub returns-then-left-eq0 : goal.returns-then-left-eq0
-returns-then-left-eq0 g c =
+pub returns-then-left-eq0-clause-served : goal.returns-then-left-eq0-clause-served
+returns-then-left-eq0-clause-served g c =
     let step = g.A.LineHandler.step in
     let state = g.A.LineHandler.state c.args.handler.now in
     let contents = g.W.Write.contents c.args.writer.now in

@@ -4,4 +4,4 @@ use Rattle.lv_script.proofs.Playing.{played_as}
 use Rattle.lv_script.proofs.schedules.run_schedule.Goals as goal
 
 pub returns : goal.returns
-returns g c = played_as _ _ _ c.serve_lines.new.handler.machine.now _ _ _ _ _ c.serve_lines.result (search rules) c.serve_lines.ensures
+returns g c = played_as _ _ _ c.serve_lines.new.handler.machine.now _ _ _ _ _ c.serve_lines.result (search rules) c.serve_lines.ensures.served

@@ -13,4 +13,4 @@ invariant_of-script g c = rw c.at_most.ensures.jobs (record { limits = c.require
 pub returns : goal.returns
 returns g c =
     let first : Bounded = record { script = state_of c.args.standing []; most = c.args.jobs } in
-    lines_served_within c.args.jobs first _ _ _ _ _ _ refl (omega arith) (rw c.at_most.ensures.jobs at (rw c.at_most.ensures.most at c.serve_lines-ended.ensures))
+    lines_served_within c.args.jobs first _ _ _ _ _ _ refl (omega arith) (rw c.at_most.ensures.jobs at (rw c.at_most.ensures.most at c.serve_lines-ended.ensures.served))

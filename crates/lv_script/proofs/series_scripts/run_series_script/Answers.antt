@@ -12,7 +12,7 @@ invariant_of-script g c =
     rw (c.new.ensures, c.new-2.ensures) (record { table = c.program.ensures; told = refl; apart = λ i j d lt within. absurd (omega (arith, within)); most = refl; few = omega arith; room = omega arith })
 
 pub returns-clause-plain : goal.returns-clause-plain
-returns-clause-plain g c = series_served _ _ _ _ _ _ _ (ap₂ (λ s set. known_of s set.queries) c.new.ensures c.new-2.ensures) c.serve_lines-ended.ensures
+returns-clause-plain g c = series_served _ _ _ _ _ _ _ (ap₂ (λ s set. known_of s set.queries) c.new.ensures c.new-2.ensures) c.serve_lines-ended.ensures.served
 
 pub returns-clause-text : goal.returns-clause-text
 returns-clause-text g c =

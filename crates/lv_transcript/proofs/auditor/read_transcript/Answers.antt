@@ -17,10 +17,10 @@ returns-in_err-serve_lines g c =
     let old = c.in-Ok.auditor in
     let new = c.serve_lines.new.handler in
     rw (p.1, p.2)
-    (read_stopped most_read IsRight (Unit {0}) (counted_at old.mixed old.heading old.stage old.edits old.replay.edit old.lines old.whole) (counted_at new.mixed new.heading new.stage new.edits new.replay.edit new.lines new.whole) _ c.in_err-serve_lines.ensures)
+    (read_stopped most_read IsRight (Unit {0}) (counted_at old.mixed old.heading old.stage old.edits old.replay.edit old.lines old.whole) (counted_at new.mixed new.heading new.stage new.edits new.replay.edit new.lines new.whole) _ c.in_err-serve_lines.ensures.served)
 
 pub returns : goal.returns
 returns g c =
     let old = c.in-Ok.auditor in
     let new = c.serve_lines.new.handler in
-    read_transcript (counted_at old.mixed old.heading old.stage old.edits old.replay.edit old.lines old.whole) _ (counted_at new.mixed new.heading new.stage new.edits new.replay.edit new.lines new.whole) c.verdict.result c.in-Ok.ensures c.in_ok-serve_lines.ensures c.verdict.ensures
+    read_transcript (counted_at old.mixed old.heading old.stage old.edits old.replay.edit old.lines old.whole) _ (counted_at new.mixed new.heading new.stage new.edits new.replay.edit new.lines new.whole) c.verdict.result c.in-Ok.ensures c.in_ok-serve_lines.ensures.served c.verdict.ensures

@@ -11,8 +11,8 @@ returns-in_default g c = (g.R.Read.remaining c.args.reader, record { seen = []; 
 pub returns-then-is_at_end : goal.returns-then-is_at_end
 returns-then-is_at_end g c =
     let old = c.in-Ok.auditor in
-    let new = c.serve_lines_within.new.handler in
-    let lines_served = rw c.in-Err-ReadFault.field-0-is at c.in-Err-ReadFault.ensures in
+    let new = c.serve_lines.new.handler in
+    let lines_served = rw c.in-Err-ReadFault.field-0-is at c.in-Err-ReadFault.ensures.served in
     as_front c.args.most _ _ c.new-whole.ensures c.found.result
     (read_front (counted_at old.mixed old.heading old.stage old.edits old.replay.edit old.lines old.whole) (Unit {0}) c.args.most new.mixed new.heading new.stage new.edits new.replay.edit new.lines new.whole c.found.result
     c.in-Ok.ensures c.requires lines_served (c.is_at_end.ensures c.if-is_at_end.true) c.found.ensures)
@@ -21,5 +21,5 @@ returns-then-is_at_end g c =
 pub returns-in-Err : goal.returns-in-Err
 returns-in-Err g c =
     let old = c.in-Ok.auditor in
-    let new = c.serve_lines_within.new.handler in
-    front_stopped c.args.most _ _ c.new-whole.ensures (counted_at old.mixed old.heading old.stage old.edits old.replay.edit old.lines old.whole) (counted_at new.mixed new.heading new.stage new.edits new.replay.edit new.lines new.whole) (Unit {0}) c.in-Err.fault c.in-Err.ensures
+    let new = c.serve_lines.new.handler in
+    front_stopped c.args.most _ _ c.new-whole.ensures (counted_at old.mixed old.heading old.stage old.edits old.replay.edit old.lines old.whole) (counted_at new.mixed new.heading new.stage new.edits new.replay.edit new.lines new.whole) (Unit {0}) c.in-Err.fault c.in-Err.ensures.served

@@ -28,11 +28,11 @@ pub invariant_of-self-2 : goal.invariant_of-self-2
 invariant_of-self-2 g c =
     let limits = g.N.Naming.limits in
     let s = c.self.inside in
-    let new = c.apply_beside.new.live.history in
+    let new = c.make_edit.new.live.history in
     let stands = c.self.invariant.1 in
     let accepts = c.in_ok-receipt.ensures.answer in
     let left = edits_left limits s.lasts s.head s.live.history _ _ c.self.invariant.2 c.edit.ensures (c.count.ensures ∙ ap length c.see.ensures.same) (c.is_full.ensures.left c.if-is_full.false) in
-    let made = edit_stands limits s.renewed s.capacity s.head c.args.edit s.live.history new c.in_ok-receipt.receipt stands left accepts c.apply_beside.ensures.limits in
+    let made = edit_stands limits s.renewed s.capacity s.head c.args.edit s.live.history new c.in_ok-receipt.receipt stands left accepts c.make_edit.ensures.limits in
     let old = s.live.history.journal in
     let more = ap (λ h. h.journal) accepts.journal in
     let all = all_accepted (vector_limits limits) s.live.history new c.args.edit (Ok c.in_ok-receipt.receipt) stands.vector accepts c.self.invariant.4 in
@@ -40,12 +40,12 @@ invariant_of-self-2 g c =
       omega (arith, ap length longer, length_push s.head c.args.edit, c.enter.ensures.book, c.self.invariant.0),
       subst (λ es. StandsFor limits s.renewed s.capacity es new) (sym longer) made.stands,
       c.self.invariant.2,
-      c.self.invariant.3 ∙ ap Some (sym c.apply_beside.ensures.refresh.body),
+      c.self.invariant.3 ∙ ap Some (sym c.make_edit.ensures.refresh.body),
       all,
-      AreReady-still program_table new.journal s.kinds c.apply_beside.new.kinds c.self.invariant.5.kept.table_is c.apply_beside.ensures.kept,
-      subst (λ t. IfSome t (Taps new.journal)) (sym c.take_edit.ensures.taken)
+      AreReady-still program_table new.journal s.kinds c.make_edit.new.kinds c.self.invariant.5.kept.table_is c.make_edit.ensures.kept,
+      subst (λ t. IfSome t (Taps new.journal)) (sym c.in_ok-receipt.ensures.taken)
           (subst (λ es. IfSome (option_map (with_entry (logged.Edit c.args.edit)) s.tap) (Taps es)) (sym more)
-          (taps_edit s.tap old c.args.edit c.take_edit.ensures.element (subst (AreAccepted greatest) more all) c.self.invariant.6)),
+          (taps_edit s.tap old c.args.edit c.in_ok-receipt.ensures.element (subst (AreAccepted greatest) more all) c.self.invariant.6)),
     )
 
 pub returns-clause-answer : goal.returns-clause-answer
@@ -53,12 +53,12 @@ returns-clause-answer g c =
     let limits = g.N.Naming.limits in
     let s = c.self.inside in
     let left = edits_left limits s.lasts s.head s.live.history _ _ c.self.invariant.2 c.edit.ensures (c.count.ensures ∙ ap length c.see.ensures.same) (c.is_full.ensures.left c.if-is_full.false) in
-    let made = edit_stands limits s.renewed s.capacity s.head c.args.edit s.live.history c.apply_beside.new.live.history c.in_ok-receipt.receipt c.self.invariant.1 left c.in_ok-receipt.ensures.answer c.apply_beside.ensures.limits in
+    let made = edit_stands limits s.renewed s.capacity s.head c.args.edit s.live.history c.make_edit.new.live.history c.in_ok-receipt.receipt c.self.invariant.1 left c.in_ok-receipt.ensures.answer c.make_edit.ensures.limits in
     rw (← c.self.view_is) (accepts_told limits s.renewed s.capacity s.head c.see-2.new.head c.args.edit c.in_ok-receipt.receipt c.with_capacity.result _ made (c.see-2.ensures.same ∙ c.append.ensures ∙ ap (λ es. es ++ c.args.edit ∷ []) c.see.ensures.same) c.with_capacity.ensures)
 
 pub returns-clause-quiet : goal.returns-clause-quiet
 returns-clause-quiet g c no_work =
-    rw (← c.self.view_is) (no_new_wants (vector_limits g.N.Naming.limits) c.self.inside.live c.apply_beside.new.live c.args.edit (Ok c.in_ok-receipt.receipt) c.self.invariant.1.vector c.in_ok-receipt.ensures.answer c.apply_beside.ensures.refresh
+    rw (← c.self.view_is) (no_new_wants (vector_limits g.N.Naming.limits) c.self.inside.live c.make_edit.new.live c.args.edit (Ok c.in_ok-receipt.receipt) c.self.invariant.1.vector c.in_ok-receipt.ensures.answer c.make_edit.ensures.refresh
     (sym (same_work c.self.inside.capacity c.in_ok-receipt.receipt) ∙ ap (λ (receipt : Receipt). makes_work (Ok receipt)) (sym c.with_capacity.ensures) ∙ no_work))
 
 pub returns-clause-number : goal.returns-clause-number
@@ -66,7 +66,7 @@ returns-clause-number g c = λ one.
     let limits = g.N.Naming.limits in
     let s = c.self.inside in
     let left = edits_left limits s.lasts s.head s.live.history _ _ c.self.invariant.2 c.edit.ensures (c.count.ensures ∙ ap length c.see.ensures.same) (c.is_full.ensures.left c.if-is_full.false) in
-    let made = edit_stands limits s.renewed s.capacity s.head c.args.edit s.live.history c.apply_beside.new.live.history c.in_ok-receipt.receipt c.self.invariant.1 left c.in_ok-receipt.ensures.answer c.apply_beside.ensures.limits in
+    let made = edit_stands limits s.renewed s.capacity s.head c.args.edit s.live.history c.make_edit.new.live.history c.in_ok-receipt.receipt c.self.invariant.1 left c.in_ok-receipt.ensures.answer c.make_edit.ensures.limits in
     ap (λ (receipt : Receipt). Ok receipt) (number_told limits s.renewed s.capacity s.head c.see-2.new.head c.args.edit c.in_ok-receipt.receipt c.with_capacity.result _ made (c.see-2.ensures.same ∙ c.append.ensures ∙ ap (λ es. es ++ c.args.edit ∷ []) c.see.ensures.same) c.with_capacity.ensures one)
 
 -- what the vector refuses the hub does

@@ -4,4 +4,4 @@ use Rattle.lv_hub.proofs.leaving.Left.tell.Goals as goal
 
 pub returns-clause-last : goal.returns-clause-last
 returns-clause-last g c =
-    rw (← c.self.view_is) (λ edits many same. tells_last c.args.live.now.history.journal edits c.args.edit _ c.tell.result _ c.tell.ensures.edit many same c.tell.ensures.notes c.tell-2.ensures)
+    rw (← c.self.view_is) (λ edits many same. tells_last c.args.live.now.history.journal edits c.args.edit _ c.tell.result _ c.tell.ensures.edit many same c.tell.ensures.notes c.tell-2.ensures.written)

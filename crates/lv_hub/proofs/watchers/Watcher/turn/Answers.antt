@@ -1,16 +1,16 @@
 -- Proof of `Watcher::turn`: sleeps until there is an edit to tell of, and tells.
-use Rattle.std.proofs.Common.{subst}
-use Rattle.lv_hub.specs.Noticing.{WatcherState, WritesMore, told_text}
+use Rattle.std.proofs.Common.{subst, sym}
+use Rattle.lv_hub.specs.Notes.{HasTold}
+use Rattle.lv_hub.specs.Noticing.{WatcherState}
 use Rattle.lv_hub.proofs.Noticed.{watches_one}
 use Rattle.lv_hub.proofs.watchers.Watcher.turn.Goals as goal
 
 pub returns-in-Ok-Some : goal.returns-in-Ok-Some
 returns-in-Ok-Some g c =
     let old : WatcherState = record { subscriber = c.self.inside.subscriber; notices = c.self.inside.notices } in
-    let new : WatcherState = record { subscriber = c.next.new.self; notices = c.tell.new.self } in
-    let wrote : WritesMore (told_text g.N.Naming.numbers c.in-Ok-Some.told) old.notices new.notices = subst (λ numbers. WritesMore (told_text numbers c.in-Ok-Some.told) old.notices new.notices) c.self.invariant.2 c.tell.ensures in
-    rw (← c.self.view_is) (watches_one g.N.Naming.limits g.N.Naming.numbers old new c.in-Ok-Some.told (rw c.in-Ok-Some.field-0-is at c.in-Ok-Some.ensures.told) wrote)
+    let has = subst (λ s. HasTold g.N.Naming.limits old.subscriber s c.in-Ok-Some.told) (sym c.tell.ensures.subscriber) (rw c.in-Ok-Some.field-0-is at c.in-Ok-Some.ensures.told) in
+    rw (← c.self.view_is) (watches_one g.N.Naming.limits g.N.Naming.numbers old c.tell.new.self c.in-Ok-Some.told has c.tell.ensures.written)
 
 -- what was told is an edit of a hub, which has few enough
-pub tell-requires-clause-few : goal.tell-requires-clause-few
-tell-requires-clause-few g c = rw c.in-Ok-Some.field-0-is at c.in-Ok-Some.ensures.few
+pub tell-requires : goal.tell-requires
+tell-requires g c = record { few = rw c.in-Ok-Some.field-0-is at c.in-Ok-Some.ensures.few }
