@@ -10,10 +10,11 @@ use crate::words::{next_word, only_word};
 use lv_bodies::{Kind, Name};
 
 /// Whether a word is this text.
+#[inline(always)]
 pub fn spells(word: &[u8], text: &str) -> bool
     ensures { result ≡ bytes_eq word.now text.now }
 {
-    word == text.as_bytes()
+    word.len() == text.len() && word.starts_with(text.as_bytes())
 }
 
 /// The kind that goes by a word.
@@ -43,6 +44,7 @@ pub fn kind(word: &[u8]) -> Option<Kind>
 }
 
 /// The number up to a bound that the one word is; none where there are no words, or more than one.
+#[inline(always)]
 pub fn lone_up_to(words: &[u8], most: u64) -> Option<u64>
     ensures number { result ≡ lone (number_up_to most) (words_of words.now) }
     ensures small { IfSome result (λ n. n ≤ most) }
@@ -63,6 +65,7 @@ pub fn lone_number(words: &[u8]) -> Option<u32>
 }
 
 /// The element that the one word is.
+#[inline(always)]
 pub fn lone_element(words: &[u8]) -> Option<i64>
     ensures { result ≡ lone element_in (words_of words.now) }
 {

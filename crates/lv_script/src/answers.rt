@@ -34,6 +34,7 @@ use lv_standing::{Note, Standing};
 use std::io::Write;
 
 /// Answers a command. Only the reply to a scan may be longer than what is held. `notes` is room for the notes of an edit.
+#[inline(always)]
 pub fn answer<W: Write>(
     standing: &mut Standing,
     notes: &mut Vec<Note>,
