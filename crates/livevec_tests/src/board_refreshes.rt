@@ -158,7 +158,7 @@ fn edit_beside_sums<R: Threads + Sync>(
     )
 }
 
-// Each answer is the sum after its edit, by the receipts, and every other reduction was overtaken.
+// Each answer is the sum after its edit, by the receipts, and every other reduction was overtaken. At least one was answered.
 fn assert_sums(rt: &impl Abort, made: &[Made], summed: &Summed) {
     for answer in summed.answers.as_slice() {
         assert_same(
@@ -169,6 +169,7 @@ fn assert_sums(rt: &impl Abort, made: &[Made], summed: &Summed) {
     }
     let answered = summed.answers.len();
     assert_same(rt, &answered.wrapping_add(summed.overtaken), &400);
+    assert_same(rt, &(answered > 0), &true);
 }
 
 // Once nobody edits, a refresh tells the last write, and a sum reads one summary.
