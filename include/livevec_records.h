@@ -3,74 +3,52 @@
 #ifndef LIVEVEC_RECORDS_H
 #define LIVEVEC_RECORDS_H
 
-/** Slots. All zeros is 'empty'. The fields are the library's own. */
+/** What each slot begins with: what it holds, and all that a proved export knows of it. All zeros is 'empty'. The fields are the library's own. */
+typedef struct livevec_handle {
+    bool full_; /**< the library's own */
+    void *at_;  /**< the library's own */
+} livevec_handle;
+
+/** The handle of a vector. Zeros mean that it is empty. */
 typedef struct livevec_vector {
-    /**@{*/
-    /** The library's own. */
-    bool full_;
-    void *at_;
-    unsigned char busy_;
-    /**@}*/
+    livevec_handle handle_; /**< the library's own */
+    unsigned char busy_;    /**< the library's own */
 } livevec_vector;
 
 /** The handle of a job. Zeros mean that it is empty. */
 typedef struct livevec_job {
-    /**@{*/
-    /** The library's own. */
-    bool full_;
-    void *at_;
-    unsigned char busy_;
-    /**@}*/
+    livevec_handle handle_; /**< the library's own */
+    unsigned char busy_;    /**< the library's own */
 } livevec_job;
 
 /** The handle of an outcome. Zeros mean that it is empty. */
 typedef struct livevec_outcome {
-    /**@{*/
-    /** The library's own. */
-    bool full_;
-    void *at_;
-    unsigned char busy_;
-    /**@}*/
+    livevec_handle handle_; /**< the library's own */
+    unsigned char busy_;    /**< the library's own */
 } livevec_outcome;
 
 /** Its slot has jobs of many blocks, or the job of a subtree, and once they are run, what they gave. */
 typedef struct livevec_batch {
-    /**@{*/
-    /** The library's own. */
-    bool full_;
-    void *at_;
-    unsigned char busy_;
-    /**@}*/
+    livevec_handle handle_; /**< the library's own */
+    unsigned char busy_;    /**< the library's own */
 } livevec_batch;
 
 /** Its slot has the board, and once that is closed, what it came to. */
 typedef struct livevec_board {
-    /**@{*/
-    /** The library's own. */
-    bool full_;
-    void *at_;
-    unsigned char busy_;
-    /**@}*/
+    livevec_handle handle_; /**< the library's own */
+    unsigned char busy_;    /**< the library's own */
 } livevec_board;
 
 /** The handle of a seat. Zeros mean that it is empty. */
 typedef struct livevec_seat {
-    /**@{*/
-    /** The library's own. */
-    bool full_;
-    void *at_;
-    unsigned char busy_;
-    /**@}*/
+    livevec_handle handle_; /**< the library's own */
+    unsigned char busy_;    /**< the library's own */
 } livevec_seat;
 
 /** Its slot has a set of standing queries. */
 typedef struct livevec_queries {
-    /**@{*/
-    /** The library's own. */
-    bool full_;
-    void *at_;
-    unsigned char busy_;
-    /**@}*/
+    livevec_handle handle_; /**< the library's own */
+    unsigned char busy_;    /**< the library's own */
 } livevec_queries;
 
 /** An automaton of eight states: from state q, an element x leads to next[q][x mod 4], the remainder never negative. */

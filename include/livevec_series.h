@@ -15,12 +15,8 @@
 
 /** The handle of a series. Zeros mean that it is empty. */
 typedef struct livevec_series {
-    /**@{*/
-    /** The library's own. */
-    bool full_;
-    void *at_;
-    unsigned char busy_;
-    /**@}*/
+    livevec_handle handle_; /**< the library's own */
+    unsigned char busy_;    /**< the library's own */
 } livevec_series;
 
 /** What an edit of a series answers. If it was refused, all but the first three is 0; `first` and `size` are told only with OUT_OF_RANGE, here
