@@ -77,8 +77,8 @@ VALUED(livevec_reduced, ask, (livevec_vector *slot, uint32_t lo, uint32_t hi), v
 VALUED(livevec_reduced, value, (livevec_vector *slot, uint32_t kind, uint32_t lo, uint32_t hi), value(slot, BY_KIND, kind, lo, hi))
 
 /* `livevec_where_NAME` by the number under which the proved export knows what is looked for. */
-#define FOUND_BY(name, wanted) FOUND_IN(livevec_found, livevec_where_##name, livevec_proved_find, livevec_vector, uint32_t, wanted)
-#define FOUND_BY_BOUND(name, wanted) FOUND_IN_BY(livevec_found, livevec_where_##name, livevec_proved_find, livevec_vector, uint32_t, wanted)
+#define FOUND_BY(name, wanted) FOUND_IN(livevec_found, where_##name, find, livevec_vector, uint32_t, wanted)
+#define FOUND_BY_BOUND(name, wanted) FOUND_IN_BY(livevec_found, where_##name, find, livevec_vector, uint32_t, wanted)
 livevec_found livevec_proved_find(livevec_vector *slot, uint32_t wanted, int64_t x, uint32_t lo, uint32_t hi);
 
 EACH_SEARCH(FOUND_BY, FOUND_BY_BOUND)
@@ -103,9 +103,8 @@ ANSWERED_AT_TWO(livevec_accepted, accept, (livevec_vector *slot, livevec_outcome
 TOLD(forget, (livevec_vector *slot), slot, (slot))
 /* Jobs that are copied: of blocks, or of a subtree. */
 livevec_count livevec_proved_copy(livevec_vector *slot, livevec_batch *batch, bool subtree, uint32_t first, uint32_t limit);
-#define COPIED(name, parameters, call)                                                                                          \
-    BY_PROVED(livevec_count, AS_STRUCT, name, parameters, THERE(slot && batch), enter_both(&slot->busy_, enter_to_read, &batch->busy_, enter), \
-              LEAVES_BOTH(slot, batch), call)
+#define COPIED(name, parameters, call) \
+    IN_BOTH(livevec_count, AS_STRUCT, name, parameters, THERE(slot && batch), slot, enter_to_read, batch, enter, livevec_proved_##call)
 COPIED(blocks, (livevec_vector *slot, livevec_batch *batch, uint32_t first, uint32_t limit), copy(slot, batch, false, first, limit))
 COPIED(subtree, (livevec_vector *slot, livevec_batch *batch, uint32_t number), copy(slot, batch, true, number, 0))
 ANSWERED_AT_TWO(livevec_count, accept_subtree, (livevec_vector *slot, livevec_batch *batch), slot, enter, batch, enter, (slot, batch))

@@ -13,34 +13,21 @@ EDITED(livevec_edited, seat_pop, (livevec_seat *slot, uint32_t tries), seat_call
 EDITED(livevec_edited, seat_write, (livevec_seat *slot, uint32_t index, int64_t value, uint32_t tries),
        seat_call(slot, LIVEVEC_WRITE, index, value, tries))
 
-static livevec_edited called(livevec_seat *seat, bool (*as_slot)(unsigned char *), uint32_t what, uint32_t index)
+static livevec_element as_element(livevec_edited told)
 {
-    if (!seat)
-        return (livevec_edited){.refusal = LIVEVEC_NULL};
-    if (!as_slot(&seat->busy_))
-        return (livevec_edited){.refusal = LIVEVEC_BUSY};
-    LEAVES(left, seat);
-    return livevec_proved_seat_call(seat, what, index, 0, 1);
-}
-
-livevec_element livevec_seat_get(livevec_seat *seat, uint32_t index)
-{
-    livevec_edited told = called(seat, enter_to_read, LOOK_AT, index);
     return (livevec_element){.refusal = told.refusal, .detail = told.detail, .value = told.value};
 }
-
-livevec_count livevec_seat_size(livevec_seat *seat)
+static livevec_count as_count(livevec_edited told)
 {
-    livevec_edited told = called(seat, enter_to_read, COUNT, 0);
     return (livevec_count){.refusal = told.refusal, .value = told.place};
 }
-
-livevec_renewed livevec_seat_refresh(livevec_seat *seat, uint32_t block)
+static livevec_renewed as_renewed(livevec_edited told)
 {
-    livevec_edited told = called(seat, enter, REFRESH, block);
     return (livevec_renewed){.refusal = told.refusal, .detail = told.detail, .edit = told.edit, .version = told.place};
 }
-
+LOOKS_AT(livevec_element, seat_get, (livevec_seat *slot, uint32_t index), THERE(slot), as_element(livevec_proved_seat_call(slot, LOOK_AT, index, 0, 1)))
+LOOKS_AT(livevec_count, seat_size, (livevec_seat *slot), THERE(slot), as_count(livevec_proved_seat_call(slot, COUNT, 0, 0, 1)))
+EDITS(livevec_renewed, seat_refresh, (livevec_seat *slot, uint32_t block), THERE(slot), as_renewed(livevec_proved_seat_call(slot, REFRESH, block, 0, 1)))
 READS(livevec_reduced, seat_reduce, (livevec_seat *seat, uint32_t lo, uint32_t hi), seat, (seat, lo, hi))
 ANSWERED(livevec_count, board_close, (livevec_board *board), board, (board))
 COUNTED(livevec_count, closed_size, livevec_board, A_BOARD, ELEMENTS)
@@ -52,25 +39,12 @@ FREED(free_seat, livevec_seat, A_SEAT)
 /* Each board has a stamp of its own, which its seats have too: so a seat is told from those of other boards. */
 uint32_t livevec_proved_board_new(livevec_board *slot, uint32_t kind, uint32_t buckets, uint32_t edits, uint32_t seats, uint64_t stamp);
 
-uint32_t livevec_board_new(livevec_board *slot, uint32_t kind, uint32_t buckets, uint32_t edits, uint32_t seats)
-{
-    static _Atomic uint64_t stamps;
-    if (!slot)
-        return LIVEVEC_NULL;
-    if (!enter(&slot->busy_))
-        return LIVEVEC_BUSY;
-    LEAVES(left, slot);
-    return livevec_proved_board_new(slot, kind, buckets, edits, seats, atomic_fetch_add(&stamps, 1));
-}
+static _Atomic uint64_t stamps;
+ENTERED(uint32_t, AS_NUMBER, board_new, (livevec_board *slot, uint32_t kind, uint32_t buckets, uint32_t edits, uint32_t seats), THERE(slot), slot, enter,
+        board_new(slot, kind, buckets, edits, seats, atomic_fetch_add(&stamps, 1)))
 
-uint32_t livevec_closed_read(livevec_board *board, int64_t *buffer, size_t room, uint32_t *count)
+static uint32_t read_closed(livevec_board *board, int64_t *buffer, size_t room, uint32_t *count)
 {
-    uint32_t why = first_of(THERE(board && count), ARRAY(buffer, room));
-    if (why)
-        return why;
-    if (!enter_to_read(&board->busy_))
-        return LIVEVEC_BUSY;
-    LEAVES(left, board);
     livevec_series_count size = livevec_proved_count(board, A_BOARD, ELEMENTS);
     if (size.refusal)
         return size.refusal;
@@ -81,3 +55,5 @@ uint32_t livevec_closed_read(livevec_board *board, int64_t *buffer, size_t room,
         buffer[i] = livevec_proved_get(board, A_BOARD, i).value;
     return LIVEVEC_OK;
 }
+IN_SLOT(uint32_t, AS_NUMBER, closed_read, (livevec_board *board, int64_t *buffer, size_t room, uint32_t *count),
+        first_of(THERE(board && count), ARRAY(buffer, room)), board, enter_to_read, read_closed(board, buffer, room, count))

@@ -53,13 +53,8 @@ static livevec_series_summed add_up(void *slot, bool is_series, uint64_t lo, uin
     return (livevec_series_summed){.edit = least.edit, .sum = {.low = (uint64_t)sum, .high = (int64_t)(sum >> 64)}};
 }
 
-livevec_summed livevec_exact_sum(livevec_vector *slot, uint32_t lo, uint32_t hi)
+static livevec_summed add_up_vector(livevec_vector *slot, uint32_t lo, uint32_t hi)
 {
-    if (!slot)
-        return (livevec_summed){.refusal = LIVEVEC_NULL};
-    if (!enter_to_read(&slot->busy_))
-        return (livevec_summed){.refusal = LIVEVEC_BUSY};
-    LEAVES(left, slot);
     livevec_scanned range = judge_range(slot, lo, hi, SIZE_MAX);
     if (range.refusal)
         return (livevec_summed){.refusal = range.refusal, .detail = range.detail};
@@ -67,12 +62,5 @@ livevec_summed livevec_exact_sum(livevec_vector *slot, uint32_t lo, uint32_t hi)
     return (livevec_summed){.refusal = told.refusal, .edit = range.edit, .sum = told.sum};
 }
 
-livevec_series_summed livevec_series_exact_sum(livevec_series *slot, uint64_t lo, uint64_t hi)
-{
-    if (!slot)
-        return (livevec_series_summed){.refusal = LIVEVEC_NULL};
-    if (!enter_to_read(&slot->busy_))
-        return (livevec_series_summed){.refusal = LIVEVEC_BUSY};
-    LEAVES(left, slot);
-    return add_up(slot, true, lo, hi);
-}
+LOOKS_AT(livevec_summed, exact_sum, (livevec_vector *slot, uint32_t lo, uint32_t hi), THERE(slot), add_up_vector(slot, lo, hi))
+LOOKS_AT(livevec_series_summed, series_exact_sum, (livevec_series *slot, uint64_t lo, uint64_t hi), THERE(slot), add_up(slot, true, lo, hi))

@@ -4,27 +4,11 @@
 static const uint32_t no_index[1];
 static const int64_t no_value[1];
 
-livevec_pushed livevec_push_many(livevec_vector *slot, const int64_t *values, size_t length)
-{
-    uint32_t why = first_of(THERE(slot), ARRAY(values, length));
-    if (why)
-        return (livevec_pushed){.refusal = why};
-    if (!enter(&slot->busy_))
-        return (livevec_pushed){.refusal = LIVEVEC_BUSY};
-    LEAVES(left, slot);
-    return push_all(slot, values, length);
-}
-
-livevec_many livevec_write_many(livevec_vector *slot, const uint32_t *indices, const int64_t *values, size_t length)
-{
-    uint32_t why = first_of(THERE(slot && (indices || !length)), ARRAY(values, length));
-    if (why)
-        return (livevec_many){.refusal = why};
-    if (!enter(&slot->busy_))
-        return (livevec_many){.refusal = LIVEVEC_BUSY};
-    LEAVES(left, slot);
-    return livevec_proved_edit_all(slot, false, length ? indices : no_index, length, length ? values : no_value, length);
-}
+EDITS(livevec_pushed, push_many, (livevec_vector *slot, const int64_t *values, size_t length), first_of(THERE(slot), ARRAY(values, length)),
+      push_all(slot, values, length))
+EDITS(livevec_many, write_many, (livevec_vector *slot, const uint32_t *indices, const int64_t *values, size_t length),
+      first_of(THERE(slot && (indices || !length)), ARRAY(values, length)),
+      livevec_proved_edit_all(slot, false, length ? indices : no_index, length, length ? values : no_value, length))
 
 /* What the first of some ranges that is refused is refused with, at a slot that is entered. An empty range is refused by its kind or
  * its slot alone. */
@@ -45,17 +29,13 @@ static livevec_many judge_ranges(livevec_vector *slot, uint32_t kind, const live
     return answer;
 }
 
-livevec_many livevec_value_many(livevec_vector *slot, uint32_t kind, const livevec_range *ranges, livevec_values *answers, size_t length)
+static livevec_many answer_ranges(livevec_vector *slot, uint32_t kind, const livevec_range *ranges, livevec_values *answers, size_t length)
 {
-    livevec_many answer = {.refusal = first_of(THERE(slot && (ranges || !length)), ARRAY(answers, length))};
-    if (answer.refusal)
-        return answer;
-    answer.refusal = LIVEVEC_BUSY;
-    if (!enter_to_read(&slot->busy_))
-        return answer;
-    LEAVES(left, slot);
-    answer = judge_ranges(slot, kind, ranges, length);
+    livevec_many answer = judge_ranges(slot, kind, ranges, length);
     for (size_t i = 0; i < answer.done; i++)
         answers[i] = livevec_proved_value(slot, BY_KIND, kind, ranges[i].lo, ranges[i].hi).values;
     return answer;
 }
+
+LOOKS_AT(livevec_many, value_many, (livevec_vector *slot, uint32_t kind, const livevec_range *ranges, livevec_values *answers, size_t length),
+         first_of(THERE(slot && (ranges || !length)), ARRAY(answers, length)), answer_ranges(slot, kind, ranges, answers, length))

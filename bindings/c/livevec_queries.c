@@ -20,32 +20,27 @@ livevec_series_noted livevec_proved_notes(livevec_queries *slot, void *target, l
 
 #define PLACES(notes) ((notes) ? (notes) : &(livevec_note){.kind = 0})
 
-BY_PROVED(livevec_series_reduced, AS_STRUCT, series_answer, (livevec_queries *slot, livevec_series *series, NAMED), THERE(slot && series && name),
-          enter_both(&slot->busy_, enter_to_read, &series->busy_, enter_to_read), LEAVES_BOTH(slot, series), answer(slot, series, name, OF_NAME(name_length)))
-BY_PROVED(livevec_series_noted, AS_STRUCT, series_notes, (livevec_queries *slot, livevec_series *series, livevec_note *notes, size_t room),
-          first_of(THERE(slot && series), ARRAY(notes, room)), enter_both(&slot->busy_, enter, &series->busy_, enter_to_read), LEAVES_BOTH(slot, series),
-          notes(slot, series, PLACES(notes), room))
+/* Both are entered, to be asked and to be told of. */
+#define ASKED(answer, function, parameters, target, ...) \
+    IN_BOTH(answer, AS_STRUCT, function, parameters, THERE(slot && target && name), slot, enter_to_read, target, enter_to_read, __VA_ARGS__)
+#define NOTED(answer, function, parameters, target, ...) \
+    IN_BOTH(answer, AS_STRUCT, function, parameters, first_of(THERE(slot && target), ARRAY(notes, room)), slot, enter, target, enter_to_read, __VA_ARGS__)
 
-livevec_reduced livevec_answer(livevec_queries *slot, livevec_vector *vector, NAMED)
+ASKED(livevec_series_reduced, series_answer, (livevec_queries *slot, livevec_series *series, NAMED), series,
+      livevec_proved_answer(slot, series, name, OF_NAME(name_length)))
+NOTED(livevec_series_noted, series_notes, (livevec_queries *slot, livevec_series *series, livevec_note *notes, size_t room), series,
+      livevec_proved_notes(slot, series, PLACES(notes), room))
+
+/* The same in numbers of 32 bits. */
+static livevec_reduced narrow(livevec_series_reduced told)
 {
-    uint32_t why = THERE(slot && vector && name);
-    if (why)
-        return (livevec_reduced){.refusal = why};
-    if (!enter_both(&slot->busy_, enter_to_read, &vector->busy_, enter_to_read))
-        return (livevec_reduced){.refusal = LIVEVEC_BUSY};
-    LEAVES_BOTH(slot, vector);
-    livevec_series_reduced told = livevec_proved_answer(slot, vector, name, OF_NAME(name_length));
     return (livevec_reduced){.refusal = told.refusal, .edit = (uint32_t)told.edit, .values = told.values};
 }
-
-livevec_noted livevec_notes(livevec_queries *slot, livevec_vector *vector, livevec_note *notes, size_t room)
+static livevec_noted narrow_notes(livevec_series_noted told)
 {
-    uint32_t why = first_of(THERE(slot && vector), ARRAY(notes, room));
-    if (why)
-        return (livevec_noted){.refusal = why};
-    if (!enter_both(&slot->busy_, enter, &vector->busy_, enter_to_read))
-        return (livevec_noted){.refusal = LIVEVEC_BUSY};
-    LEAVES_BOTH(slot, vector);
-    livevec_series_noted told = livevec_proved_notes(slot, vector, PLACES(notes), room);
     return (livevec_noted){.refusal = told.refusal, .detail = told.detail, .edit = (uint32_t)told.edit, .count = told.count};
 }
+ASKED(livevec_reduced, answer, (livevec_queries *slot, livevec_vector *vector, NAMED), vector,
+      narrow(livevec_proved_answer(slot, vector, name, OF_NAME(name_length))))
+NOTED(livevec_noted, notes, (livevec_queries *slot, livevec_vector *vector, livevec_note *notes, size_t room), vector,
+      narrow_notes(livevec_proved_notes(slot, vector, PLACES(notes), room)))

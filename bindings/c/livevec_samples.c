@@ -22,18 +22,13 @@ AT_VALUES(livevec_window, AS_STRUCT, samples_last, (livevec_samples *slot, uint6
 ENTERED(livevec_series_scanned, AS_STRUCT, samples_times, (livevec_samples *slot, uint64_t lo, uint64_t hi, int64_t *buffer, size_t length),
         first_of(THERE(slot), ARRAY(buffer, length)), &slot->values, enter_to_read, series_read(&slot->values, true, lo, hi, buffer ? buffer : &(int64_t){0}, length))
 
-livevec_series_many livevec_samples_push_many(livevec_samples *slot, const int64_t *times, const int64_t *values, size_t length)
+/* Pushes up to the first that is refused. */
+static livevec_series_many push_samples(livevec_series *slot, const int64_t *times, const int64_t *values, size_t length)
 {
-    uint32_t why = first_of(THERE(slot && (times || !length)), ARRAY(values, length));
-    if (why)
-        return (livevec_series_many){.refusal = why};
-    if (!enter(&slot->values.busy_))
-        return (livevec_series_many){.refusal = LIVEVEC_BUSY};
-    LEAVES(left, (&slot->values));
-    livevec_window none = livevec_proved_samples_window(&slot->values, true, 0, 0, 0);
+    livevec_window none = livevec_proved_samples_window(slot, true, 0, 0, 0);
     livevec_series_many answer = {.refusal = none.refusal, .edit = none.edit};
     for (; !answer.refusal && answer.done < length; answer.done++) {
-        livevec_series_edited pushed = livevec_proved_samples_edit(&slot->values, false, times[answer.done], values[answer.done]);
+        livevec_series_edited pushed = livevec_proved_samples_edit(slot, false, times[answer.done], values[answer.done]);
         if (pushed.refusal) {
             answer.refusal = pushed.refusal;
             answer.place = answer.done;
@@ -43,6 +38,8 @@ livevec_series_many livevec_samples_push_many(livevec_samples *slot, const int64
     }
     return answer;
 }
+IN_SLOT(livevec_series_many, AS_STRUCT, samples_push_many, (livevec_samples *slot, const int64_t *times, const int64_t *values, size_t length),
+        first_of(THERE(slot && (times || !length)), ARRAY(values, length)), &slot->values, enter, push_samples(&slot->values, times, values, length))
 
 /* The value of a window of a slot that is entered. */
 static livevec_series_reduced value_in(livevec_series *values, uint32_t kind, livevec_window window)
@@ -52,25 +49,12 @@ static livevec_series_reduced value_in(livevec_series *values, uint32_t kind, li
     return livevec_proved_series_value(values, BY_KIND, kind, window.lo, window.hi);
 }
 
-livevec_series_reduced livevec_samples_value(livevec_samples *slot, uint32_t kind, int64_t since, int64_t until)
-{
-    if (!slot)
-        return (livevec_series_reduced){.refusal = LIVEVEC_NULL};
-    if (!enter_to_read(&slot->values.busy_))
-        return (livevec_series_reduced){.refusal = LIVEVEC_BUSY};
-    LEAVES(left, (&slot->values));
-    return value_in(&slot->values, kind, livevec_proved_samples_window(&slot->values, false, since, until, 0));
-}
+#define VALUED_IN(name, parameters, kind, ...) \
+    IN_SLOT(livevec_series_reduced, AS_STRUCT, name, parameters, THERE(slot), &slot->values, enter_to_read, \
+            value_in(&slot->values, kind, livevec_proved_samples_window(&slot->values, __VA_ARGS__)))
 
-livevec_series_reduced livevec_samples_value_of_last(livevec_samples *slot, uint32_t kind, uint64_t span)
-{
-    if (!slot)
-        return (livevec_series_reduced){.refusal = LIVEVEC_NULL};
-    if (!enter_to_read(&slot->values.busy_))
-        return (livevec_series_reduced){.refusal = LIVEVEC_BUSY};
-    LEAVES(left, (&slot->values));
-    return value_in(&slot->values, kind, livevec_proved_samples_window(&slot->values, true, 0, 0, span));
-}
+VALUED_IN(samples_value, (livevec_samples *slot, uint32_t kind, int64_t since, int64_t until), kind, false, since, until, 0)
+VALUED_IN(samples_value_of_last, (livevec_samples *slot, uint32_t kind, uint64_t span), kind, true, 0, 0, span)
 
 /* As bytes. */
 ENTERED(livevec_series_scanned, AS_STRUCT, series_save, (livevec_series *slot, uint64_t from, uint8_t *buffer, size_t length),

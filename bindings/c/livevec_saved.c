@@ -31,14 +31,8 @@ static uint32_t copy(livevec_series *made, livevec_vector *slot)
     return why;
 }
 
-livevec_scanned livevec_save(livevec_vector *slot, uint64_t from, uint8_t *buffer, size_t length)
+static livevec_scanned save_piece(livevec_vector *slot, uint64_t from, uint8_t *buffer, size_t length)
 {
-    uint32_t why = first_of(THERE(slot), ARRAY(buffer, length));
-    if (why)
-        return (livevec_scanned){.refusal = why};
-    if (!enter_to_read(&slot->busy_))
-        return (livevec_scanned){.refusal = LIVEVEC_BUSY};
-    LEAVES(left, slot);
     livevec_series_count edits = livevec_proved_count(slot, A_VECTOR, ACCEPTED);
     if (edits.refusal)
         return (livevec_scanned){.refusal = edits.refusal};
@@ -51,6 +45,8 @@ livevec_scanned livevec_save(livevec_vector *slot, uint64_t from, uint8_t *buffe
         return (livevec_scanned){.refusal = told.refusal};
     return (livevec_scanned){.edit = (uint32_t)edits.value, .length = (uint32_t)told.length};
 }
+LOOKS_AT(livevec_scanned, save, (livevec_vector *slot, uint64_t from, uint8_t *buffer, size_t length), first_of(THERE(slot), ARRAY(buffer, length)),
+         save_piece(slot, from, buffer, length))
 
 /* Puts a series into an empty slot that has these bytes. If it was refused the slot may hold what was given so far. */
 static uint32_t load(livevec_series *made, const uint8_t *bytes, size_t length)
@@ -61,16 +57,10 @@ static uint32_t load(livevec_series *made, const uint8_t *bytes, size_t length)
     return why ? why : livevec_proved_series_end_load(made, false);
 }
 
-livevec_pushed livevec_push_saved(livevec_vector *slot, const uint8_t *bytes, size_t length)
+static livevec_pushed push_elements_of(livevec_vector *slot, const uint8_t *bytes, size_t length)
 {
     static const int64_t nowhere[1];
-    uint32_t why = first_of(THERE(slot), ARRAY(bytes, length));
-    if (why)
-        return (livevec_pushed){.refusal = why};
-    if (!enter(&slot->busy_))
-        return (livevec_pushed){.refusal = LIVEVEC_BUSY};
-    LEAVES(left, slot);
-    why = livevec_proved_count(slot, A_VECTOR, ELEMENTS).refusal;
+    uint32_t why = livevec_proved_count(slot, A_VECTOR, ELEMENTS).refusal;
     if (why)
         return (livevec_pushed){.refusal = why};
     livevec_series made = {0};
@@ -84,3 +74,5 @@ livevec_pushed livevec_push_saved(livevec_vector *slot, const uint8_t *bytes, si
     livevec_proved_free(&made, A_SERIES);
     return answer;
 }
+EDITS(livevec_pushed, push_saved, (livevec_vector *slot, const uint8_t *bytes, size_t length), first_of(THERE(slot), ARRAY(bytes, length)),
+      push_elements_of(slot, bytes, length))

@@ -1,24 +1,17 @@
 /* The elements of a range, and its running values, into buffers. */
 #include "livevec_slots.h"
 
-/* `livevec_NAME` fills a buffer, each place i by `value`. A null buffer takes no values. */
-#define FILLED(name, type, filling)                                                                            \
-    livevec_scanned livevec_##name(livevec_vector *slot, uint32_t lo, uint32_t hi, type *buffer, size_t length) \
-    {                                                                                                          \
-        livevec_scanned answer = {.refusal = first_of(THERE(slot), ARRAY(buffer, length))};                    \
-        if (answer.refusal)                                                                                    \
-            return answer;                                                                                     \
-        answer.refusal = LIVEVEC_BUSY;                                                                         \
-        if (!enter_to_read(&slot->busy_))                                                                              \
-            return answer;                                                                                     \
-        LEAVES(left, slot);                                                                                    \
-        answer = judge_range(slot, lo, hi, length);                                                            \
-        for (uint32_t i = 0; i < answer.length; i++)                                                           \
-            buffer[i] = filling;                                                                               \
-        return answer;                                                                                         \
-    }
+/* A null buffer takes no values. */
+static livevec_scanned read_range(livevec_vector *slot, uint32_t lo, uint32_t hi, int64_t *buffer, size_t length)
+{
+    livevec_scanned answer = judge_range(slot, lo, hi, length);
+    for (uint32_t i = 0; i < answer.length; i++)
+        buffer[i] = livevec_proved_get(slot, A_VECTOR, lo + i).value;
+    return answer;
+}
 
-FILLED(read, int64_t, livevec_proved_get(slot, A_VECTOR, lo + i).value)
+LOOKS_AT(livevec_scanned, read, (livevec_vector *slot, uint32_t lo, uint32_t hi, int64_t *buffer, size_t length),
+         first_of(THERE(slot), ARRAY(buffer, length)), read_range(slot, lo, hi, buffer, length))
 
 /* Scans: a proved call fills the whole column. */
 livevec_scanned livevec_proved_scan(livevec_vector *slot, uint32_t by, uint32_t lo, uint32_t hi, bool inclusive, COLUMNS);
@@ -35,7 +28,7 @@ static livevec_scanned scan(uint32_t why, livevec_vector *slot, columns to, uint
 
 #define INTO(cell) (livevec_vector *slot, uint32_t lo, uint32_t hi, cell *column, size_t length)
 #define SCANNED(ending, by, field, cell)                                                                       \
-    SCAN(livevec_scanned, livevec_scan_inclusive##ending, INTO(cell), scan, field, by, lo, hi, true)           \
-    SCAN(livevec_scanned, livevec_scan_exclusive##ending, INTO(cell), scan, field, by, lo, hi, false)
+    SCAN(livevec_scanned, scan_inclusive##ending, INTO(cell), scan, field, by, lo, hi, true)           \
+    SCAN(livevec_scanned, scan_exclusive##ending, INTO(cell), scan, field, by, lo, hi, false)
 
 EACH_SCAN(SCANNED)

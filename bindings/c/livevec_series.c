@@ -20,16 +20,12 @@ COUNTED(livevec_series_count, series_size, livevec_series, A_SERIES, BEHIND_LAST
 COUNTED(livevec_series_count, series_edits, livevec_series, A_SERIES, SERIES_ACCEPTED)
 COUNTED(livevec_series_count, series_saved_length, livevec_series, A_SERIES, SAVED_BYTES)
 
-livevec_series_element livevec_series_get(livevec_series *slot, uint64_t index)
+static livevec_series_element without_time(livevec_sample told)
 {
-    if (!slot)
-        return (livevec_series_element){.refusal = LIVEVEC_NULL};
-    if (!enter_to_read(&slot->busy_))
-        return (livevec_series_element){.refusal = LIVEVEC_BUSY};
-    LEAVES(left, slot);
-    livevec_sample told = livevec_proved_series_get(slot, index, false);
     return (livevec_series_element){.refusal = told.refusal, .first = told.first, .size = told.size, .value = told.value};
 }
+LOOKS_AT(livevec_series_element, series_get, (livevec_series *slot, uint64_t index), THERE(slot),
+         without_time(livevec_proved_series_get(slot, index, false)))
 
 /* Of arrays a proved call is never given a null pointer: where there are no places, they begin anywhere. */
 livevec_series_scanned livevec_proved_series_read(livevec_series *slot, bool times, uint64_t lo, uint64_t hi, int64_t *buffer, size_t length);
@@ -38,40 +34,18 @@ livevec_series_scanned livevec_proved_series_read(livevec_series *slot, bool tim
 static const uint64_t no_index[1];
 static const int64_t no_value[1];
 
-livevec_series_pushed livevec_series_push_many(livevec_series *slot, const int64_t *values, size_t length)
+static livevec_series_pushed as_pushed(livevec_series_many told)
 {
-    uint32_t why = first_of(THERE(slot), ARRAY(values, length));
-    if (why)
-        return (livevec_series_pushed){.refusal = why};
-    if (!enter(&slot->busy_))
-        return (livevec_series_pushed){.refusal = LIVEVEC_BUSY};
-    LEAVES(left, slot);
-    livevec_series_many told = livevec_proved_series_edit_all(slot, true, no_index, 0, length ? values : no_value, length);
     return (livevec_series_pushed){.refusal = told.refusal, .edit = told.edit, .pushed = told.done};
 }
-
-livevec_series_many livevec_series_write_many(livevec_series *slot, const uint64_t *indices, const int64_t *values, size_t length)
-{
-    uint32_t why = first_of(THERE(slot && (indices || !length)), ARRAY(values, length));
-    if (why)
-        return (livevec_series_many){.refusal = why};
-    if (!enter(&slot->busy_))
-        return (livevec_series_many){.refusal = LIVEVEC_BUSY};
-    LEAVES(left, slot);
-    return livevec_proved_series_edit_all(slot, false, length ? indices : no_index, length, length ? values : no_value, length);
-}
-
-livevec_series_scanned livevec_series_read(livevec_series *slot, uint64_t lo, uint64_t hi, int64_t *buffer, size_t length)
-{
-    int64_t nowhere;
-    uint32_t why = first_of(THERE(slot), ARRAY(buffer, length));
-    if (why)
-        return (livevec_series_scanned){.refusal = why};
-    if (!enter_to_read(&slot->busy_))
-        return (livevec_series_scanned){.refusal = LIVEVEC_BUSY};
-    LEAVES(left, slot);
-    return livevec_proved_series_read(slot, false, lo, hi, buffer ? buffer : &nowhere, length);
-}
+EDITS(livevec_series_pushed, series_push_many, (livevec_series *slot, const int64_t *values, size_t length),
+      first_of(THERE(slot), ARRAY(values, length)),
+      as_pushed(livevec_proved_series_edit_all(slot, true, no_index, 0, length ? values : no_value, length)))
+EDITS(livevec_series_many, series_write_many, (livevec_series *slot, const uint64_t *indices, const int64_t *values, size_t length),
+      first_of(THERE(slot && (indices || !length)), ARRAY(values, length)),
+      livevec_proved_series_edit_all(slot, false, length ? indices : no_index, length, length ? values : no_value, length))
+LOOKS_AT(livevec_series_scanned, series_read, (livevec_series *slot, uint64_t lo, uint64_t hi, int64_t *buffer, size_t length),
+         first_of(THERE(slot), ARRAY(buffer, length)), livevec_proved_series_read(slot, false, lo, hi, buffer ? buffer : &(int64_t){0}, length))
 
 livevec_series_view livevec_series_lend(livevec_series *slot, uint64_t lo, uint64_t hi)
 {

@@ -25,28 +25,22 @@ static livevec_series_many judge_series_ranges(livevec_series *slot, uint32_t ki
     return (livevec_series_many){.edit = livevec_proved_count(slot, A_SERIES, SERIES_ACCEPTED).value, .done = length};
 }
 
-livevec_series_many livevec_series_value_many(livevec_series *slot, uint32_t kind, const livevec_series_range *ranges, livevec_values *answers,
-                                              size_t length)
+static livevec_series_many answer_ranges(livevec_series *slot, uint32_t kind, const livevec_series_range *ranges, livevec_values *answers, size_t length)
 {
-    livevec_series_many answer = {.refusal = first_of(THERE(slot && (ranges || !length)), ARRAY(answers, length))};
-    if (answer.refusal)
-        return answer;
-    answer.refusal = LIVEVEC_BUSY;
-    if (!enter_to_read(&slot->busy_))
-        return answer;
-    LEAVES(left, slot);
-    answer = judge_series_ranges(slot, kind, ranges, length);
+    livevec_series_many answer = judge_series_ranges(slot, kind, ranges, length);
     for (size_t i = 0; i < answer.done; i++)
         answers[i] = livevec_proved_series_value(slot, BY_KIND, kind, ranges[i].lo, ranges[i].hi).values;
     return answer;
 }
 
+LOOKS_AT(livevec_series_many, series_value_many,
+         (livevec_series *slot, uint32_t kind, const livevec_series_range *ranges, livevec_values *answers, size_t length),
+         first_of(THERE(slot && (ranges || !length)), ARRAY(answers, length)), answer_ranges(slot, kind, ranges, answers, length))
+
 /* Searches. */
 livevec_series_found livevec_proved_series_find(livevec_series *slot, uint32_t wanted, int64_t x, uint64_t lo, uint64_t hi);
-#define FOUND_BY(name, wanted) \
-    FOUND_IN(livevec_series_found, livevec_series_where_##name, livevec_proved_series_find, livevec_series, uint64_t, wanted)
-#define FOUND_BY_BOUND(name, wanted) \
-    FOUND_IN_BY(livevec_series_found, livevec_series_where_##name, livevec_proved_series_find, livevec_series, uint64_t, wanted)
+#define FOUND_BY(name, wanted) FOUND_IN(livevec_series_found, series_where_##name, series_find, livevec_series, uint64_t, wanted)
+#define FOUND_BY_BOUND(name, wanted) FOUND_IN_BY(livevec_series_found, series_where_##name, series_find, livevec_series, uint64_t, wanted)
 
 EACH_SEARCH(FOUND_BY, FOUND_BY_BOUND)
 
@@ -65,7 +59,7 @@ static livevec_series_scanned scan(uint32_t why, livevec_series *slot, columns t
 
 #define INTO(cell) (livevec_series *slot, uint64_t lo, uint64_t at, uint64_t hi, cell *column, size_t length)
 #define SCANNED(ending, by, field, cell)                                                                                  \
-    SCAN(livevec_series_scanned, livevec_series_scan_inclusive##ending, INTO(cell), scan, field, by, lo, at, hi, true)    \
-    SCAN(livevec_series_scanned, livevec_series_scan_exclusive##ending, INTO(cell), scan, field, by, lo, at, hi, false)
+    SCAN(livevec_series_scanned, series_scan_inclusive##ending, INTO(cell), scan, field, by, lo, at, hi, true)    \
+    SCAN(livevec_series_scanned, series_scan_exclusive##ending, INTO(cell), scan, field, by, lo, at, hi, false)
 
 EACH_SCAN(SCANNED)

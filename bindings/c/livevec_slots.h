@@ -112,7 +112,7 @@ static inline void leave_it(unsigned char **busy)
 #define AS_STRUCT(answer, number) ((answer){.refusal = (number)})
 
 /* Leaves a slot where the function ends that has this line: the answer is made in the caller's place then, and isn't copied. */
-#define LEAVES(name, slot) unsigned char *name __attribute__((cleanup(leave_it), unused)) = &slot->busy_
+#define LEAVES(name, slot) unsigned char *name __attribute__((cleanup(leave_it), unused)) = &(slot)->busy_
 /* The same of two, the second first. */
 #define LEAVES_BOTH(first, second) LEAVES(left_last, first); LEAVES(left, second)
 
@@ -129,22 +129,31 @@ static inline uint32_t first_of(uint32_t why, uint32_t next)
     return why ? why : next;
 }
 
-/* `livevec_NAME` by a call of a proved export of crates/livevec_c: what that promises stands in its contract there.
- * `judged` refuses pointers and lengths; `entered` enters the slots of the call, and `leaves` leaves them at its end. */
-#define BY_PROVED(answer, as, name, parameters, judged, entered, leaves, call) \
-    answer livevec_##name parameters                                           \
-    {                                                                          \
-        uint32_t why = judged;                                                 \
-        if (why)                                                               \
-            return as(answer, why);                                            \
-        if (!entered)                                                          \
-            return as(answer, LIVEVEC_BUSY);                                   \
-        leaves;                                                                \
-        return livevec_proved_##call;                                          \
+/* `livevec_NAME`: `judged` refuses pointers and lengths; `entered` enters the slots of the call, and `leaves` leaves them at its end. */
+#define IN_SLOTS(answer, as, name, parameters, judged, entered, leaves, ...) \
+    answer livevec_##name parameters                                         \
+    {                                                                        \
+        uint32_t why = judged;                                               \
+        if (why)                                                             \
+            return as(answer, why);                                          \
+        if (!entered)                                                        \
+            return as(answer, LIVEVEC_BUSY);                                 \
+        leaves;                                                              \
+        return __VA_ARGS__;                                                  \
     }
-/* The same at one slot, entered as `as_slot` does. */
-#define ENTERED(answer, as, name, parameters, judged, slot, as_slot, call)                               \
-    BY_PROVED(answer, as, name, parameters, judged, as_slot(&(slot)->busy_), LEAVES(left, (slot)), call)
+/* The same at one slot, entered as `as_slot` does, and at two. An answer of more than a refusal is a struct. */
+#define IN_SLOT(answer, as, name, parameters, judged, slot, as_slot, ...) \
+    IN_SLOTS(answer, as, name, parameters, judged, as_slot(&(slot)->busy_), LEAVES(left, slot), __VA_ARGS__)
+#define IN_BOTH(answer, as, name, parameters, judged, first, as_first, second, as_second, ...)                                     \
+    IN_SLOTS(answer, as, name, parameters, judged, enter_both(&(first)->busy_, as_first, &(second)->busy_, as_second),         \
+             LEAVES_BOTH(first, second), __VA_ARGS__)
+#define EDITS(answer, name, parameters, judged, ...) IN_SLOT(answer, AS_STRUCT, name, parameters, judged, slot, enter, __VA_ARGS__)
+#define LOOKS_AT(answer, name, parameters, judged, ...) IN_SLOT(answer, AS_STRUCT, name, parameters, judged, slot, enter_to_read, __VA_ARGS__)
+
+/* By a call of a proved export of crates/livevec_c: what that promises stands in its contract there. */
+#define BY_PROVED(answer, as, name, parameters, judged, entered, leaves, call) \
+    IN_SLOTS(answer, as, name, parameters, judged, entered, leaves, livevec_proved_##call)
+#define ENTERED(answer, as, name, parameters, judged, slot, as_slot, call) IN_SLOT(answer, as, name, parameters, judged, slot, as_slot, livevec_proved_##call)
 
 /* `livevec_NAME` over the proved export of its name. */
 #define OVER_PROVED(answer, as, name, parameters, judged, entered, leaves, arguments) \
@@ -153,10 +162,11 @@ static inline uint32_t first_of(uint32_t why, uint32_t next)
 
 /* The same at one slot, with a further pointer or not, and at two; `as_..` is how each is entered. */
 #define AT_ONE(answer, as, name, parameters, judged, slot, as_slot, arguments) \
-    OVER_PROVED(answer, as, name, parameters, judged, as_slot(&slot->busy_), LEAVES(left, slot), arguments)
-#define AT_TWO(answer, as, name, parameters, first, as_first, second, as_second, arguments)                                     \
-    OVER_PROVED(answer, as, name, parameters, THERE(first && second), enter_both(&first->busy_, as_first, &second->busy_, as_second),            \
-                LEAVES_BOTH(first, second), arguments)
+    answer livevec_proved_##name parameters;                                   \
+    ENTERED(answer, as, name, parameters, judged, slot, as_slot, name arguments)
+#define AT_TWO(answer, as, name, parameters, first, as_first, second, as_second, arguments) \
+    answer livevec_proved_##name parameters;                                                \
+    IN_BOTH(answer, as, name, parameters, THERE(first && second), first, as_first, second, as_second, livevec_proved_##name arguments)
 
 /* Of what answers by its refusal alone, of what answers more, and of what answers more and only reads. */
 #define TOLD(name, parameters, slot, arguments) AT_ONE(uint32_t, AS_NUMBER, name, parameters, THERE(slot), slot, enter, arguments)
@@ -209,19 +219,10 @@ enum {
 };
 
 /* A search of one of these names, which compares with nothing, or with a number of the caller's. */
-#define SEARCHES(answer, name, proved, parameters, wanted, x) \
-    answer name parameters                                    \
-    {                                                         \
-        if (!slot)                                            \
-            return AS_STRUCT(answer, LIVEVEC_NULL);           \
-        if (!enter_to_read(&slot->busy_))                     \
-            return AS_STRUCT(answer, LIVEVEC_BUSY);           \
-        LEAVES(left, slot);                                   \
-        return proved(slot, wanted, x, lo, hi);               \
-    }
-#define FOUND_IN(answer, name, proved, type, index, wanted) SEARCHES(answer, name, proved, (type *slot, index lo, index hi), wanted, 0)
+#define FOUND_IN(answer, name, proved, type, index, wanted) \
+    LOOKS_AT(answer, name, (type *slot, index lo, index hi), THERE(slot), livevec_proved_##proved(slot, wanted, 0, lo, hi))
 #define FOUND_IN_BY(answer, name, proved, type, index, wanted) \
-    SEARCHES(answer, name, proved, (type *slot, index lo, index hi, int64_t x), wanted, x)
+    LOOKS_AT(answer, name, (type *slot, index lo, index hi, int64_t x), THERE(slot), livevec_proved_##proved(slot, wanted, x, lo, hi))
 
 /* All of them: those that compare with nothing, and those that compare with a number. */
 #define EACH_SEARCH(plain, by)                \
@@ -259,9 +260,9 @@ static inline columns no_columns(void)
     to.sums, to.sums_length, to.extremes, to.extremes_length, to.totals, to.totals_length, to.maps, to.maps_length, to.states,    \
         to.states_length, to.values, to.values_length
 
-/* `NAME`, a scan into a column: `scan` is told why it is refused before its slot is entered, and which column is filled. */
+/* `livevec_NAME`, a scan into a column: `scan` is told why it is refused before its slot is entered, and which column is filled. */
 #define SCAN(answer, name, parameters, scan, field, ...)                      \
-    answer name parameters                                                    \
+    answer livevec_##name parameters                                          \
     {                                                                         \
         columns to = no_columns();                                            \
         if (column)                                                           \
@@ -286,17 +287,16 @@ enum { FIRST_KEPT = 0, BEHIND_LAST = 1, SERIES_ACCEPTED = 2, SAVED_BYTES = 3 };
 livevec_series_count livevec_proved_count(void *slot, uint32_t sort, uint32_t what);
 
 /* `livevec_NAME` tells one of them. */
-#define COUNTED(answer, name, type, sort, what)                             \
-    answer livevec_##name(type *slot)                                       \
-    {                                                                       \
-        if (!slot)                                                          \
-            return AS_STRUCT(answer, LIVEVEC_NULL);                         \
-        if (!enter_to_read(&slot->busy_))                                   \
-            return AS_STRUCT(answer, LIVEVEC_BUSY);                         \
-        LEAVES(left, slot);                                                 \
-        livevec_series_count told = livevec_proved_count(slot, sort, what); \
-        return (answer){.refusal = told.refusal, .value = told.value};      \
-    }
+#define COUNTED(answer, name, type, sort, what) \
+    LOOKS_AT(answer, name, (type *slot), THERE(slot), count_as_##answer(livevec_proved_count(slot, sort, what)))
+static inline livevec_series_count count_as_livevec_series_count(livevec_series_count told)
+{
+    return told;
+}
+static inline livevec_count count_as_livevec_count(livevec_series_count told)
+{
+    return (livevec_count){.refusal = told.refusal, .value = (uint32_t)told.value};
+}
 
 /* What refuses a range of a vector whose slot is entered, for a buffer of so many values. */
 static inline livevec_scanned judge_range(livevec_vector *slot, uint32_t lo, uint32_t hi, size_t length)
