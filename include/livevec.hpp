@@ -43,16 +43,13 @@
 
 namespace livevec {
 
-/** A growable vector of 64-bit integers that answers reductions of any range. */
-class vector : public inner::with_jobs {
-  public:
-    using value_type = std::int64_t;         /**< an element */
-    using size_type = std::uint32_t;         /**< an index, or a count */
-    using position_type = position;          /**< an index as calls take it */
-    using range_type = livevec_range;        /**< one of many ranges */
-    using iterator = element_iterator;       /**< goes through a copy */
-    using const_iterator = element_iterator; /**< goes through a copy */
+namespace inner {
+template <class Of> class shared_form;
+}
 
+/** A growable vector of 64-bit integers that answers reductions of any range. */
+class vector : public inner::with_jobs, public inner::asked<vector, position> {
+  public:
     /** An empty one. O(1). */
     explicit vector(limits most = {}) : limits_(most) { inner::check(livevec_new(slot(), most.buckets, most.edits)); }
 
@@ -117,8 +114,6 @@ class vector : public inner::with_jobs {
     void push_back(element value) { push(value); }
     /** Drops the last element, and gives it. O(log n). */
     std::int64_t pop() { return inner::checked(livevec_pop(slot())).value; }
-    /** Drops the last element. O(log n). */
-    void pop_back() { pop(); }
     /** Overwrites the element at an index, and gives the one before. O(log n) amortised. */
     std::int64_t write(position index, element value) { return inner::checked(livevec_write(slot(), index, value), index).value; }
     /** Exchanges the elements at two indices. O(log n) amortised. */
@@ -165,7 +160,7 @@ class vector : public inner::with_jobs {
     {
         if (indices.size() != values.size())
             inner::raise(refused(LIVEVEC_SHORT_BUFFER, static_cast<std::uint32_t>(indices.size())));
-        return inner::each(livevec_write_many(slot(), indices.data(), values.data(), indices.size()));
+        return inner::each(livevec_write_many(slot(), indices.data(), values.data(), indices.size()), indices);
     }
     /** The same of two lists in braces. O(length * log n) amortised. */
     std::uint32_t write_many(std::initializer_list<std::uint32_t> indices, std::initializer_list<element> values)
@@ -203,8 +198,6 @@ class vector : public inner::with_jobs {
 
     /** The element at an index; the index is checked. O(1). */
     [[nodiscard]] std::int64_t operator[](position index) const { return inner::checked(livevec_get(slot(), index), index).value; }
-    /** The same. O(1). */
-    [[nodiscard]] std::int64_t at(position index) const { return (*this)[index]; }
     /** The first element; std::out_of_range is thrown if there is none. O(1). */
     [[nodiscard]] std::int64_t front() const { return (*this)[0]; }
     /** The last element; std::out_of_range is thrown if there is none. O(1). */
@@ -248,19 +241,8 @@ class vector : public inner::with_jobs {
     /** The elements as bytes, which `load` takes, and that of a series; limits, table, kind and edits aren't saved. O(n). */
     [[nodiscard]] std::vector<std::uint8_t> save() const { return inner::saved(*this); }
 
-    /** Through a copy of the elements as they are now. O(n). */
-    [[nodiscard]] const_iterator begin() const { return const_iterator(elements()); }
-    /** The end of each copy. O(1). */
-    [[nodiscard]] const_iterator end() const noexcept { return const_iterator(); }
-    /** As begin(). O(n). */
-    [[nodiscard]] const_iterator cbegin() const { return begin(); }
-    /** As end(). O(1). */
-    [[nodiscard]] const_iterator cend() const noexcept { return end(); }
-
     /** Whether two vectors have the same elements. O(n). */
     friend bool operator==(const vector &a, const vector &b) { return a.size() == b.size() && a.elements() == b.elements(); }
-    /** Whether they haven't. O(n). */
-    friend bool operator!=(const vector &a, const vector &b) { return !(a == b); }
 
     /** The value of a range by one kind, and the edit at which it holds. Only this kind is computed, and what is computed is kept. Of the values only
      * those of the kind are told, and `any`. O(log n), and more after edits. */
@@ -274,95 +256,12 @@ class vector : public inner::with_jobs {
      * was refreshed**, O(log n) if all was: use `value` or `ask` unless you refresh. */
     [[nodiscard]] livevec_reduced reduce(position lo, position hi) const { return inner::checked(livevec_reduce(slot(), lo, hi), lo, hi); }
 
-    /** The values of many ranges by one kind, all after one edit. If a range is refused, `refused_at` is thrown. As `value` for each. */
-    [[nodiscard]] std::vector<livevec_values> value_many(livevec::kind kind, range_view ranges) const
-    {
-        std::vector<livevec_values> values(ranges.size());
-        inner::each(livevec_value_many(slot(), inner::number(kind), ranges.data(), values.data(), ranges.size()));
-        return values;
-    }
-    /** The same of a list in braces. */
-    [[nodiscard]] std::vector<livevec_values> value_many(livevec::kind kind, std::initializer_list<livevec_range> ranges) const
-    {
-        return value_many(kind, range_view(ranges.begin(), ranges.size()));
-    }
-
-    /** The sum of a range modulo 2^64, as a signed number: exact if it fits. O(log n), and more after edits. */
-    [[nodiscard]] std::int64_t sum(position lo, position hi) const { return static_cast<std::int64_t>(unsigned_sum(lo, hi)); }
-    /** The sum of a range modulo 2^64, from 0 up. O(log n), and more after edits. */
-    [[nodiscard]] std::uint64_t unsigned_sum(position lo, position hi) const { return value(livevec::kind::sum, lo, hi).values.sum; }
     /** The exact sum of a range, by its sums modulo 2^64, its minimum and its maximum. O(log n), and more after edits; and as much again for each 2^64 of
      * the length times the difference of the maximum and the minimum, at most O(length). Of a vector of one kind O(length). */
     [[nodiscard]] int128 total(position lo, position hi) const
     {
         return livevec::total(inner::checked(livevec_exact_sum(slot(), lo, hi), lo, hi).sum);
     }
-    /** The minimum of a range, if it isn't empty. O(log n), and more after edits. */
-    [[nodiscard]] std::optional<std::int64_t> least(position lo, position hi) const
-    {
-        return inner::some(value(livevec::kind::least, lo, hi).values, &livevec_values::least);
-    }
-    /** The maximum of a range, if it isn't empty. O(log n), and more after edits. */
-    [[nodiscard]] std::optional<std::int64_t> greatest(position lo, position hi) const
-    {
-        return inner::some(value(livevec::kind::greatest, lo, hi).values, &livevec_values::greatest);
-    }
-    /** The best run of a range, the maximum subarray sum, if it isn't empty; exact. O(log n), and more after edits. */
-    [[nodiscard]] std::optional<int128> best(position lo, position hi) const
-    {
-        const livevec_values values = value(livevec::kind::best, lo, hi).values;
-        return values.any ? std::optional<int128>(inner::joined(values.best_high, values.best_low)) : std::nullopt;
-    }
-
-    /** The position of the first minimum of a range. O(log n), and more after edits. */
-    [[nodiscard]] std::optional<placed> where_least(position lo, position hi) const
-    {
-        return inner::element_at<placed>(inner::checked(livevec_where_least(slot(), lo, hi), lo, hi));
-    }
-    /** The position of the first maximum of a range. O(log n), and more after edits. */
-    [[nodiscard]] std::optional<placed> where_greatest(position lo, position hi) const
-    {
-        return inner::element_at<placed>(inner::checked(livevec_where_greatest(slot(), lo, hi), lo, hi));
-    }
-
-    /** The position of the best run: of several the one that ends first, and of those the shortest. O(log n), and more after edits. */
-    [[nodiscard]] std::optional<best_run> where_best(position lo, position hi) const
-    {
-        return inner::run<best_run>(inner::checked(livevec_where_best(slot(), lo, hi), lo, hi));
-    }
-
-    /** The least end, from lo to hi, such that the elements from lo up to it add up to `sum` or more. No sum wraps. O(log n), and more after edits. */
-    [[nodiscard]] std::optional<std::uint32_t> where_reaches(position lo, position hi, element sum) const
-    {
-        return inner::one_end(inner::checked(livevec_where_reaches(slot(), lo, hi, sum), lo, hi), &livevec_found::hi);
-    }
-    /** The greatest start, from hi down to lo, such that the elements from it up to hi add up to `sum` or more. O(log n), and more after edits. */
-    [[nodiscard]] std::optional<std::uint32_t> where_reaches_back(position lo, position hi, element sum) const
-    {
-        return inner::one_end(inner::checked(livevec_where_reaches_back(slot(), lo, hi, sum), lo, hi), &livevec_found::lo);
-    }
-
-    /** The index of the first element of a range that is at least a bound. O(log n), and more after edits. */
-    [[nodiscard]] std::optional<std::uint32_t> where_first_at_least(position lo, position hi, element bound) const
-    {
-        return inner::one_end(inner::checked(livevec_where_first_at_least(slot(), lo, hi, bound), lo, hi), &livevec_found::lo);
-    }
-    /** The index of the first element that is at most a bound. O(log n), and more after edits. */
-    [[nodiscard]] std::optional<std::uint32_t> where_first_at_most(position lo, position hi, element bound) const
-    {
-        return inner::one_end(inner::checked(livevec_where_first_at_most(slot(), lo, hi, bound), lo, hi), &livevec_found::lo);
-    }
-    /** The index of the last element that is at least a bound. O(log n), and more after edits. */
-    [[nodiscard]] std::optional<std::uint32_t> where_last_at_least(position lo, position hi, element bound) const
-    {
-        return inner::one_end(inner::checked(livevec_where_last_at_least(slot(), lo, hi, bound), lo, hi), &livevec_found::lo);
-    }
-    /** The index of the last element that is at most a bound. O(log n), and more after edits. */
-    [[nodiscard]] std::optional<std::uint32_t> where_last_at_most(position lo, position hi, element bound) const
-    {
-        return inner::one_end(inner::checked(livevec_where_last_at_most(slot(), lo, hi, bound), lo, hi), &livevec_found::lo);
-    }
-
     /** The summary of a range, which holds nothing of the vector and may travel. **Linear in the range if nothing was refreshed**, O(log n) if all
      * was. */
     summary summarise(position lo, position hi) const { return summary(inner::checked(livevec_summary_of(slot(), lo, hi), lo, hi).summary); }
@@ -398,8 +297,21 @@ class vector : public inner::with_jobs {
     /* One whose handle is still empty, for `transcript` to fill. */
     friend class transcript;
     template <class Of> friend class shared;
+    template <class Of> friend class inner::shared_form;
+    friend class inner::asked<vector, position>;
     struct unmade {};
     vector(unmade, limits most, std::optional<livevec::kind> only) : limits_(most), only_(only) {}
+
+    livevec_found found_by(inner::sought what, position lo, position hi, std::int64_t x) const
+    {
+        return inner::checked(inner::find(slot(), what, lo, hi, x), lo, hi);
+    }
+    std::vector<livevec_values> values_of(livevec::kind kind, range_view ranges) const
+    {
+        std::vector<livevec_values> values(ranges.size());
+        inner::each(livevec_value_many(slot(), inner::number(kind), ranges.data(), values.data(), ranges.size()), ranges);
+        return values;
+    }
 
     /* A column of its own, that a call of C fills. */
     template <class Cell, class Call> std::vector<Cell> column(Call call, position lo, position hi) const

@@ -52,19 +52,27 @@ struct element {
     constexpr operator std::int64_t() const noexcept { return value; }
 };
 
-/** An index of a vector as calls take it, or an end of a range, or a count: any integer. One that no vector has, as a negative one or one of more than
- * 32 bits, is refused as any that is past the end, and never cut to one that there is. */
-struct position {
-    std::uint32_t value; /**< the integer; UINT32_MAX, which is past each end, if it doesn't fit */
+/** An index as calls take it, or an end of a range, or a count: any integer, and no floating-point number. One that there is nowhere, as a negative one
+ * or one that doesn't fit Word, is refused as any that is past the end, and never cut to one that there is; what() tells it as it was given. */
+template <class Word> struct index_of {
+    Word value;          /**< the integer; the greatest Word, which is past each end, if it doesn't fit */
+    std::uint64_t given; /**< the integer as it was given, modulo 2^64 */
+    bool is_negative;    /**< whether that is below 0 */
     /** Takes an integer, or an unscoped enum. */
     template <class Integer, class = std::enable_if_t<std::is_integral_v<Integer> || (std::is_enum_v<Integer> && std::is_convertible_v<Integer, std::int64_t>)>>
-    constexpr position(Integer at) noexcept
-        : value(static_cast<std::uint64_t>(at) > UINT32_MAX ? UINT32_MAX : static_cast<std::uint32_t>(at))
+    constexpr index_of(Integer at) noexcept
+        : value(static_cast<std::uint64_t>(at)), given(static_cast<std::uint64_t>(at)), is_negative(!std::is_unsigned_v<Integer> && static_cast<std::int64_t>(at) < 0)
     {
+        constexpr Word most = static_cast<Word>(-1);
+        value = is_negative || given > most ? most : static_cast<Word>(given);
     }
     /** Gives it. */
-    constexpr operator std::uint32_t() const noexcept { return value; }
+    constexpr operator Word() const noexcept { return value; }
 };
+/** An index of a vector. */
+using position = index_of<std::uint32_t>;
+/** An index of a series, or of samples. */
+using position_long = index_of<std::uint64_t>;
 
 /** Why a call was refused: a ::livevec_refusal, and its detail. What is thrown is also a std::out_of_range if an index or a range is wrong, else a
  * std::runtime_error; it can be caught as either. A refused call changes nothing. */
@@ -231,10 +239,28 @@ template <class Refused> [[noreturn]] void raise(const Refused &why, const std::
     throw thrown<Refused, std::runtime_error>(why, text);
 }
 
+/** The digits of an index. */
+template <class Integer> std::string digits(Integer index) { return std::to_string(index); }
+/** The digits of an index as it was given. */
+template <class Word> std::string digits(index_of<Word> index)
+{
+    return index.is_negative ? std::to_string(static_cast<std::int64_t>(index.given)) : std::to_string(index.given);
+}
 /** An index that was asked for, in words. */
-inline std::string words(std::uint64_t index) { return "index " + std::to_string(index); }
+template <class Index> std::string words(Index index) { return "index " + digits(index); }
 /** A range that was asked for, in words. */
-inline std::string words(std::uint64_t lo, std::uint64_t hi) { return "range " + std::to_string(lo) + " to " + std::to_string(hi); }
+template <class Index> std::string words(Index lo, Index hi) { return "range " + digits(lo) + " to " + digits(hi); }
+/** One of many ranges, in words. */
+inline std::string words(const livevec_range &range) { return words(range.lo, range.hi); }
+/** One of many ranges at a series, in words. */
+inline std::string words(const livevec_series_range &range) { return words(range.lo, range.hi); }
+
+/** Which one of many was refused, in words: the index or the range at its place, if that is what was wrong. */
+template <class Asked> std::string words_at(std::uint32_t refusal, std::size_t place, view<const Asked> asked)
+{
+    const bool is_told = refusal == LIVEVEC_OUT_OF_RANGE || refusal == LIVEVEC_BAD_RANGE;
+    return (is_told && place < asked.size() ? words(asked.data()[place]) + " " : "") + "at place " + std::to_string(place);
+}
 
 /** Throws if a number refuses. */
 inline void check(std::uint32_t number, std::uint32_t detail = 0)
@@ -267,10 +293,10 @@ template <class Answer, class... Asked> Answer checked(Answer answer, Asked... a
 }
 
 /** The edit of many writes or queries, none of which was refused. */
-inline std::uint32_t each(const livevec_many &many)
+template <class Asked> std::uint32_t each(const livevec_many &many, view<const Asked> asked)
 {
     if (many.refusal)
-        raise(refused_at(many), "at place " + std::to_string(many.place) + (many.refusal == LIVEVEC_OUT_OF_RANGE ? ", size " + std::to_string(many.detail) : ""));
+        raise(refused_at(many), words_at(many.refusal, many.place, asked) + (many.refusal == LIVEVEC_OUT_OF_RANGE ? ", size " + std::to_string(many.detail) : ""));
     return many.edit;
 }
 

@@ -37,7 +37,8 @@ inline std::uint64_t counted_long(livevec_series_count count)
     return count.value;
 }
 
-template <class Slot, std::uint32_t (*Free)(Slot *)> class by_index;
+template <class Self, class Slot, std::uint32_t (*Free)(Slot *)> class by_index;
+template <class Of> class shared_form;
 
 /** The handle of the elements. */
 inline livevec_series *elements_of(livevec_series *slot) noexcept { return slot; }
@@ -86,7 +87,7 @@ class lent {
     std::uint64_t edit() const noexcept { return edit_; }
 
   private:
-    template <class Slot, std::uint32_t (*Free)(Slot *)> friend class inner::by_index;
+    template <class Self, class Slot, std::uint32_t (*Free)(Slot *)> friend class inner::by_index;
     lent(livevec_series *slot, const livevec_series_view &view) noexcept : slot_(slot), edit_(view.edit), elements_(view.elements, view.length) {}
 
     livevec_series *slot_;
@@ -99,32 +100,23 @@ namespace inner {
 /** What a series is asked, and what samples are asked of their values; and the edits that both have. The elements that are kept are those from index
  * `first` up to `size`: any other index is refused by livevec::not_kept. A kind has a tree from the first query of that kind on. With it a query is
  * O(log n), and each edit renews the tree at once. */
-template <class Slot, std::uint32_t (*Free)(Slot *)>
-class by_index : public owned<Slot, Free> {
+template <class Self, class Slot, std::uint32_t (*Free)(Slot *)>
+class by_index : public owned<Slot, Free>, public asked<Self, position_long> {
   public:
-    using value_type = std::int64_t;         /**< an element */
-    using size_type = std::uint64_t;         /**< an index, or a count */
-    using position_type = std::uint64_t;     /**< an index as calls take it */
-    using range_type = livevec_series_range; /**< one of many ranges */
-    using iterator = element_iterator;       /**< goes through a copy */
-    using const_iterator = element_iterator; /**< goes through a copy */
-
     /** Drops the last element, and gives it. Each edit that is accepted has the next number. O(1) for each tree. */
     std::int64_t pop() { return kept(livevec_series_pop(series_slot()), std::uint64_t(0)).value; }
-    /** Drops the last element. O(1) for each tree. */
-    void pop_back() { pop(); }
     /** Overwrites the element under an index, and gives the one before. O(log n) for each tree. */
-    std::int64_t write(std::uint64_t index, element value) { return kept(livevec_series_write(series_slot(), index, value), index).value; }
+    std::int64_t write(position_long index, element value) { return kept(livevec_series_write(series_slot(), index, value), index).value; }
 
     /** Drops the elements from an index on, which is `size` then, and gives how many they were. O(1) for each tree. */
-    std::uint64_t truncate(std::uint64_t size) { return kept(livevec_series_truncate(series_slot(), size), size).place; }
+    std::uint64_t truncate(position_long size) { return kept(livevec_series_truncate(series_slot(), size), size).place; }
     /** Drops all that is kept by one edit, and gives how many elements that was. O(1) for each tree. */
     std::uint64_t clear() { return truncate(first()); }
     /** Drops the elements before an index, which is `first` then, and gives how many they were. O(1) amortised. */
-    std::uint64_t expire(std::uint64_t index) { return kept(livevec_series_expire(series_slot(), index), index).place; }
+    std::uint64_t expire(position_long index) { return kept(livevec_series_expire(series_slot(), index), index).place; }
 
     /** The element under an index; the index is checked. O(1). */
-    [[nodiscard]] std::int64_t operator[](std::uint64_t index) const { return kept(livevec_series_get(series_slot(), index), index).value; }
+    [[nodiscard]] std::int64_t operator[](position_long index) const { return kept(livevec_series_get(series_slot(), index), index).value; }
     /** The first index that is kept. O(1). */
     [[nodiscard]] std::uint64_t first() const { return counted_long(livevec_series_first(series_slot())); }
     /** The index behind the last element. O(1). */
@@ -145,22 +137,13 @@ class by_index : public owned<Slot, Free> {
         return (*this)[size > first() ? size - 1 : size];
     }
 
-    /** Through a copy of the elements as they are now. O(n). */
-    [[nodiscard]] const_iterator begin() const { return const_iterator(elements()); }
-    /** The end of each copy. O(1). */
-    [[nodiscard]] const_iterator end() const noexcept { return const_iterator(); }
-    /** As begin(). O(n). */
-    [[nodiscard]] const_iterator cbegin() const { return begin(); }
-    /** As end(). O(1). */
-    [[nodiscard]] const_iterator cend() const noexcept { return end(); }
-
     /** The elements of a range, from its start on, into a buffer: as many as it takes, and how many they are. O(length). */
-    std::size_t read_into(std::uint64_t lo, std::uint64_t hi, buffer_view buffer) const
+    std::size_t read_into(position_long lo, position_long hi, buffer_view buffer) const
     {
         return kept(livevec_series_read(series_slot(), lo, hi, buffer.data(), buffer.size()), lo, hi).length;
     }
     /** The elements of a range. O(length). */
-    [[nodiscard]] std::vector<std::int64_t> read(std::uint64_t lo, std::uint64_t hi) const
+    [[nodiscard]] std::vector<std::int64_t> read(position_long lo, position_long hi) const
     {
         kept(livevec_series_read(series_slot(), lo, hi, nullptr, 0), lo, hi);
         std::vector<std::int64_t> elements(hi - lo);
@@ -171,153 +154,69 @@ class by_index : public owned<Slot, Free> {
     [[nodiscard]] std::vector<std::int64_t> elements() const { return read(first(), size()); }
 
     /** The elements of a range without a copy, lent until what this gives ends: no other call succeeds meanwhile. O(1). */
-    [[nodiscard]] lent lend(std::uint64_t lo, std::uint64_t hi) { return lent(series_slot(), kept(livevec_series_lend(series_slot(), lo, hi), lo, hi)); }
+    [[nodiscard]] lent lend(position_long lo, position_long hi) { return lent(series_slot(), kept(livevec_series_lend(series_slot(), lo, hi), lo, hi)); }
 
     /** Makes the tree of a kind, if there is none. O(n) then. */
     void prepare(kind of) { check(livevec_series_prepare(series_slot(), number(of))); }
 
     /** The value of a range by one kind, and the edit at which it holds. Of the values only those of the kind are told, and `any`. O(log n); the first
      * time O(n), which makes the tree. */
-    [[nodiscard]] livevec_series_reduced value(kind of, std::uint64_t lo, std::uint64_t hi) const
+    [[nodiscard]] livevec_series_reduced value(kind of, position_long lo, position_long hi) const
     {
         return kept(livevec_series_value(series_slot(), number(of), lo, hi), lo, hi);
     }
     /** The values of a range by all six kinds, as `value` computes each. O(log n); the first time O(n), which makes the six trees. */
-    livevec_series_reduced ask(std::uint64_t lo, std::uint64_t hi) const { return kept(livevec_series_ask(series_slot(), lo, hi), lo, hi); }
+    livevec_series_reduced ask(position_long lo, position_long hi) const { return kept(livevec_series_ask(series_slot(), lo, hi), lo, hi); }
     /** The values of a range by all six kinds, from the trees that there are. **Linear in the range for each kind without a tree**: use `value` or
      * `ask` unless you ask once. */
-    [[nodiscard]] livevec_series_reduced reduce(std::uint64_t lo, std::uint64_t hi) const { return kept(livevec_series_reduce(series_slot(), lo, hi), lo, hi); }
+    [[nodiscard]] livevec_series_reduced reduce(position_long lo, position_long hi) const { return kept(livevec_series_reduce(series_slot(), lo, hi), lo, hi); }
 
-    /** The values of many ranges by one kind, all after one edit. If a range is refused, `not_kept_at` is thrown, or `refused_at` if it starts past its
-     * end. As `value` for each. */
-    [[nodiscard]] std::vector<livevec_values> value_many(kind of, series_range_view ranges) const
-    {
-        std::vector<livevec_values> values(ranges.size());
-        each_of_series(livevec_series_value_many(series_slot(), number(of), ranges.data(), values.data(), ranges.size()));
-        return values;
-    }
-    /** The same of a list in braces. */
-    [[nodiscard]] std::vector<livevec_values> value_many(kind of, std::initializer_list<livevec_series_range> ranges) const
-    {
-        return value_many(of, series_range_view(ranges.begin(), ranges.size()));
-    }
-
-    /** The sum of a range modulo 2^64, as a signed number: exact if it fits. O(log n), by a tree. */
-    [[nodiscard]] std::int64_t sum(std::uint64_t lo, std::uint64_t hi) const { return static_cast<std::int64_t>(unsigned_sum(lo, hi)); }
-    /** The sum of a range modulo 2^64, from 0 up. O(log n), by a tree. */
-    [[nodiscard]] std::uint64_t unsigned_sum(std::uint64_t lo, std::uint64_t hi) const { return value(kind::sum, lo, hi).values.sum; }
     /** The exact sum of a range, by three trees: those of the sum, the minimum and the maximum. O(log n), and as much again for each 2^64 of the length
      * times the difference of the maximum and the minimum, at most O(length). */
-    [[nodiscard]] int128 total(std::uint64_t lo, std::uint64_t hi) const
+    [[nodiscard]] int128 total(position_long lo, position_long hi) const
     {
         return livevec::total(kept(livevec_series_exact_sum(series_slot(), lo, hi), lo, hi).sum);
     }
-    /** The minimum of a range, if it isn't empty. O(log n), by a tree. */
-    [[nodiscard]] std::optional<std::int64_t> least(std::uint64_t lo, std::uint64_t hi) const
-    {
-        return some(value(kind::least, lo, hi).values, &livevec_values::least);
-    }
-    /** The maximum of a range, if it isn't empty. O(log n), by a tree. */
-    [[nodiscard]] std::optional<std::int64_t> greatest(std::uint64_t lo, std::uint64_t hi) const
-    {
-        return some(value(kind::greatest, lo, hi).values, &livevec_values::greatest);
-    }
-    /** The best run of a range, the maximum subarray sum, if it isn't empty; exact. O(log n), by a tree. */
-    [[nodiscard]] std::optional<int128> best(std::uint64_t lo, std::uint64_t hi) const
-    {
-        const livevec_values values = value(kind::best, lo, hi).values;
-        return values.any ? std::optional<int128>(joined(values.best_high, values.best_low)) : std::nullopt;
-    }
-
-    /** The position of the first minimum of a range. O(log n), by a tree. */
-    [[nodiscard]] std::optional<placed_long> where_least(std::uint64_t lo, std::uint64_t hi) const
-    {
-        return element_at<placed_long>(kept(livevec_series_where_least(series_slot(), lo, hi), lo, hi));
-    }
-    /** The position of the first maximum of a range. O(log n), by a tree. */
-    [[nodiscard]] std::optional<placed_long> where_greatest(std::uint64_t lo, std::uint64_t hi) const
-    {
-        return element_at<placed_long>(kept(livevec_series_where_greatest(series_slot(), lo, hi), lo, hi));
-    }
-
-    /** The position of the best run: of several the one that ends first, and of those the shortest. O(log n), by a tree. */
-    [[nodiscard]] std::optional<best_run_long> where_best(std::uint64_t lo, std::uint64_t hi) const
-    {
-        return run<best_run_long>(kept(livevec_series_where_best(series_slot(), lo, hi), lo, hi));
-    }
-
-    /** The least end, from lo to hi, such that the elements from lo up to it add up to `sum` or more. No sum wraps. O(log n), by a tree. */
-    [[nodiscard]] std::optional<std::uint64_t> where_reaches(std::uint64_t lo, std::uint64_t hi, element sum) const
-    {
-        return one_end(kept(livevec_series_where_reaches(series_slot(), lo, hi, sum), lo, hi), &livevec_series_found::hi);
-    }
-    /** The greatest start, from hi down to lo, such that the elements from it up to hi add up to `sum` or more. O(log n), by a tree. */
-    [[nodiscard]] std::optional<std::uint64_t> where_reaches_back(std::uint64_t lo, std::uint64_t hi, element sum) const
-    {
-        return one_end(kept(livevec_series_where_reaches_back(series_slot(), lo, hi, sum), lo, hi), &livevec_series_found::lo);
-    }
-
-    /** The index of the first element of a range that is at least a bound. O(log n), by a tree. */
-    [[nodiscard]] std::optional<std::uint64_t> where_first_at_least(std::uint64_t lo, std::uint64_t hi, element bound) const
-    {
-        return one_end(kept(livevec_series_where_first_at_least(series_slot(), lo, hi, bound), lo, hi), &livevec_series_found::lo);
-    }
-    /** The index of the first element that is at most a bound. O(log n), by a tree. */
-    [[nodiscard]] std::optional<std::uint64_t> where_first_at_most(std::uint64_t lo, std::uint64_t hi, element bound) const
-    {
-        return one_end(kept(livevec_series_where_first_at_most(series_slot(), lo, hi, bound), lo, hi), &livevec_series_found::lo);
-    }
-    /** The index of the last element that is at least a bound. O(log n), by a tree. */
-    [[nodiscard]] std::optional<std::uint64_t> where_last_at_least(std::uint64_t lo, std::uint64_t hi, element bound) const
-    {
-        return one_end(kept(livevec_series_where_last_at_least(series_slot(), lo, hi, bound), lo, hi), &livevec_series_found::lo);
-    }
-    /** The index of the last element that is at most a bound. O(log n), by a tree. */
-    [[nodiscard]] std::optional<std::uint64_t> where_last_at_most(std::uint64_t lo, std::uint64_t hi, element bound) const
-    {
-        return one_end(kept(livevec_series_where_last_at_most(series_slot(), lo, hi, bound), lo, hi), &livevec_series_found::lo);
-    }
-
     /** The values of each prefix of a range by all six kinds, with its last element. O(length). */
-    [[nodiscard]] std::vector<livevec_values> scan_inclusive(std::uint64_t lo, std::uint64_t hi) const
+    [[nodiscard]] std::vector<livevec_values> scan_inclusive(position_long lo, position_long hi) const
     {
         return scanned<livevec_values>(livevec_series_scan_inclusive, lo, hi);
     }
     /** The same without its last element. O(length). */
-    [[nodiscard]] std::vector<livevec_values> scan_exclusive(std::uint64_t lo, std::uint64_t hi) const
+    [[nodiscard]] std::vector<livevec_values> scan_exclusive(position_long lo, position_long hi) const
     {
         return scanned<livevec_values>(livevec_series_scan_exclusive, lo, hi);
     }
     /** A piece of scan_inclusive: the prefixes that end at `at` and behind it, as many as a buffer takes, and how many they are. `at` starts at `lo`, and
      * goes on by what was told. O(length), and O(at - lo) more for each kind without a tree: `ask` or `prepare` first if there are many pieces. */
-    std::size_t scan_inclusive_into(std::uint64_t lo, std::uint64_t at, std::uint64_t hi, view<livevec_values> buffer) const
+    std::size_t scan_inclusive_into(position_long lo, position_long at, position_long hi, view<livevec_values> buffer) const
     {
         return kept(livevec_series_scan_inclusive(series_slot(), lo, at, hi, buffer.data(), buffer.size()), lo, hi).length;
     }
     /** The same of scan_exclusive. */
-    std::size_t scan_exclusive_into(std::uint64_t lo, std::uint64_t at, std::uint64_t hi, view<livevec_values> buffer) const
+    std::size_t scan_exclusive_into(position_long lo, position_long at, position_long hi, view<livevec_values> buffer) const
     {
         return kept(livevec_series_scan_exclusive(series_slot(), lo, at, hi, buffer.data(), buffer.size()), lo, hi).length;
     }
 
     /** The running values of a range by one kind, as scan_inclusive<livevec::kind::sum>(0, n), in a column of its own. Of no elements the minimum, the
      * maximum and the best run are 0. O(length). */
-    template <kind Kind> [[nodiscard]] std::vector<cell<Kind>> scan_inclusive(std::uint64_t lo, std::uint64_t hi) const
+    template <kind Kind> [[nodiscard]] std::vector<cell<Kind>> scan_inclusive(position_long lo, position_long hi) const
     {
         return scanned<cell<Kind>>(series_by<Kind>::inclusive, lo, hi);
     }
     /** The same, each without the element at its place. O(length). */
-    template <kind Kind> [[nodiscard]] std::vector<cell<Kind>> scan_exclusive(std::uint64_t lo, std::uint64_t hi) const
+    template <kind Kind> [[nodiscard]] std::vector<cell<Kind>> scan_exclusive(position_long lo, position_long hi) const
     {
         return scanned<cell<Kind>>(series_by<Kind>::exclusive, lo, hi);
     }
     /** A piece of the former into a column of the caller's, from `at` on, and how many they are. O(length), and O(at - lo) more without a tree. */
-    template <kind Kind> std::size_t scan_inclusive_into(std::uint64_t lo, std::uint64_t at, std::uint64_t hi, view<cell<Kind>> column) const
+    template <kind Kind> std::size_t scan_inclusive_into(position_long lo, position_long at, position_long hi, view<cell<Kind>> column) const
     {
         return kept(series_by<Kind>::inclusive(series_slot(), lo, at, hi, column.data(), column.size()), lo, hi).length;
     }
     /** A piece of the latter. */
-    template <kind Kind> std::size_t scan_exclusive_into(std::uint64_t lo, std::uint64_t at, std::uint64_t hi, view<cell<Kind>> column) const
+    template <kind Kind> std::size_t scan_exclusive_into(position_long lo, position_long at, position_long hi, view<cell<Kind>> column) const
     {
         return kept(series_by<Kind>::exclusive(series_slot(), lo, at, hi, column.data(), column.size()), lo, hi).length;
     }
@@ -339,7 +238,20 @@ class by_index : public owned<Slot, Free> {
     [[nodiscard]] livevec_series *series_slot() const noexcept { return elements_of(this->slot()); }
 
   private:
-    template <class Cell, class Call> std::vector<Cell> scanned(Call call, std::uint64_t lo, std::uint64_t hi) const
+    friend class asked<Self, position_long>;
+    template <class Of> friend class shared_form;
+
+    livevec_series_found found_by(sought what, position_long lo, position_long hi, std::int64_t x) const
+    {
+        return kept(find(series_slot(), what, lo, hi, x), lo, hi);
+    }
+    std::vector<livevec_values> values_of(kind of, series_range_view ranges) const
+    {
+        std::vector<livevec_values> values(ranges.size());
+        each_of_series(livevec_series_value_many(series_slot(), number(of), ranges.data(), values.data(), ranges.size()), ranges);
+        return values;
+    }
+    template <class Cell, class Call> std::vector<Cell> scanned(Call call, position_long lo, position_long hi) const
     {
         kept(livevec_series_read(series_slot(), lo, hi, nullptr, 0), lo, hi);
         std::vector<Cell> cells(hi - lo);

@@ -18,7 +18,7 @@ namespace inner {
 /** The handle that is asked, or shared. */
 inline livevec_vector *handle_of(const vector &of) noexcept { return of.slot(); }
 /** The handle that is asked, or shared. */
-template <class Slot, std::uint32_t (*Free)(Slot *)> livevec_series *handle_of(const by_index<Slot, Free> &of) noexcept { return of.series_slot(); }
+template <class Self, class Slot, std::uint32_t (*Free)(Slot *)> livevec_series *handle_of(const by_index<Self, Slot, Free> &of) noexcept { return of.series_slot(); }
 } // namespace inner
 
 /** What a standing query asks: `query(kind::greatest).last(100).at_least(90)`. Of all, and told of at each change, if nothing is said. */

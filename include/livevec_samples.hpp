@@ -36,7 +36,7 @@ struct sample {
 /** Samples, each under an index as an element of a series, with a time in a unit of the caller's. Times do not fall: a time before that of the last
  * sample is refused by `earlier`. Calls by index ask and edit the values, as those of a series. A window of time is a range of indices, from `lo` up to
  * `hi`, which `between` and `last` tell. */
-class samples : public inner::by_index<livevec_samples, livevec_free_samples> {
+class samples : public inner::by_index<samples, livevec_samples, livevec_free_samples> {
   public:
     /** None yet. O(1). */
     samples() { inner::check(livevec_samples_new(slot())); }
@@ -58,8 +58,6 @@ class samples : public inner::by_index<livevec_samples, livevec_free_samples> {
     {
         return a.length() == b.length() && a.times() == b.times() && a.elements() == b.elements();
     }
-    /** Whether they haven't. O(n). */
-    friend bool operator!=(const samples &a, const samples &b) { return !(a == b); }
 
     /** Puts a sample at the end, and gives its index. O(1) amortised for each tree. */
     std::uint64_t push(element time, element value)
@@ -76,25 +74,25 @@ class samples : public inner::by_index<livevec_samples, livevec_free_samples> {
     {
         if (times.size() != values.size())
             inner::raise(refused(LIVEVEC_SHORT_BUFFER, static_cast<std::uint32_t>(times.size())));
-        return inner::each_of_series(livevec_samples_push_many(slot(), times.data(), values.data(), times.size()));
+        return inner::each_of_series(livevec_samples_push_many(slot(), times.data(), values.data(), times.size()), times);
     }
 
     /** Drops the samples that were taken before a time, and gives how many they were. O(log n), and O(1) amortised. */
     std::uint64_t expire_before(element time) { return inner::kept(livevec_samples_expire_before(slot(), time), std::uint64_t(0)).place; }
 
     /** The sample under an index; the index is checked. O(1). */
-    [[nodiscard]] sample at(std::uint64_t index) const
+    [[nodiscard]] sample at(position_long index) const
     {
         const livevec_sample told = inner::kept(livevec_samples_get(slot(), index), index);
         return {told.time, told.value};
     }
     /** The times of a range of indices, from its start on, into a buffer: as many as it takes, and how many they are. O(length). */
-    std::size_t times_into(std::uint64_t lo, std::uint64_t hi, buffer_view buffer) const
+    std::size_t times_into(position_long lo, position_long hi, buffer_view buffer) const
     {
         return inner::kept(livevec_samples_times(slot(), lo, hi, buffer.data(), buffer.size()), lo, hi).length;
     }
     /** The times of a range of indices. O(length). */
-    [[nodiscard]] std::vector<std::int64_t> times(std::uint64_t lo, std::uint64_t hi) const
+    [[nodiscard]] std::vector<std::int64_t> times(position_long lo, position_long hi) const
     {
         inner::kept(livevec_samples_times(slot(), lo, hi, nullptr, 0), lo, hi);
         std::vector<std::int64_t> times(hi - lo);
@@ -105,17 +103,17 @@ class samples : public inner::by_index<livevec_samples, livevec_free_samples> {
     [[nodiscard]] std::vector<std::int64_t> times() const { return times(first(), size()); }
 
     /** The samples from time `since` up to `until`: one at `since` is among them, one at `until` isn't. O(log n). */
-    [[nodiscard]] livevec_window between(element since, element until) const { return window(livevec_samples_between(slot(), since, until)); }
+    [[nodiscard]] livevec_window between(element since, element until) const { return window(livevec_samples_between(slot(), since, until), since, until); }
     /** The samples of the last `span` of time, whose times are above that of the last sample minus `span`. O(log n). */
-    [[nodiscard]] livevec_window last(std::uint64_t span) const { return window(livevec_samples_last(slot(), span)); }
+    [[nodiscard]] livevec_window last(position_long span) const { return window(livevec_samples_last(slot(), span)); }
 
     /** The value of the window that `between` gives, by one kind. O(log n); the first time O(n), which makes the tree. */
     [[nodiscard]] livevec_series_reduced value_between(kind of, element since, element until) const
     {
-        return window(livevec_samples_value(slot(), inner::number(of), since, until));
+        return window(livevec_samples_value(slot(), inner::number(of), since, until), since, until);
     }
     /** The value of the window that `last` gives, by one kind. O(log n); the first time O(n), which makes the tree. */
-    [[nodiscard]] livevec_series_reduced value_of_last(kind of, std::uint64_t span) const
+    [[nodiscard]] livevec_series_reduced value_of_last(kind of, position_long span) const
     {
         return window(livevec_samples_value_of_last(slot(), inner::number(of), span));
     }
@@ -128,6 +126,12 @@ class samples : public inner::by_index<livevec_samples, livevec_free_samples> {
     {
         inner::check(told.refusal);
         return told;
+    }
+    template <class Answer> static Answer window(Answer told, element since, element until)
+    {
+        if (told.refusal == LIVEVEC_BAD_RANGE)
+            inner::raise(refused(told.refusal), "times " + std::to_string(since.value) + " to " + std::to_string(until.value));
+        return window(told);
     }
 };
 

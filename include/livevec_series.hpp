@@ -29,7 +29,7 @@ class stopped_long : public refused {
 
 /** A vector whose elements and edits are bounded by memory only. Indices count from the first element that was ever pushed, and an element keeps its
  * index for as long as it is kept: the elements from `first` up to `size` are. Any other index is refused by `not_kept`. */
-class series : public inner::by_index<livevec_series, livevec_free_series> {
+class series : public inner::by_index<series, livevec_series, livevec_free_series> {
   public:
     /** An empty one. O(1). */
     series() { inner::check(livevec_series_new(slot())); }
@@ -52,21 +52,16 @@ class series : public inner::by_index<livevec_series, livevec_free_series> {
     /** The same. O(1) amortised for each tree. */
     void push_back(element value) { push(value); }
     /** Exchanges the elements under two indices. O(log n) for each tree. */
-    void swap_elements(std::uint64_t first, std::uint64_t second)
+    void swap_elements(position_long first, position_long second)
     {
         const livevec_series_edited did = livevec_series_swap(slot(), first, second);
         inner::kept(did, did.first <= first && first < did.size ? second : first);
     }
 
-    /** The element under an index; the index is checked. O(1). */
-    [[nodiscard]] std::int64_t at(std::uint64_t index) const { return (*this)[index]; }
-
     /** One of its own with the same elements under the same indices, whose next edit has the same number. O(n). */
     [[nodiscard]] series clone() const { return load(save()); }
     /** Whether two have the same elements, whatever their indices. O(n). */
     friend bool operator==(const series &a, const series &b) { return a.length() == b.length() && a.elements() == b.elements(); }
-    /** Whether they haven't. O(n). */
-    friend bool operator!=(const series &a, const series &b) { return !(a == b); }
 
     /** Pushes an array in order: all are pushed, or `stopped_long` is thrown and none is. O(length) amortised for each tree. */
     void push_many(array_view values)
@@ -87,7 +82,7 @@ class series : public inner::by_index<livevec_series, livevec_free_series> {
     {
         if (indices.size() != values.size())
             inner::raise(refused(LIVEVEC_SHORT_BUFFER, static_cast<std::uint32_t>(indices.size())));
-        return inner::each_of_series(livevec_series_write_many(slot(), indices.data(), values.data(), indices.size()));
+        return inner::each_of_series(livevec_series_write_many(slot(), indices.data(), values.data(), indices.size()), indices);
     }
     /** The same of two lists in braces. */
     std::uint64_t write_many(std::initializer_list<std::uint64_t> indices, std::initializer_list<element> values)

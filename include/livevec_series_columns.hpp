@@ -49,13 +49,13 @@ namespace inner {
 inline std::string words_of_kept(std::uint64_t first, std::uint64_t size) { return "kept from " + std::to_string(first) + " up to " + std::to_string(size); }
 
 /** The edit of many writes, pushes of samples or queries, none of which was refused. */
-inline std::uint64_t each_of_series(const livevec_series_many &many)
+template <class Asked> std::uint64_t each_of_series(const livevec_series_many &many, view<const Asked> asked)
 {
-    const auto at = [&many] { return "at place " + std::to_string(many.place); };
+    const std::string at = many.refusal ? words_at(many.refusal, many.place, asked) : "";
     if (many.refusal == LIVEVEC_OUT_OF_RANGE)
-        raise(not_kept_at(many), at() + ", " + words_of_kept(many.first, many.size));
+        raise(not_kept_at(many), at + ", " + words_of_kept(many.first, many.size));
     if (many.refusal)
-        raise(refused_at(livevec_many{many.refusal, 0, 0, many.done, many.place}), at());
+        raise(refused_at(livevec_many{many.refusal, 0, 0, many.done, many.place}), at);
     return many.edit;
 }
 

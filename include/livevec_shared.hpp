@@ -11,6 +11,7 @@
 #include <cstddef>
 #include <cstdint>
 #include <exception>
+#include <functional>
 #include <iterator>
 #include <memory>
 #include <optional>
@@ -28,6 +29,18 @@ struct receipt {
     /** As C answers for a vector, with the low 32 bits of the number. */
     operator livevec_edited() const noexcept { return {0, 0, static_cast<std::uint32_t>(edit), static_cast<std::uint32_t>(place), value}; }
 };
+
+/** What threads share: a vector, a series or samples, which its end closes. Each call may be made by any thread at any time: edits and queries take a lock
+ * for one call. An edit gives a receipt. Once it is closed each call is refused with LIVEVEC_NO_HANDLE. A call of a thread within a `with` of its own is
+ * refused with LIVEVEC_BUSY: it would wait for itself. A call costs what it costs at what is shared, and the lock.
+ *
+ * Numbers of edits have 64 bits, and go on rising where a `renew` or a `with` puts another vector in its place. If an answer has 32 bits for one, these
+ * are its low ones.
+ *
+ * If a call that is handed to `with` throws, the edits that it made before stay; the lock is let go, subscribers are told, and the exception goes on
+ * only to the caller of `with`. Nothing else of a caller's runs under the lock. If C++ itself is out of memory, std::bad_alloc is thrown, and nothing
+ * has changed or counts as told. */
+template <class Of> class shared;
 
 namespace inner {
 
@@ -66,7 +79,7 @@ class shared_worker : public owned<livevec_worker, livevec_free_worker> {
 
 /** What all shared forms have. */
 template <class Of>
-class shared_form {
+class shared_form : public asked<shared<Of>, typename Of::position_type> {
   public:
     using size_type = typename Of::size_type;         /**< an index, or a count */
     using position_type = typename Of::position_type; /**< an index as calls take it */
@@ -75,201 +88,64 @@ class shared_form {
     shared_form &operator=(shared_form &&other) noexcept = default;
 
     /** Puts an element at the end; `place` is its index. As what is shared. */
-    receipt push(element value)
-    {
-        return edit([=](Of &of) { return receipt{0, of.push(value)}; });
-    }
+    receipt push(element value) { return edit([=](Of &of) { return receipt{0, of.push(value)}; }); }
+    /** Puts an element at the end. As what is shared. */
+    void push_back(element value) { push(value); }
     /** Pushes all or none, with no other edit between, and gives the last edit. As what is shared. */
-    std::uint64_t push_many(array_view values)
-    {
-        return edit_many([=](Of &of) { of.push_many(values); });
-    }
+    std::uint64_t push_many(array_view values) { return edit_many([=](Of &of) { of.push_many(values); }); }
     /** Exchanges the elements at two indices; `value` is the element at the first one now. As what is shared. */
     receipt swap_elements(position_type first, position_type second)
     {
         return edit([=](Of &of) { return of.swap_elements(first, second), receipt{0, 0, of[first]}; });
     }
     /** Writes all or none, with no other edit between, and gives the last edit. As what is shared. */
-    std::uint64_t write_many(view<const size_type> indices, array_view values)
-    {
-        return edit_many([=](Of &of) { of.write_many(indices, values); });
-    }
+    std::uint64_t write_many(view<const size_type> indices, array_view values) { return edit_many([=](Of &of) { of.write_many(indices, values); }); }
     /** Drops the last element; `value` is that element. As what is shared. */
-    receipt pop()
-    {
-        return edit([](Of &of) { return receipt{0, 0, of.pop()}; });
-    }
+    receipt pop() { return edit([](Of &of) { return receipt{0, 0, of.pop()}; }); }
     /** Overwrites the element at an index; `value` is the one before. As what is shared. */
-    receipt write(position_type index, element value)
-    {
-        return edit([=](Of &of) { return receipt{0, 0, of.write(index, value)}; });
-    }
+    receipt write(position_type index, element value) { return edit([=](Of &of) { return receipt{0, 0, of.write(index, value)}; }); }
     /** Drops the elements from an index on; `place` is how many were dropped. As what is shared. */
-    receipt truncate(position_type size)
-    {
-        return edit([=](Of &of) { return receipt{0, of.truncate(size)}; });
-    }
+    receipt truncate(position_type size) { return edit([=](Of &of) { return receipt{0, of.truncate(size)}; }); }
 
     /** Drops all elements by one edit. As what is shared. */
-    std::uint64_t clear()
-    {
-        return edit_many([](Of &of) { of.clear(); });
-    }
+    std::uint64_t clear() { return edit_many([](Of &of) { of.clear(); }); }
 
     /** The element at an index; the index is checked. O(1). */
-    [[nodiscard]] std::int64_t operator[](position_type index) const
-    {
-        return reads([=](const Of &of) { return of[index]; });
-    }
-    /** The same. O(1). */
-    [[nodiscard]] std::int64_t at(position_type index) const { return (*this)[index]; }
+    [[nodiscard]] std::int64_t operator[](position_type index) const { return reads([=](const Of &of) { return of[index]; }); }
     /** The first element; std::out_of_range is thrown if there is none. O(1). */
-    [[nodiscard]] std::int64_t front() const
-    {
-        return reads([](const Of &of) { return of.front(); });
-    }
+    [[nodiscard]] std::int64_t front() const { return reads(&Of::front); }
     /** The last element; std::out_of_range is thrown if there is none. O(1). */
-    [[nodiscard]] std::int64_t back() const
-    {
-        return reads([](const Of &of) { return of.back(); });
-    }
+    [[nodiscard]] std::int64_t back() const { return reads(&Of::back); }
     /** Whether there is no element. O(1). */
-    [[nodiscard]] bool empty() const
-    {
-        return reads([](const Of &of) { return of.empty(); });
-    }
+    [[nodiscard]] bool empty() const { return reads(&Of::empty); }
     /** The elements of a range, all after one edit. O(length). */
-    [[nodiscard]] std::vector<std::int64_t> read(position_type lo, position_type hi) const
-    {
-        return reads([=](const Of &of) { return of.read(lo, hi); });
-    }
+    [[nodiscard]] std::vector<std::int64_t> read(position_type lo, position_type hi) const { return reads(&Of::read, lo, hi); }
     /** All elements, after one edit. O(n). */
-    [[nodiscard]] std::vector<std::int64_t> elements() const
-    {
-        return reads([](const Of &of) { return of.elements(); });
-    }
-    /** Through a copy of the elements as they are now. O(n). */
-    [[nodiscard]] element_iterator begin() const { return element_iterator(elements()); }
-    /** The end of each copy. O(1). */
-    [[nodiscard]] element_iterator end() const noexcept { return element_iterator(); }
+    [[nodiscard]] std::vector<std::int64_t> elements() const { return reads(&Of::elements); }
     /** One of its own, which no other thread has, as `clone` of what is shared. O(n). */
-    [[nodiscard]] Of clone() const
-    {
-        return reads([](const Of &of) { return of.clone(); });
-    }
+    [[nodiscard]] Of clone() const { return reads(&Of::clone); }
+    /** Whether two have the same, as `==` of what is shared: they are copied one after the other. O(n). */
+    friend bool operator==(const shared<Of> &a, const shared<Of> &b) { return a.clone() == b.clone(); }
     /** How many elements there are; of a series and samples the index behind the last. O(1). */
-    [[nodiscard]] size_type size() const
-    {
-        return reads([](const Of &of) { return of.size(); });
-    }
+    [[nodiscard]] size_type size() const { return reads(&Of::size); }
     /** The number of the last edit. O(1). */
     [[nodiscard]] std::uint64_t edits() const
     {
-        turn mine(at());
+        turn mine(here());
         return mine.leave();
     }
     /** The values of a range by all six kinds, as `reduce` of what is shared: **linear in the range** for what no worker, refresh or query computed. */
-    [[nodiscard]] auto reduce(position_type lo, position_type hi) const
-    {
-        return answer([=](const Of &of) { return of.reduce(lo, hi); });
-    }
+    [[nodiscard]] auto reduce(position_type lo, position_type hi) const { return answer(&Of::reduce, lo, hi); }
     /** The values of a range by all six kinds, as `ask` of what is shared. O(log n), and more after edits. */
-    auto ask(position_type lo, position_type hi) const
-    {
-        return answer([=](const Of &of) { return of.ask(lo, hi); });
-    }
-    /** The values of many ranges by one kind, all after one edit. As `value` for each. */
-    [[nodiscard]] std::vector<livevec_values> value_many(kind by, view<const typename Of::range_type> ranges) const
-    {
-        return reads([=](const Of &of) { return of.value_many(by, ranges); });
-    }
-    /** The same of a list in braces. */
-    [[nodiscard]] std::vector<livevec_values> value_many(kind by, std::initializer_list<typename Of::range_type> ranges) const
-    {
-        return value_many(by, view<const typename Of::range_type>(ranges.begin(), ranges.size()));
-    }
+    auto ask(position_type lo, position_type hi) const { return answer(&Of::ask, lo, hi); }
     /** The value of a range by one kind, as `value` of what is shared. O(log n), and more after edits. */
-    [[nodiscard]] auto value(kind by, position_type lo, position_type hi) const
-    {
-        return answer([=](const Of &of) { return of.value(by, lo, hi); });
-    }
-    /** The sum of a range modulo 2^64. O(log n), and more after edits. */
-    [[nodiscard]] std::int64_t sum(position_type lo, position_type hi) const { return static_cast<std::int64_t>(unsigned_sum(lo, hi)); }
-    /** The same from 0 up. O(log n), and more after edits. */
-    [[nodiscard]] std::uint64_t unsigned_sum(position_type lo, position_type hi) const { return value(kind::sum, lo, hi).values.sum; }
-    /** The minimum of a range, if it isn't empty. O(log n), and more after edits. */
-    [[nodiscard]] std::optional<std::int64_t> least(position_type lo, position_type hi) const
-    {
-        return reads([=](const Of &of) { return of.least(lo, hi); });
-    }
-    /** The maximum of a range, if it isn't empty. O(log n), and more after edits. */
-    [[nodiscard]] std::optional<std::int64_t> greatest(position_type lo, position_type hi) const
-    {
-        return reads([=](const Of &of) { return of.greatest(lo, hi); });
-    }
-    /** The best run of a range, if it isn't empty; exact. O(log n), and more after edits. */
-    [[nodiscard]] std::optional<int128> best(position_type lo, position_type hi) const
-    {
-        return reads([=](const Of &of) { return of.best(lo, hi); });
-    }
-
+    [[nodiscard]] auto value(kind by, position_type lo, position_type hi) const { return answer(&Of::value, by, lo, hi); }
     /** The exact sum of a range, as `total` of what is shared. */
-    [[nodiscard]] int128 total(position_type lo, position_type hi) const
-    {
-        return reads([=](const Of &of) { return of.total(lo, hi); });
-    }
+    [[nodiscard]] int128 total(position_type lo, position_type hi) const { return reads(&Of::total, lo, hi); }
 
     /** All of it as bytes, after one edit, which `load` takes. O(n). */
-    [[nodiscard]] std::vector<std::uint8_t> save() const
-    {
-        return reads([](const Of &of) { return of.save(); });
-    }
+    [[nodiscard]] std::vector<std::uint8_t> save() const { return reads(&Of::save); }
 
-    /** The position of the first minimum of a range. O(log n), and more after edits. */
-    [[nodiscard]] auto where_least(position_type lo, position_type hi) const
-    {
-        return reads([=](const Of &of) { return of.where_least(lo, hi); });
-    }
-    /** The position of the first maximum of a range. O(log n), and more after edits. */
-    [[nodiscard]] auto where_greatest(position_type lo, position_type hi) const
-    {
-        return reads([=](const Of &of) { return of.where_greatest(lo, hi); });
-    }
-    /** The position of the best run. O(log n), and more after edits. */
-    [[nodiscard]] auto where_best(position_type lo, position_type hi) const
-    {
-        return reads([=](const Of &of) { return of.where_best(lo, hi); });
-    }
-    /** The least end up to which the elements from `lo` on add up to `sum` or more. O(log n), and more after edits. */
-    [[nodiscard]] std::optional<size_type> where_reaches(position_type lo, position_type hi, element sum) const
-    {
-        return reads([=](const Of &of) { return of.where_reaches(lo, hi, sum); });
-    }
-    /** The greatest start from which the elements up to `hi` do. O(log n), and more after edits. */
-    [[nodiscard]] std::optional<size_type> where_reaches_back(position_type lo, position_type hi, element sum) const
-    {
-        return reads([=](const Of &of) { return of.where_reaches_back(lo, hi, sum); });
-    }
-    /** The index of the first element that is at least a bound. O(log n), and more after edits. */
-    [[nodiscard]] std::optional<size_type> where_first_at_least(position_type lo, position_type hi, element bound) const
-    {
-        return reads([=](const Of &of) { return of.where_first_at_least(lo, hi, bound); });
-    }
-    /** The index of the first element that is at most a bound. O(log n), and more after edits. */
-    [[nodiscard]] std::optional<size_type> where_first_at_most(position_type lo, position_type hi, element bound) const
-    {
-        return reads([=](const Of &of) { return of.where_first_at_most(lo, hi, bound); });
-    }
-    /** The index of the last element that is at least a bound. O(log n), and more after edits. */
-    [[nodiscard]] std::optional<size_type> where_last_at_least(position_type lo, position_type hi, element bound) const
-    {
-        return reads([=](const Of &of) { return of.where_last_at_least(lo, hi, bound); });
-    }
-    /** The index of the last element that is at most a bound. O(log n), and more after edits. */
-    [[nodiscard]] std::optional<size_type> where_last_at_most(position_type lo, position_type hi, element bound) const
-    {
-        return reads([=](const Of &of) { return of.where_last_at_most(lo, hi, bound); });
-    }
     /** The values of each prefix of a range by all six kinds, with its last element, all after one edit. O(length). */
     [[nodiscard]] std::vector<livevec_values> scan_inclusive(position_type lo, position_type hi) const
     {
@@ -295,7 +171,7 @@ class shared_form {
      * counts as an edit. */
     template <class Calls> decltype(auto) with(Calls &&calls)
     {
-        turn mine(at());
+        turn mine(here());
         return std::forward<Calls>(calls)(mine.at.of);
     }
 
@@ -304,7 +180,7 @@ class shared_form {
     {
         subscriber made;
         made.seat_->asked.emplace(std::move(asked));
-        check(livevec_shared_subscribe(&at().lock, made.slot(), made.seat_->asked->slot()));
+        check(livevec_shared_subscribe(&here().lock, made.slot(), made.seat_->asked->slot()));
         return made;
     }
 
@@ -312,7 +188,7 @@ class shared_form {
      * edit. As queries::notes for each subscriber. */
     Of close()
     {
-        state &ended = at();
+        state &ended = here();
         check(livevec_shared_close(&ended.lock));
         ended.workers.clear();
         return std::move(ended.of);
@@ -359,30 +235,30 @@ class shared_form {
     ~shared_form() = default;
 
     /** What there is, unless it was moved from. */
-    state &at() const
+    state &here() const
     {
         if (!state_)
             raise(refused(LIVEVEC_NULL));
         return *state_;
     }
-    /** A call that reads. */
-    template <class Call> auto reads(Call call) const
+    /** A call that reads, or a member of what is shared with what it is asked. */
+    template <class Call, class... Asked> auto reads(Call call, Asked... asked) const
     {
-        const turn mine(at());
-        return call(static_cast<const Of &>(mine.at.of));
+        const turn mine(here());
+        return std::invoke(call, static_cast<const Of &>(mine.at.of), asked...);
     }
     /** An answer that names the edit after which it is so. */
-    template <class Call> auto answer(Call call) const
+    template <class Call, class... Asked> auto answer(Call call, Asked... asked) const
     {
-        turn mine(at());
-        auto told = call(static_cast<const Of &>(mine.at.of));
+        turn mine(here());
+        auto told = std::invoke(call, static_cast<const Of &>(mine.at.of), asked...);
         told.edit = static_cast<decltype(told.edit)>(mine.leave());
         return told;
     }
     /** One edit. */
     template <class Call> receipt edit(Call call)
     {
-        turn mine(at());
+        turn mine(here());
         receipt did = call(mine.at.of);
         did.edit = mine.leave();
         return did;
@@ -390,28 +266,20 @@ class shared_form {
     /** Many edits, of which the last is told. */
     template <class Call> std::uint64_t edit_many(Call call)
     {
-        turn mine(at());
+        turn mine(here());
         call(mine.at.of);
         return mine.leave();
     }
 
   private:
+    friend class asked<shared<Of>, position_type>;
+    auto found_by(sought what, position_type lo, position_type hi, std::int64_t x) const { return reads(&Of::found_by, what, lo, hi, x); }
+    std::vector<livevec_values> values_of(kind by, view<const typename Of::range_type> ranges) const { return reads(&Of::values_of, by, ranges); }
+
     std::unique_ptr<state> state_;
 };
 
 } // namespace inner
-
-/** What threads share: a vector, a series or samples, which its end closes. Each call may be made by any thread at any time: edits and queries take a lock
- * for one call. An edit gives a receipt. Once it is closed each call is refused with LIVEVEC_NO_HANDLE. A call of a thread within a `with` of its own is
- * refused with LIVEVEC_BUSY: it would wait for itself. A call costs what it costs at what is shared, and the lock.
- *
- * Numbers of edits have 64 bits, and go on rising where a `renew` or a `with` puts another vector in its place. If an answer has 32 bits for one, these
- * are its low ones.
- *
- * If a call that is handed to `with` throws, the edits that it made before stay; the lock is let go, subscribers are told, and the exception goes on
- * only to the caller of `with`. Nothing else of a caller's runs under the lock. If C++ itself is out of memory, std::bad_alloc is thrown, and nothing
- * has changed or counts as told. */
-template <class Of> class shared;
 
 /** A vector that threads share, as livevec::shared says. */
 template <>
@@ -421,26 +289,27 @@ class [[nodiscard]] shared<vector> : public inner::shared_form<vector> {
     explicit shared(vector of = vector()) : shared_form(std::move(of)) {}
 
     /** Makes room for so many elements in all; `place` is how many now fit. O(1). */
-    receipt reserve(position elements)
-    {
-        return edit([=](vector &of) { return receipt{0, of.reserve(elements)}; });
-    }
+    receipt reserve(position elements) { return edit([=](vector &of) { return receipt{0, of.reserve(elements)}; }); }
     /** How many elements fit into the memory that is held. O(1). */
-    [[nodiscard]] std::uint32_t capacity() const
+    [[nodiscard]] std::uint32_t capacity() const { return reads(&vector::capacity); }
+    /** A scan by one kind into the front of a column of the caller's, and how many cells that is. O(length). */
+    template <kind Kind> std::uint32_t scan_inclusive_into(position lo, position hi, view<cell<Kind>> column) const
     {
-        return reads([](const vector &of) { return of.capacity(); });
+        return reads([=](const vector &of) { return of.scan_inclusive_into<Kind>(lo, hi, column); });
+    }
+    /** The same, each without the element at its place. O(length). */
+    template <kind Kind> std::uint32_t scan_exclusive_into(position lo, position hi, view<cell<Kind>> column) const
+    {
+        return reads([=](const vector &of) { return of.scan_exclusive_into<Kind>(lo, hi, column); });
     }
     /** The summary of a range, as vector::summarise. */
-    [[nodiscard]] summary summarise(position lo, position hi) const
-    {
-        return reads([=](const vector &of) { return of.summarise(lo, hi); });
-    }
+    [[nodiscard]] summary summarise(position lo, position hi) const { return reads(&vector::summarise, lo, hi); }
 
     /** Goes on as a copy, before the vector is worn: with the same elements, limits, table and kind, and no edits yet but the pushes of its elements.
      * Numbers of edits go on as if nothing were, and subscribers are told nothing. Refused as the pushes would be, with nothing changed. O(n). */
     void renew()
     {
-        turn mine(at());
+        turn mine(here());
         vector fresh = mine.at.of.unfilled_like();
         inner::check(livevec_shared_renew(&mine.at.lock, fresh.slot()));
         mine.at.handle = fresh.slot();
@@ -454,8 +323,8 @@ class [[nodiscard]] shared<vector> : public inner::shared_form<vector> {
         std::vector<inner::shared_worker> made;
         try {
             for (made.reserve(count); made.size() < count;)
-                made.emplace_back(&at().lock);
-            const turn mine(at());
+                made.emplace_back(&here().lock);
+            const turn mine(here());
             mine.at.workers.reserve(mine.at.workers.size() + count);
             std::move(made.begin(), made.end(), std::back_inserter(mine.at.workers));
         } catch (const refused &) {
@@ -469,7 +338,7 @@ class [[nodiscard]] shared<vector> : public inner::shared_form<vector> {
     {
         std::vector<inner::shared_worker> ended;
         try {
-            const turn mine(at());
+            const turn mine(here());
             ended.swap(mine.at.workers);
         } catch (const refused &why) {
             if (why.number() != LIVEVEC_NO_HANDLE)
@@ -485,25 +354,24 @@ template <class Of>
 class shared_by_index : public shared_form<Of> {
   public:
     /** Drops the elements before an index; `place` is how many were dropped. O(1) amortised. */
-    receipt expire(std::uint64_t index)
-    {
-        return this->edit([=](Of &of) { return receipt{0, of.expire(index)}; });
-    }
+    receipt expire(position_long index) { return this->edit([=](Of &of) { return receipt{0, of.expire(index)}; }); }
     /** The first index that is kept. O(1). */
-    [[nodiscard]] std::uint64_t first() const
-    {
-        return this->reads([](const Of &of) { return of.first(); });
-    }
+    [[nodiscard]] std::uint64_t first() const { return this->reads(&Of::first); }
     /** How many elements are kept. O(1). */
-    [[nodiscard]] std::uint64_t length() const
+    [[nodiscard]] std::uint64_t length() const { return this->reads(&Of::length); }
+    /** A piece of a scan by one kind into a column of the caller's, from `at` on, and how many cells that is. O(length), and O(at - lo) more without a
+     * tree. */
+    template <kind Kind> std::size_t scan_inclusive_into(position_long lo, position_long at, position_long hi, view<cell<Kind>> column) const
     {
-        return this->reads([](const Of &of) { return of.length(); });
+        return this->reads([=](const Of &of) { return of.template scan_inclusive_into<Kind>(lo, at, hi, column); });
+    }
+    /** The same, each without the element at its place. */
+    template <kind Kind> std::size_t scan_exclusive_into(position_long lo, position_long at, position_long hi, view<cell<Kind>> column) const
+    {
+        return this->reads([=](const Of &of) { return of.template scan_exclusive_into<Kind>(lo, at, hi, column); });
     }
     /** Makes the tree of a kind, if there is none. O(n) then. */
-    void prepare(kind by)
-    {
-        this->edit_many([=](Of &of) { of.prepare(by); });
-    }
+    void prepare(kind by) { this->edit_many([=](Of &of) { of.prepare(by); }); }
 
   protected:
     using shared_form<Of>::shared_form;
@@ -526,55 +394,36 @@ class [[nodiscard]] shared<samples> : public inner::shared_by_index<samples> {
     /** Puts a lock round samples. O(1). */
     explicit shared(samples of = samples()) : shared_by_index(std::move(of)) {}
     /** Samples don't change places. */
-    receipt swap_elements(std::uint64_t, std::uint64_t) = delete;
+    receipt swap_elements(position_long, position_long) = delete;
+    /** Samples have times. */
+    void push_back(element) = delete;
     /** They are written one by one. */
     std::uint64_t write_many(series_index_view, array_view) = delete;
 
     /** Puts a sample at the end; `place` is its index. O(1) amortised for each tree. */
-    receipt push(element time, element value)
-    {
-        return edit([=](samples &of) { return receipt{0, of.push(time, value)}; });
-    }
+    receipt push(element time, element value) { return edit([=](samples &of) { return receipt{0, of.push(time, value)}; }); }
     /** Pushes in order, up to the first that is refused, as samples::push_many, and gives the last edit. O(length) amortised for each tree. */
-    std::uint64_t push_many(array_view times, array_view values)
-    {
-        return edit_many([=](samples &of) { of.push_many(times, values); });
-    }
+    std::uint64_t push_many(array_view times, array_view values) { return edit_many([=](samples &of) { of.push_many(times, values); }); }
     /** Drops the samples that were taken before a time; `place` is how many they were. O(log n), and O(1) amortised. */
-    receipt expire_before(element time)
-    {
-        return edit([=](samples &of) { return receipt{0, of.expire_before(time)}; });
-    }
+    receipt expire_before(element time) { return edit([=](samples &of) { return receipt{0, of.expire_before(time)}; }); }
     /** The sample under an index; the index is checked. O(1). */
-    [[nodiscard]] sample at(std::uint64_t index) const
-    {
-        return reads([=](const samples &of) { return of.at(index); });
-    }
+    [[nodiscard]] sample at(position_long index) const { return reads([=](const samples &of) { return of.at(index); }); }
     /** The times of a range of indices, all after one edit. O(length). */
-    [[nodiscard]] std::vector<std::int64_t> times(std::uint64_t lo, std::uint64_t hi) const
+    [[nodiscard]] std::vector<std::int64_t> times(position_long lo, position_long hi) const
     {
         return reads([=](const samples &of) { return of.times(lo, hi); });
     }
     /** The samples of a window of time, as samples::between. Another thread may edit before the next call: within a `with` it doesn't. O(log n). */
-    [[nodiscard]] livevec_window between(element since, element until) const
-    {
-        return answer([=](const samples &of) { return of.between(since, until); });
-    }
+    [[nodiscard]] livevec_window between(element since, element until) const { return answer(&samples::between, since, until); }
     /** The samples of the last `span` of time, as samples::last. Another thread may edit before the next call: within a `with` it doesn't. O(log n). */
-    [[nodiscard]] livevec_window last(std::uint64_t span) const
-    {
-        return answer([=](const samples &of) { return of.last(span); });
-    }
+    [[nodiscard]] livevec_window last(position_long span) const { return answer(&samples::last, span); }
     /** The value of a window of time by one kind, as samples::value_between. O(log n); the first time O(n), which makes the tree. */
     [[nodiscard]] livevec_series_reduced value_between(kind by, element since, element until) const
     {
-        return answer([=](const samples &of) { return of.value_between(by, since, until); });
+        return answer(&samples::value_between, by, since, until);
     }
     /** The value of the last `span` of time by one kind, as samples::value_of_last. O(log n); the first time O(n), which makes the tree. */
-    [[nodiscard]] livevec_series_reduced value_of_last(kind by, std::uint64_t span) const
-    {
-        return answer([=](const samples &of) { return of.value_of_last(by, span); });
-    }
+    [[nodiscard]] livevec_series_reduced value_of_last(kind by, position_long span) const { return answer(&samples::value_of_last, by, span); }
 };
 
 /** A vector that threads share. */

@@ -74,6 +74,9 @@ static_assert(!std::is_constructible_v<livevec::vector, livevec_kind> && !std::i
 static_assert(!std::is_constructible_v<livevec::vector, int, int> && !std::is_constructible_v<livevec::vector, std::uint32_t>);
 static_assert(!std::is_constructible_v<livevec::vector, std::initializer_list<double>> && !std::is_constructible_v<livevec::series, livevec_kind>);
 static_assert(!std::is_convertible_v<livevec::kind, std::int64_t> && std::is_constructible_v<livevec::vector, livevec::kind>);
+/* An index is any integer, and nothing that would be cut to one. */
+static_assert(!std::is_convertible_v<double, livevec::position> && !std::is_convertible_v<float, livevec::position_long>);
+static_assert(std::is_convertible_v<short, livevec::position_long> && std::is_convertible_v<std::uint64_t, livevec::position>);
 static_assert(std::is_base_of_v<std::exception, livevec::inner::thrown<livevec::not_kept, std::out_of_range>>);
 
 static void takes_ranges_of_integers()
@@ -119,7 +122,13 @@ static void throws_what_the_library_throws()
     IS(said_by<std::out_of_range>([&] { (void)all.sum(1, 4); }) == "out of range: past the end (range 1 to 4, size 3)");
     IS(said_by<std::out_of_range>([&] { (void)all.read(2, 1); }) == "a range whose start is past its end (range 2 to 1)");
     IS(said_by<std::out_of_range>([&] { all.swap_elements(1, 7); }) == "out of range: past the end (index 7, size 3)");
-    IS(said_by<std::out_of_range>([&] { all.write_many({0, 5}, {1, 1}); }) == "out of range: past the end (at place 1, size 3)");
+    IS(said_by<std::out_of_range>([&] { all.write_many({0, 5}, {1, 1}); }) == "out of range: past the end (index 5 at place 1, size 3)");
+    IS(said_by<std::out_of_range>([&] { (void)all.value_many(livevec::kind::sum, {{0, 1}, {0, 4}}); }) == "out of range: past the end (range 0 to 4 at place 1, size 3)");
+    IS(said_by<livevec::not_kept_at>([&] { some.write_many({1, 0}, {1, 1}); }) == "out of range: past the end (index 0 at place 1, kept from 1 up to 3)");
+    IS(said_by<std::out_of_range>([&] { (void)all[-1]; }) == "out of range: past the end (index -1, size 3)");
+    IS(said_by<std::out_of_range>([&] { (void)all[INT64_C(4294967297)]; }) == "out of range: past the end (index 4294967297, size 3)");
+    IS(said_by<livevec::not_kept>([&] { (void)some.sum(0, -1); }) == "out of range: past the end (range 0 to -1, kept from 1 up to 3)");
+    IS(said_by<std::out_of_range>([] { (void)livevec::samples().between(7, 6); }) == "a range whose start is past its end (times 7 to 6)");
     IS(said_by<std::out_of_range>([&] { (void)some[0]; }) == "out of range: past the end (index 0, kept from 1 up to 3)");
     IS(said_by<livevec::not_kept>([&] { (void)some.sum(0, 3); }) == "out of range: past the end (range 0 to 3, kept from 1 up to 3)");
     IS(said_by<std::runtime_error>([] { livevec::vector(livevec::limits{0, 1}); }) == "limits outside their ranges");

@@ -156,7 +156,7 @@ template <class Of> static void as_alone(Of alone)
         own += each;
     IS(sum == 19 && own == 19 && alone.cbegin() != alone.cend() && of.clone() == alone && alone.front() == 3 && alone.back() == 6);
     alone.pop_back();
-    IS(of.clone() != alone && of.clear() == 9 && of.empty() && refusal_of([&] { (void)of.front(); }) == LIVEVEC_OUT_OF_RANGE);
+    IS(of.clone() != alone && of.cbegin() != of.cend() && !(of != of) && of.clear() == 9 && of.empty() && refusal_of([&] { (void)of.front(); }) == LIVEVEC_OUT_OF_RANGE);
     IS(alone.size() == 7 && (alone.clear(), alone.empty()));
 }
 
@@ -173,6 +173,16 @@ static void each_form_as_alone()
     shared<livevec::series> series{livevec::series(elements)};
     series.prepare(kind::best);
     IS(livevec::series::load(series.save()) == series.clone() && series.length() == 8);
+    list column(3);
+    IS(vector.scan_inclusive_into<kind::sum>(0, 3, column) == 3 && (column == list{3, 2, 6}) && refusal_of([&] { (void)vector.scan_inclusive_into<kind::sum>(0, 4, column); }) == LIVEVEC_SHORT_BUFFER);
+    IS(vector.scan_exclusive_into<kind::greatest>(0, 2, column) == 2 && (column == list{0, 3, 6}));
+    IS(series.scan_inclusive_into<kind::sum>(0, 3, 8, column) == 3 && (column == list{7, 2, 11}) && series.scan_exclusive_into<kind::least>(0, 6, 8, column) == 2 && (column == list{-5, -5, 11}));
+    shared<livevec::series> pushed{livevec::series(elements)};
+    IS(series == pushed);
+    pushed.push_back(7);
+    IS(series != pushed && pushed.back() == 7);
+    pushed.pop_back();
+    IS(series == pushed);
     const shared<livevec::samples> load{livevec::samples(times, elements)};
     IS((load.times(1, 4) == list{5, 5, 10} && load.between(5, 10).lo == 1 && load.last(10).lo == 6 && load.last(10).edit == 8));
     IS(livevec::samples::load(load.save()) == load.clone() && load.clone() != livevec::samples(times, list(8)));
