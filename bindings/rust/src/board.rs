@@ -158,7 +158,7 @@ impl Seat {
 
     /// The element at an index. O(1). Refused with `OutOfRange`, `Overtaken`.
     pub fn get(&self, index: impl AsIndex) -> Result<i64, Refusal> {
-        self.raw.get(narrow(index))
+        self.raw.get(narrow(index)).map(|found| found.value)
     }
 
     /// How many elements there are. O(1). Another seat may change it at once.
@@ -234,7 +234,7 @@ impl Closed {
 
     /// The element at an index. O(1). Refused with `OutOfRange` alone.
     pub fn get(&self, index: impl AsIndex) -> Result<i64, Refusal> {
-        self.raw.closed_get(narrow(index))
+        self.raw.closed_get(narrow(index)).map(|found| found.value)
     }
 
     /// Fills the front of a buffer with all elements, and gives that front. Linear. Refused with `ShortBuffer` alone.

@@ -92,7 +92,7 @@ impl Vector {
 
     fn fill<'a, K: Column>(&self, range: impl Indices, column: &'a mut [K::Cell], inclusive: bool) -> Result<Filled<'a, K::Cell>, Refusal> {
         let (lo, hi) = ends(range, || self.len());
-        let (edit, length) = self.raw.scan_into::<K>(lo, hi, inclusive, column)?;
-        Ok(Filled { edit, cells: &mut column[..length] })
+        let did = self.raw.scan_into::<K>(inclusive, lo, hi, column)?;
+        Ok(Filled { edit: did.edit, cells: &mut column[..did.length as usize] })
     }
 }

@@ -38,7 +38,7 @@ use source::Source;
 
 impl Source for Vector {
     fn fill(&self, lo: u64, hi: u64, room: &mut [i64]) -> usize {
-        self.raw.read(lo as u32, hi as u32, room).expect("the range lies within the vector")
+        self.raw.read(lo as u32, hi as u32, room).expect("the range lies within the vector").length as usize
     }
 }
 

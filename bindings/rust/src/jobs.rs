@@ -8,7 +8,7 @@ impl Vector {
     /// Computes at most so many summaries in place, the least node first, and tells how many. No answer changes by it. Linear in how
     /// many they are: of eight elements or summaries each.
     pub fn refresh(&mut self, jobs: u32) -> u32 {
-        self.raw.refresh(jobs)
+        self.raw.refresh(jobs).map_or(0, |count| count.value)
     }
 
     /// A job for the least node that wants one, if there is one. O(log n). Refused with `NoMemory` alone. See [`Job`].

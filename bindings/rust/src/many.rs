@@ -23,7 +23,7 @@ impl Vector {
     /// ```
     pub fn extend_from_slice(&mut self, values: &[i64]) -> Result<u32, RefusedAt> {
         match self.raw.push_many(values) {
-            Ok(()) => Ok(self.edits()),
+            Ok(_) => Ok(self.edits()),
             Err(refusal) => Err(RefusedAt { place: self.first_refused(refusal), done: 0, refusal }),
         }
     }

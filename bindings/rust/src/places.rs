@@ -1,6 +1,5 @@
 //! Where in a range something is: of a vector, and by the same calls of a series.
 
-use crate::raw::Found;
 use crate::values::ends;
 use crate::{Indices, Vector};
 
@@ -102,7 +101,7 @@ macro_rules! is_searched {
                 self.index_of(crate::raw::Sought::LastAtMost(bound), range)
             }
 
-            fn found(&self, what: crate::raw::Sought, $range: impl Indices) -> Result<Option<Found>, crate::Refusal> {
+            fn found(&self, what: crate::raw::Sought, $range: impl Indices) -> Result<Option<crate::raw::Found<$index>>, crate::Refusal> {
                 let $it = self;
                 let (lo, hi) = $ends;
                 self.raw.find(what, lo, hi)

@@ -93,7 +93,7 @@ impl Vector {
     /// Refused with `BadRange`, `OutOfRange`, in this order.
     pub fn summary(&self, range: impl Indices) -> Result<Summary, Refusal> {
         let (lo, hi) = ends(range, || self.len());
-        self.raw.summary(lo, hi).map(Summary::of_raw)
+        self.raw.summary(lo, hi).map(|told| Summary::of_raw(told.summary))
     }
 
     /// The sum, which wraps where it does not fit an `i64`. Costs what [`value`](Vector::value) does, and is refused as it is.

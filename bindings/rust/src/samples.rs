@@ -136,7 +136,7 @@ impl Samples {
 
     /// The sample under an index. O(1). Refused with `NotKept` alone.
     pub fn get(&self, index: impl AsIndex) -> Result<Sample, Refusal> {
-        self.values.raw.sample(wide(index)).map(|(time, value)| Sample { time, value })
+        self.values.raw.sample(wide(index)).map(|told| Sample { time: told.time, value: told.value })
     }
 
     /// Puts the times of a range of indices into a buffer, as [`Series::read_into`] does the values, and refused as that. Linear in
@@ -159,14 +159,14 @@ impl Samples {
 
     /// The indices of the samples whose times are in a range, its end excluded. O(log n). Refused with `BadRange`.
     pub fn between(&self, times: Range<i64>) -> Result<Range<u64>, Refusal> {
-        self.values.raw.between(times.start, times.end).map(|(lo, hi)| lo..hi)
+        self.values.raw.between(times.start, times.end).map(|window| window.lo..window.hi)
     }
 
     /// The indices of the samples of the last `span` of time: those whose times are above that of the last sample less `span`. Of a span of 0
     /// there is none, and of 1 those with the last one's time. O(log n).
     pub fn last(&self, span: u64) -> Range<u64> {
-        let (lo, hi) = self.values.raw.last(span);
-        lo..hi
+        let window = self.values.raw.last(span).expect("samples that are there have a window");
+        window.lo..window.hi
     }
 
     /// The value by one kind of the samples whose times are in a range. O(log n): the kind's tree is made first, in O(n), where there is none. Refused with

@@ -38,7 +38,7 @@ impl Vector {
     /// Puts the bytes from the place `from` on into a buffer, as [`Series::save_into`] does. Each piece copies all elements, so [`save`](Vector::save) is
     /// quicker. Refused with `NoMemory`, then with `BadRange` where `from` is no multiple of 8.
     pub fn save_into(&self, from: u64, buffer: &mut [u8]) -> Result<usize, Refusal> {
-        self.raw.save(from, buffer)
+        self.raw.save(from, buffer).map(|did| did.length as usize)
     }
 
     /// The same bytes to a writer, which are in memory until then. Tells how many they are.
@@ -118,7 +118,7 @@ impl Series {
     /// how many they are, 0 at the end: the next piece starts behind them. An edit between two pieces makes them pieces of two series. Refused
     /// with `BadRange` where `from` is no multiple of 8.
     pub fn save_into(&self, from: u64, buffer: &mut [u8]) -> Result<usize, Refusal> {
-        self.raw.save(from, buffer)
+        self.raw.save(from, buffer).map(|did| did.length as usize)
     }
 
     /// The same bytes to a writer, in pieces: no more than 64 KiB beside the series. Tells how many they are.

@@ -90,7 +90,7 @@ impl Series {
     ///
     /// Refused as the first push that is refused would be, with `Worn` or `Full`, then with `NoMemory`. Nothing has changed then.
     pub fn extend_from_slice(&mut self, values: &[i64]) -> Result<u64, RefusedAt> {
-        self.raw.push_many(values).map_err(RefusedAt::of_all)
+        self.raw.push_many(values).map(|did| did.edit).map_err(RefusedAt::of_all)
     }
 
     /// Drops the last element. O(log n). Refused with `Worn`, `Empty`, in this order.
@@ -121,7 +121,7 @@ impl Series {
 
     /// The element under an index. O(1). Refused with `NotKept` alone.
     pub fn get(&self, index: impl AsIndex) -> Result<i64, Refusal> {
-        self.raw.get(wide(index))
+        self.raw.get(wide(index)).map(|found| found.value)
     }
 
     /// The index of the first element that is kept; where none is, that of the next that is pushed. O(1).
@@ -242,7 +242,7 @@ impl Series {
 
     fn running(&self, inclusive: bool, range: impl Indices) -> Result<Running<'_>, Refusal> {
         let (lo, hi) = self.ends(range);
-        self.raw.scan(inclusive, lo, lo, hi, &mut [])?;
+        self.raw.scan_inclusive(lo, lo, hi, &mut [])?;
         Running::new(self, inclusive, lo, hi)
     }
 
@@ -270,7 +270,7 @@ impl fmt::Debug for Series {
 }
 
 impl Reduced {
-    fn of(raw: raw::series::Reduced) -> Reduced {
+    fn of(raw: raw::SeriesReduced) -> Reduced {
         Reduced { edit: raw.edit, values: Values::of_raw(raw.values) }
     }
 }

@@ -17,7 +17,7 @@ impl Series {
     /// Makes the tree of a kind, where there is none, in O(n): from then on a value by that kind takes O(log n) joins, and each edit renews the tree.
     /// Refused with `NoMemory`, and nothing has changed then.
     pub fn prepare(&mut self, kind: Kind) -> Result<(), Refusal> {
-        self.raw.prepare(kind as u32)
+        self.raw.prepare(kind as u32).map(drop)
     }
 
     /// Writes each value under the index of the same place, in order, by one call. An index may come twice: the later value stays. Each
@@ -107,7 +107,7 @@ impl Series {
         for range in ranges {
             let (lo, hi) = self.ends(range);
             asked.try_reserve(1).map_err(|_| RefusedAt::of_all(Refusal::NoMemory))?;
-            asked.push(raw::series::Ends { lo, hi });
+            asked.push(raw::Ends { lo, hi });
         }
         let told = self.raw.value_many(kind as u32, &asked)?;
         let mut values = raw::roomy(told.len()).map_err(RefusedAt::of_all)?;

@@ -1,7 +1,6 @@
 //! Where in a range of a [`Series`] something is.
 
 use crate::places::is_searched;
-use crate::raw::series::Found;
 use crate::{Indices, Series};
 
 is_searched!(

@@ -19,7 +19,7 @@ impl Vector {
     /// ```
     pub fn total(&self, range: impl Indices) -> Result<i128, Refusal> {
         let (lo, hi) = crate::values::ends(range, || self.len());
-        self.raw.exact_sum(lo, hi)
+        self.raw.exact_sum(lo, hi).map(|told| told.sum.exact())
     }
 }
 
@@ -30,6 +30,6 @@ impl Series {
     /// three times what [`value`](Series::value) does. Refused as `value` is.
     pub fn total(&self, range: impl Indices) -> Result<i128, Refusal> {
         let (lo, hi) = self.ends(range);
-        self.raw.exact_sum(lo, hi)
+        self.raw.exact_sum(lo, hi).map(|told| told.sum.exact())
     }
 }

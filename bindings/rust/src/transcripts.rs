@@ -2,6 +2,7 @@
 
 use std::fmt;
 
+use crate::raw::Says;
 use crate::raw::transcripts as calls;
 use crate::{Edit, Kind, Limits, Refusal, Value, Vector, raw};
 

@@ -161,7 +161,7 @@ impl Vector {
 
     /// The element at an index. O(1). Refused with `OutOfRange` alone.
     pub fn get(&self, index: impl AsIndex) -> Result<i64, Refusal> {
-        self.raw.get(narrow(index))
+        self.raw.get(narrow(index)).map(|found| found.value)
     }
 
     /// The last element, if there is one. O(1).
@@ -228,7 +228,7 @@ impl Vector {
     /// Refused with `BadRange`, `OutOfRange`, then `ShortBuffer`.
     pub fn read_into<'a>(&self, range: impl Indices, buffer: &'a mut [i64]) -> Result<&'a mut [i64], Refusal> {
         let (lo, hi) = ends(range, || self.len());
-        let length = self.raw.read(lo, hi, buffer)?;
+        let length = self.raw.read(lo, hi, buffer)?.length as usize;
         Ok(&mut buffer[..length])
     }
 }

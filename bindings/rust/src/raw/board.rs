@@ -1,35 +1,26 @@
 //! The C calls of boards and seats, and handles over them.
 
-use std::cell::UnsafeCell;
 use std::mem::ManuallyDrop;
 use std::sync::{Arc, Mutex, MutexGuard, PoisonError};
 
-use super::{Count, Edited, Element, Reduced, Slot, answered, boxed};
+use super::{Boxed, Count, Edited, Element, Reduced, Says, Short, Slot, calls, counts, says};
 use crate::Refusal;
 
 #[repr(C)]
 pub(crate) struct Renewed {
-    refusal: u32,
-    detail: u32,
+    said: Short,
     pub(crate) edit: u32,
     pub(crate) version: u32,
 }
+
+says!(Renewed);
 
 unsafe extern "C" {
     fn livevec_board_new(slot: *mut Slot, kind: u32, buckets: u32, edits: u32, seats: u32) -> u32;
     fn livevec_board_sit(board: *mut Slot, seat: *mut Slot) -> u32;
     fn livevec_board_take_back(board: *mut Slot, seat: *mut Slot) -> u32;
-    fn livevec_board_close(board: *mut Slot) -> Count;
-    fn livevec_closed_size(board: *mut Slot) -> Count;
-    fn livevec_closed_get(board: *mut Slot, index: u32) -> Element;
+    fn livevec_board_close(board: *mut Slot) -> Count<u32>;
     fn livevec_closed_read(board: *mut Slot, buffer: *mut i64, room: usize, count: *mut u32) -> u32;
-    fn livevec_seat_push(seat: *mut Slot, value: i64, tries: u32) -> Edited;
-    fn livevec_seat_pop(seat: *mut Slot, tries: u32) -> Edited;
-    fn livevec_seat_write(seat: *mut Slot, index: u32, value: i64, tries: u32) -> Edited;
-    fn livevec_seat_get(seat: *mut Slot, index: u32) -> Element;
-    fn livevec_seat_size(seat: *mut Slot) -> Count;
-    fn livevec_seat_reduce(seat: *mut Slot, lo: u32, hi: u32) -> Reduced;
-    fn livevec_seat_refresh(seat: *mut Slot, block: u32) -> Renewed;
     fn livevec_free_board(board: *mut Slot) -> u32;
     fn livevec_free_seat(seat: *mut Slot) -> u32;
 }
@@ -40,7 +31,7 @@ type Dropped = Arc<Mutex<Vec<SeatSlot>>>;
 
 /// A board of C, open or closed. Its slot is full from `new` to the drop.
 pub(crate) struct Board {
-    slot: Box<UnsafeCell<Slot>>,
+    slot: Boxed,
     dropped: Dropped,
 }
 
@@ -50,9 +41,8 @@ unsafe impl Send for Board {}
 
 impl Board {
     pub(crate) fn new(kind: u32, buckets: u32, edits: u32, seats: u32) -> Result<Board, Refusal> {
-        let slot = boxed(Slot::empty())?;
-        // SAFETY: the slot is empty, and lies in its box until it is dropped.
-        answered(unsafe { livevec_board_new(slot.get(), kind, buckets, edits, seats) }, 0, ())?;
+        // SAFETY: the slot is as `filled` says.
+        let (slot, _) = Slot::filled(|slot| unsafe { livevec_board_new(slot, kind, buckets, edits, seats) })?;
         let board = Board { slot, dropped: Dropped::default() };
         // room for all seats, so that the drop of one takes no memory
         let room = held(&board.dropped).try_reserve_exact(seats as usize);
@@ -73,9 +63,8 @@ impl Board {
 
     pub(crate) fn sit(&mut self) -> Result<Seat, Refusal> {
         self.gather();
-        let slot = boxed(Slot::empty())?;
-        // SAFETY: see above; the seat's slot is empty, and lies in its box until it is dropped.
-        answered(unsafe { livevec_board_sit(self.slot.get(), slot.get()) }, 0, ())?;
+        // SAFETY: see above; the seat's slot is as `filled` says.
+        let (slot, _) = Slot::filled(|seat| unsafe { livevec_board_sit(self.at(), seat) })?;
         Ok(Seat { slot: ManuallyDrop::new(SeatSlot(slot)), dropped: self.dropped.clone() })
     }
 
@@ -83,20 +72,7 @@ impl Board {
     pub(crate) fn close(&mut self) -> Result<u32, Refusal> {
         self.gather();
         // SAFETY: see above.
-        let told = unsafe { livevec_board_close(self.slot.get()) };
-        answered(told.refusal, 0, told.value)
-    }
-
-    /// How many elements the closed board has.
-    pub(crate) fn closed_size(&self) -> u32 {
-        // SAFETY: see above.
-        unsafe { livevec_closed_size(self.slot.get()) }.value
-    }
-
-    pub(crate) fn closed_get(&self, index: u32) -> Result<i64, Refusal> {
-        // SAFETY: see above.
-        let found = unsafe { livevec_closed_get(self.slot.get(), index) };
-        answered(found.refusal, found.detail, found.value)
+        Ok(unsafe { livevec_board_close(self.at()) }.answered()?.value)
     }
 
     /// Fills the front of a buffer with the elements of the closed board, and tells how many they are.
@@ -104,8 +80,20 @@ impl Board {
         let mut count = 0;
         // SAFETY: see above; at most so many elements are written as the buffer has, and the count is written to during the call.
         let refusal = unsafe { livevec_closed_read(self.slot.get(), buffer.as_mut_ptr(), buffer.len(), &mut count) };
-        answered(refusal, count, count as usize)
+        Short { number: refusal, detail: count }.answered()?;
+        Ok(count as usize)
     }
+
+    fn at(&self) -> *mut Slot {
+        self.slot.get()
+    }
+}
+
+counts! { Board, u32:
+    closed_size = livevec_closed_size;
+}
+calls! { Board:
+    closed_get(index: u32) -> Element<u32> = livevec_closed_get;
 }
 
 impl Drop for Board {
@@ -121,7 +109,7 @@ fn held(dropped: &Dropped) -> MutexGuard<'_, Vec<SeatSlot>> {
 }
 
 /// The slot of a seat, which is full until the board has the seat back. Else the seat is freed.
-struct SeatSlot(Box<UnsafeCell<Slot>>);
+struct SeatSlot(Boxed);
 
 // SAFETY: between calls a slot may go to another thread, says the header. One that is sent is owned, so no call of it is under way.
 unsafe impl Send for SeatSlot {}
@@ -140,49 +128,21 @@ pub(crate) struct Seat {
 }
 
 impl Seat {
-    // For each call below: the slot is full, since `self` was made, and no other call is at it, since `self` is not `Sync` and C never
-    // calls back.
-
-    pub(crate) fn push(&mut self, value: i64, tries: u32) -> Result<Edited, Refusal> {
-        // SAFETY: see above.
-        let did = unsafe { livevec_seat_push(self.slot.0.get(), value, tries) };
-        answered(did.refusal, did.detail, did)
+    fn at(&self) -> *mut Slot {
+        self.slot.0.get()
     }
+}
 
-    pub(crate) fn pop(&mut self, tries: u32) -> Result<Edited, Refusal> {
-        // SAFETY: see above.
-        let did = unsafe { livevec_seat_pop(self.slot.0.get(), tries) };
-        answered(did.refusal, did.detail, did)
-    }
-
-    pub(crate) fn write(&mut self, index: u32, value: i64, tries: u32) -> Result<Edited, Refusal> {
-        // SAFETY: see above.
-        let did = unsafe { livevec_seat_write(self.slot.0.get(), index, value, tries) };
-        answered(did.refusal, did.detail, did)
-    }
-
-    pub(crate) fn get(&self, index: u32) -> Result<i64, Refusal> {
-        // SAFETY: see above.
-        let found = unsafe { livevec_seat_get(self.slot.0.get(), index) };
-        answered(found.refusal, found.detail, found.value)
-    }
-
-    pub(crate) fn size(&self) -> u32 {
-        // SAFETY: see above.
-        unsafe { livevec_seat_size(self.slot.0.get()) }.value
-    }
-
-    pub(crate) fn reduce(&self, lo: u32, hi: u32) -> Result<Reduced, Refusal> {
-        // SAFETY: see above.
-        let did = unsafe { livevec_seat_reduce(self.slot.0.get(), lo, hi) };
-        answered(did.refusal, did.detail, did)
-    }
-
-    pub(crate) fn refresh(&self, block: u32) -> Result<Renewed, Refusal> {
-        // SAFETY: see above.
-        let did = unsafe { livevec_seat_refresh(self.slot.0.get(), block) };
-        answered(did.refusal, did.detail, did)
-    }
+calls! { Seat:
+    push(value: i64, tries: u32) -> Edited<u32> = livevec_seat_push;
+    pop(tries: u32) -> Edited<u32> = livevec_seat_pop;
+    write(index: u32, value: i64, tries: u32) -> Edited<u32> = livevec_seat_write;
+    get(index: u32) -> Element<u32> = livevec_seat_get;
+    reduce(lo: u32, hi: u32) -> Reduced = livevec_seat_reduce;
+    refresh(block: u32) -> Renewed = livevec_seat_refresh;
+}
+counts! { Seat, u32:
+    size = livevec_seat_size;
 }
 
 impl Drop for Seat {

@@ -3,12 +3,12 @@
 
 use std::cell::UnsafeCell;
 
-use super::{Count, Slot, Vector, answered, boxed};
+use super::{Count, Says, Slot, Vector, boxed, calls, says};
 use crate::Refusal;
 
 #[repr(C)]
 pub(crate) struct ClaimedJob {
-    refusal: u32,
+    said: u32,
     found: bool,
     pub(crate) level: u32,
     pub(crate) number: u32,
@@ -17,19 +17,20 @@ pub(crate) struct ClaimedJob {
 
 #[repr(C)]
 pub(crate) struct Became {
-    refusal: u32,
+    said: u32,
     pub(crate) became: u32,
     pub(crate) now: u32,
 }
 
 #[repr(C)]
 struct Vetted {
-    refusal: u32,
+    _said: u32,
     yes: bool,
 }
 
+says!(ClaimedJob, Became);
+
 unsafe extern "C" {
-    fn livevec_refresh(slot: *mut Slot, jobs: u32) -> Count;
     fn livevec_claim(slot: *mut Slot, job: *mut Slot) -> ClaimedJob;
     fn livevec_run(job: *mut Slot, outcome: *mut Slot) -> u32;
     fn livevec_vet(slot: *mut Slot, outcome: *mut Slot) -> Vetted;
@@ -39,12 +40,11 @@ unsafe extern "C" {
     fn livevec_free_outcome(outcome: *mut Slot) -> u32;
 }
 
-impl Vector {
-    pub(crate) fn refresh(&mut self, jobs: u32) -> u32 {
-        // SAFETY: see above.
-        unsafe { livevec_refresh(self.slot.get(), jobs) }.value
-    }
+calls! { Vector:
+    refresh(jobs: u32) -> Count<u32> = livevec_refresh;
+}
 
+impl Vector {
     pub(crate) fn forget(&mut self) {
         // SAFETY: see above.
         unsafe { livevec_forget(self.slot.get()) };
@@ -54,8 +54,7 @@ impl Vector {
     pub(crate) fn claim(&mut self) -> Result<Option<(ClaimedJob, Job)>, Refusal> {
         let work = boxed(Work { job: Slot::empty(), outcome: Slot::empty() })?;
         // SAFETY: see above; the job's slot is empty, and lies in its box until it is dropped.
-        let did = unsafe { livevec_claim(self.slot.get(), work.job.get()) };
-        answered(did.refusal, 0, ())?;
+        let did = unsafe { livevec_claim(self.at(), work.job.get()) }.answered()?;
         Ok(did.found.then_some((did, Job { work })))
     }
 
@@ -66,8 +65,7 @@ impl Vector {
 
     pub(crate) fn accept(&mut self, outcome: &Outcome) -> Result<Became, Refusal> {
         // SAFETY: see above; the outcome's slot is full, and no other call is at it, since an outcome is not `Sync` either.
-        let did = unsafe { livevec_accept(self.slot.get(), outcome.work.outcome.get()) };
-        answered(did.refusal, 0, did)
+        unsafe { livevec_accept(self.at(), outcome.work.outcome.get()) }.answered()
     }
 }
 

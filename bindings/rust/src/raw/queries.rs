@@ -2,8 +2,9 @@
 
 use std::cell::UnsafeCell;
 
-use super::series::{Reduced as SeriesReduced, Series};
-use super::{Reduced, SixValues, Slot, Vector, answered, boxed, roomy};
+use super::answers::SeriesReduced;
+use super::series::Series;
+use super::{Boxed, Number, Reduced, Says, Short, SixValues, Slot, Vector, roomy, says};
 use crate::{Kind, Refusal};
 
 /// How many bytes the name of a standing query has at most, and how many queries a set has.
@@ -26,22 +27,15 @@ impl Note {
     }
 }
 
+/// How many notes there are, by a vector or by a series. Each note has the last edit.
 #[repr(C)]
-struct Noted {
-    refusal: u32,
-    detail: u32,
-    // the last edit, which each note has
-    _edit: u32,
+struct Noted<N: Number> {
+    said: Short,
+    _edit: N,
     count: u32,
 }
 
-#[repr(C)]
-struct SeriesNoted {
-    refusal: u32,
-    detail: u32,
-    _edit: u64,
-    count: u32,
-}
+says!(Noted<N>);
 
 /// What a query asks: `livevec_query`.
 #[repr(C)]
@@ -77,15 +71,15 @@ unsafe extern "C" {
     fn livevec_watch_query(slot: *mut Slot, name: *const u8, name_length: usize, query: *const Query) -> u32;
     fn livevec_unwatch(slot: *mut Slot, name: *const u8, name_length: usize) -> u32;
     fn livevec_answer(slot: *mut Slot, vector: *mut Slot, name: *const u8, name_length: usize) -> Reduced;
-    fn livevec_notes(slot: *mut Slot, vector: *mut Slot, notes: *mut Note, room: usize) -> Noted;
+    fn livevec_notes(slot: *mut Slot, vector: *mut Slot, notes: *mut Note, room: usize) -> Noted<u32>;
     fn livevec_series_answer(slot: *mut Slot, series: *mut Slot, name: *const u8, name_length: usize) -> SeriesReduced;
-    fn livevec_series_notes(slot: *mut Slot, series: *mut Slot, notes: *mut Note, room: usize) -> SeriesNoted;
+    fn livevec_series_notes(slot: *mut Slot, series: *mut Slot, notes: *mut Note, room: usize) -> Noted<u64>;
     fn livevec_free_queries(slot: *mut Slot) -> u32;
 }
 
 /// A set of standing queries of C. Its slot is full from `new` to the drop.
 pub(crate) struct Queries {
-    slot: Box<UnsafeCell<Slot>>,
+    slot: Boxed,
 }
 
 // SAFETY: between calls a slot may go to another thread, says the header; the memory behind it is from malloc. It is not `Sync`, by its cell.
@@ -93,9 +87,8 @@ unsafe impl Send for Queries {}
 
 impl Queries {
     pub(crate) fn new() -> Result<Queries, Refusal> {
-        let slot = boxed(Slot::empty())?;
-        // SAFETY: the slot is empty, and lies in its box until it is dropped.
-        answered(unsafe { livevec_queries_new(slot.get()) }, 0, ())?;
+        // SAFETY: the slot is as `filled` says.
+        let (slot, _) = Slot::filled(|slot| unsafe { livevec_queries_new(slot) })?;
         Ok(Queries { slot })
     }
 
@@ -104,12 +97,12 @@ impl Queries {
 
     pub(crate) fn watch(&mut self, name: &[u8], query: &Query) -> Result<(), Refusal> {
         // SAFETY: see above.
-        answered(unsafe { livevec_watch_query(self.slot.get(), name.as_ptr(), name.len(), query) }, 0, ())
+        unsafe { livevec_watch_query(self.slot.get(), name.as_ptr(), name.len(), query) }.answered().map(drop)
     }
 
     pub(crate) fn unwatch(&mut self, name: &[u8]) -> Result<(), Refusal> {
         // SAFETY: see above.
-        answered(unsafe { livevec_unwatch(self.slot.get(), name.as_ptr(), name.len()) }, 0, ())
+        unsafe { livevec_unwatch(self.slot.get(), name.as_ptr(), name.len()) }.answered().map(drop)
     }
 
     /// The last edit, and the values.
@@ -117,28 +110,26 @@ impl Queries {
         let (set, at, bytes, length) = (self.slot.get(), of.slot.get(), name.as_ptr(), name.len());
         if of.is_vector {
             // SAFETY: see above.
-            let did = unsafe { livevec_answer(set, at, bytes, length) };
-            return answered(did.refusal, did.detail, (did.edit.into(), did.values));
+            let did = unsafe { livevec_answer(set, at, bytes, length) }.answered()?;
+            return Ok((did.edit.into(), did.values));
         }
         // SAFETY: see above.
-        let did = unsafe { livevec_series_answer(set, at, bytes, length) };
-        answered(did.refusal, 0, (did.edit, did.values))
+        let did = unsafe { livevec_series_answer(set, at, bytes, length) }.answered()?;
+        Ok((did.edit, did.values))
     }
 
     /// The notes that there are, all of them.
     pub(crate) fn notes(&mut self, of: Target<'_>) -> Result<Vec<Note>, Refusal> {
         let mut notes = roomy::<Note>(MOST_QUERIES)?;
         let (set, at, places) = (self.slot.get(), of.slot.get(), notes.as_mut_ptr());
-        let (refusal, detail, count) = if of.is_vector {
+        let count = if of.is_vector {
             // SAFETY: see above; at most so many notes are written as the buffer has room for.
-            let did = unsafe { livevec_notes(set, at, places, MOST_QUERIES) };
-            (did.refusal, did.detail, did.count)
+            unsafe { livevec_notes(set, at, places, MOST_QUERIES) }.answered()?.count
         } else {
             // SAFETY: the same.
-            let did = unsafe { livevec_series_notes(set, at, places, MOST_QUERIES) };
-            (did.refusal, did.detail, did.count)
+            unsafe { livevec_series_notes(set, at, places, MOST_QUERIES) }.answered()?.count
         };
-        let count = answered(refusal, detail, count as usize)?;
+        let count = count as usize;
         assert!(count <= MOST_QUERIES);
         // SAFETY: C has written so many notes, and the buffer has room for them.
         unsafe { notes.set_len(count) };

@@ -2,7 +2,7 @@
 
 use std::ptr;
 
-use super::{SixValues, Slot, Vector, answered, boxed, roomy};
+use super::{Says, Short, SixValues, Slot, Vector, boxed, roomy, says};
 use crate::{Refusal, Value};
 
 /// An edit: `livevec_edit`.
@@ -17,7 +17,7 @@ pub(crate) struct FlatEdit {
 
 #[repr(C)]
 struct JournalRead {
-    refusal: u32,
+    said: u32,
     // the last edit, which is asked for by itself
     _edit: u32,
     length: usize,
@@ -76,27 +76,21 @@ impl Recorded {
 
 #[repr(C)]
 struct TextPut {
-    refusal: u32,
+    said: u32,
     length: usize,
 }
 
 /// What an audit and a restoration answer: `livevec_audited`.
 #[repr(C)]
 pub(crate) struct Audited {
-    refusal: u32,
-    detail: u32,
+    said: Short,
     pub(crate) verdict: u32,
     pub(crate) line: u32,
     pub(crate) edits: u32,
     pub(crate) answers: u32,
 }
 
-impl Audited {
-    /// Why there is none, with all that was told.
-    pub(crate) fn refusal(&self) -> Option<Refusal> {
-        (self.refusal != 0).then(|| Refusal::of(self.refusal, self.detail))
-    }
-}
+says!(JournalRead, TextPut, Audited);
 
 unsafe extern "C" {
     fn livevec_journal(slot: *mut Slot, from: u32, edits: *mut FlatEdit, length: usize) -> JournalRead;
@@ -124,8 +118,7 @@ impl Vector {
         // SAFETY: the slot is full, and no other call is at it, as for each call of a vector; at most `most` edits are written, for which
         // there is room, and as many as are told were.
         unsafe {
-            let told = livevec_journal(self.slot.get(), from, edits.as_mut_ptr(), most);
-            answered(told.refusal, 0, ())?;
+            let told = livevec_journal(self.at(), from, edits.as_mut_ptr(), most).answered()?;
             edits.set_len(told.length);
         }
         Ok(edits)
@@ -136,14 +129,13 @@ impl Vector {
         // SAFETY: as above; the answers are read during the call alone, and with no room nothing is written.
         let wanted = unsafe { livevec_transcript(self.slot.get(), answers.as_ptr(), answers.len(), ptr::null_mut(), 0) };
         // a buffer shorter than the text: so it always is
-        if wanted.refusal != 103 {
-            answered(wanted.refusal, 0, ())?;
+        if wanted.said != 103 {
+            wanted.said.answered()?;
         }
         let mut text = roomy(wanted.length)?;
         // SAFETY: as above; at most so many bytes are written as there is room for, and where it isn't refused so many were.
         unsafe {
-            let told = livevec_transcript(self.slot.get(), answers.as_ptr(), answers.len(), text.as_mut_ptr(), wanted.length);
-            answered(told.refusal, 0, ())?;
+            let told = livevec_transcript(self.at(), answers.as_ptr(), answers.len(), text.as_mut_ptr(), wanted.length).answered()?;
             text.set_len(told.length);
         }
         Ok(text)
@@ -160,6 +152,6 @@ impl Vector {
             }
         };
         // an empty slot owns nothing
-        Ok(if told.refusal == 0 { Ok(Vector { slot }) } else { Err(told) })
+        Ok(if told.refusal().is_none() { Ok(Vector { slot }) } else { Err(told) })
     }
 }

@@ -2,21 +2,26 @@
 
 use std::slice;
 
-use super::{Series, Slot, answered};
+use super::{Series, Slot};
 use crate::Refusal;
+use crate::raw::answers::Long;
+use crate::raw::{calls, says};
 
 #[repr(C)]
-struct View {
-    refusal: u32,
-    first: u64,
-    size: u64,
+pub(crate) struct View {
+    said: Long,
     edit: u64,
     elements: *const i64,
     length: u64,
 }
 
+says!(View);
+
+calls! { Series:
+    view(lo: u64, hi: u64) -> View = livevec_series_lend;
+}
+
 unsafe extern "C" {
-    fn livevec_series_lend(slot: *mut Slot, lo: u64, hi: u64) -> View;
     fn livevec_series_give_back(slot: *mut Slot) -> u32;
 }
 
@@ -30,9 +35,7 @@ pub(crate) struct Lent<'a> {
 
 impl Series {
     pub(crate) fn lend(&mut self, lo: u64, hi: u64) -> Result<Lent<'_>, Refusal> {
-        // SAFETY: see the calls of `raw/series.rs`.
-        let View { refusal, first, size, edit, elements, length } = unsafe { livevec_series_lend(self.slot.get(), lo, hi) };
-        answered(refusal, first, size, ())?;
+        let View { edit, elements, length, .. } = self.view(lo, hi)?;
         Ok(Lent { series: self, elements, length: length as usize, edit })
     }
 }
@@ -50,6 +53,6 @@ impl Lent<'_> {
 impl Drop for Lent<'_> {
     fn drop(&mut self) {
         // SAFETY: the slot lies in its box, and the elements aren't read again.
-        unsafe { livevec_series_give_back(self.series.slot.get()) };
+        unsafe { livevec_series_give_back(self.series.at()) };
     }
 }

@@ -1,0 +1,162 @@
+//! How calls of C are declared, and made at the slot of a handle: by a row for each. A handle has `at`, which leads to its slot.
+//!
+//! For each of these calls the slot is full, since its handle was made, and no other call is at it, since the handle is not `Sync` and C never calls
+//! back. What is passed besides is plain, or so much of an array as there is.
+
+use std::ffi::c_void;
+
+use crate::{Column, Kind};
+
+/// Calls that are given plain numbers: each answers all that C answers, unless it refuses.
+macro_rules! calls {
+    ($of:ident: $($(#[$doc:meta])* $name:ident($($given:ident: $type:ty),*) -> $answer:ty = $call:ident;)*) => {
+        unsafe extern "C" {
+            $(fn $call(slot: *mut crate::raw::Slot $(, $given: $type)*) -> $answer;)*
+        }
+
+        impl $of {
+            $(
+                $(#[$doc])*
+                pub(crate) fn $name(&self $(, $given: $type)*) -> Result<$answer, crate::Refusal> {
+                    // SAFETY: see the head of this file.
+                    crate::raw::Says::answered(unsafe { $call(self.at() $(, $given)*) })
+                }
+            )*
+        }
+    };
+}
+pub(super) use calls;
+
+/// Counts, which a slot that is full has.
+macro_rules! counts {
+    ($of:ident, $number:ty: $($name:ident = $call:ident;)*) => {
+        unsafe extern "C" {
+            $(fn $call(slot: *mut crate::raw::Slot) -> crate::raw::Count<$number>;)*
+        }
+
+        impl $of {
+            $(
+                pub(crate) fn $name(&self) -> $number {
+                    // SAFETY: see the head of this file.
+                    unsafe { $call(self.at()) }.value
+                }
+            )*
+        }
+    };
+}
+pub(super) use counts;
+
+/// Calls that read an array of the caller's.
+macro_rules! array_calls {
+    ($of:ident: $($(#[$doc:meta])* $name:ident($array:ident: $element:ty) -> $answer:ty = $call:ident;)*) => {
+        unsafe extern "C" {
+            $(fn $call(slot: *mut crate::raw::Slot, $array: *const $element, length: usize) -> $answer;)*
+        }
+
+        impl $of {
+            $(
+                $(#[$doc])*
+                pub(crate) fn $name(&self, $array: &[$element]) -> Result<$answer, crate::Refusal> {
+                    // SAFETY: see the head of this file.
+                    crate::raw::Says::answered(unsafe { $call(self.at(), $array.as_ptr(), $array.len()) })
+                }
+            )*
+        }
+    };
+}
+pub(super) use array_calls;
+
+/// Calls that fill the front of a buffer, and tell how much of it.
+macro_rules! buffer_calls {
+    ($of:ident, $number:ty: $($(#[$doc:meta])* $name:ident($($given:ident: $type:ty),*; $element:ty) = $call:ident;)*) => {
+        unsafe extern "C" {
+            $(fn $call(slot: *mut crate::raw::Slot, $($given: $type,)* buffer: *mut $element, length: usize) -> crate::raw::Scanned<$number>;)*
+        }
+
+        impl $of {
+            $(
+                $(#[$doc])*
+                pub(crate) fn $name(&self, $($given: $type,)* buffer: &mut [$element]) -> Result<crate::raw::Scanned<$number>, crate::Refusal> {
+                    // SAFETY: see the head of this file.
+                    crate::raw::Says::answered(unsafe { $call(self.at(), $($given,)* buffer.as_mut_ptr(), buffer.len()) })
+                }
+            )*
+        }
+    };
+}
+pub(super) use buffer_calls;
+
+/// What a search looks for, with the number that it compares with.
+#[derive(Clone, Copy)]
+pub(crate) enum Sought {
+    Least,
+    Greatest,
+    Best,
+    Reaches(i64),
+    ReachesBack(i64),
+    FirstAtLeast(i64),
+    FirstAtMost(i64),
+    LastAtLeast(i64),
+    LastAtMost(i64),
+}
+
+/// Searches, which compare with nothing, or with a number.
+macro_rules! searches {
+    ($of:ident, $number:ty: [$($what:ident = $call:ident;)*] [$($by:ident = $call_by:ident;)*]) => {
+        unsafe extern "C" {
+            $(fn $call(slot: *mut crate::raw::Slot, lo: $number, hi: $number) -> crate::raw::Found<$number>;)*
+            $(fn $call_by(slot: *mut crate::raw::Slot, lo: $number, hi: $number, x: i64) -> crate::raw::Found<$number>;)*
+        }
+
+        impl $of {
+            /// Where something stands in a range, if it does.
+            pub(crate) fn find(
+                &self,
+                what: crate::raw::Sought,
+                lo: $number,
+                hi: $number,
+            ) -> Result<Option<crate::raw::Found<$number>>, crate::Refusal> {
+                let slot = self.at();
+                // SAFETY: see the head of this file.
+                let told = unsafe {
+                    match what {
+                        $(crate::raw::Sought::$what => $call(slot, lo, hi),)*
+                        $(crate::raw::Sought::$by(x) => $call_by(slot, lo, hi, x),)*
+                    }
+                };
+                let told = crate::raw::Says::answered(told)?;
+                Ok(told.found.then_some(told))
+            }
+        }
+    };
+}
+pub(super) use searches;
+
+/// Scans by one kind: of each the call with an element itself, and the one without, of these parameters, which `call_of` gives as such a pointer.
+macro_rules! columns {
+    ($call:ident = $parameters:tt -> $answer:ty: $($kind:ident = $with_own:ident, $without:ident;)*) => {
+        unsafe extern "C" {
+            $(
+                fn $with_own $parameters -> $answer;
+                fn $without $parameters -> $answer;
+            )*
+        }
+
+        fn call_of(kind: crate::Kind, inclusive: bool) -> $call {
+            match (kind, inclusive) {
+                $(
+                    (crate::Kind::$kind, true) => $with_own,
+                    (crate::Kind::$kind, false) => $without,
+                )*
+            }
+        }
+    };
+}
+pub(super) use columns;
+
+/// The cells of a column as C takes them. They are plain numbers of the size of C's, and are laid out like them: a total is one number of 128 bits whose
+/// low half comes first.
+pub(super) fn cells<K: Column>(column: &mut [K::Cell]) -> *mut c_void {
+    assert_eq!(size_of::<K::Cell>(), if K::KIND == Kind::Best { 16 } else { 8 });
+    column.as_mut_ptr().cast()
+}
