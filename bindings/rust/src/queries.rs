@@ -113,7 +113,7 @@ pub struct Note {
     pub value: Value,
 }
 
-/// An answer by one kind: of a standing query, or of [`Vector::value_at_edit`].
+/// An answer by one kind: of a standing query, or of [`Vector::value_at_edit`](crate::Vector::value_at_edit).
 #[derive(Clone, Copy, Debug, PartialEq, Eq, Hash)]
 pub struct Answered {
     /// After which edit it is so: the last one that was accepted.

@@ -35,7 +35,7 @@ impl Vector {
 /// The values of each beginning of a range, in order.
 #[derive(Clone)]
 pub struct Scan {
-    edit: u32,
+    pub(crate) edit: u32,
     values: Vec<raw::SixValues>,
 }
 

@@ -344,9 +344,9 @@ impl Shared {
         /// As [`Vector::summary`].
         read summary(range: impl Indices) -> Summary;
         /// As [`Vector::scan_inclusive`].
-        read scan_inclusive(range: impl Indices) -> Scan;
+        ask scan_inclusive(range: impl Indices) -> Scan;
         /// As [`Vector::scan_exclusive`].
-        read scan_exclusive(range: impl Indices) -> Scan;
+        ask scan_exclusive(range: impl Indices) -> Scan;
     }
 
     questions!(Vector, read, ask, u32, |vector| vector);
@@ -357,7 +357,7 @@ impl Shared {
         range: impl Indices,
         column: &'a mut [K::Cell],
     ) -> Result<Filled<'a, K::Cell>, Refusal> {
-        self.lock.read(|of, _| of.scan_inclusive_into::<K>(range, column))?
+        self.filled(|of| of.scan_inclusive_into::<K>(range, column))
     }
 
     /// As [`Vector::scan_exclusive_into`].
@@ -366,7 +366,12 @@ impl Shared {
         range: impl Indices,
         column: &'a mut [K::Cell],
     ) -> Result<Filled<'a, K::Cell>, Refusal> {
-        self.lock.read(|of, _| of.scan_exclusive_into::<K>(range, column))?
+        self.filled(|of| of.scan_exclusive_into::<K>(range, column))
+    }
+
+    /// A column, with the number of the edit as it is told here.
+    fn filled<'a, C>(&self, scan: impl FnOnce(&Vector) -> Result<Filled<'a, C>, Refusal>) -> Result<Filled<'a, C>, Refusal> {
+        self.lock.read(|of, base| scan(of).map(|did| Filled { edit: did.edit.wrapping_add(base as u32), ..did }))?
     }
 
     /// The number of the last edit.

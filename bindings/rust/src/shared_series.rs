@@ -2,9 +2,9 @@
 
 use std::ops::Range;
 
-use crate::series::{Answered, BestRun, Dropped, Placed, Popped, Pushed, Reduced, Swapped, Written};
+use crate::series::{Answered, BestRun, Dropped, Filled, Placed, Popped, Pushed, Reduced, Swapped, Written};
 use crate::shared::{Sharing, forwarded, questions, sealed};
-use crate::{AsIndex, Indices, Kind, Refusal, RefusedAt, Sample, Samples, Series, Shared, Value, Values, raw};
+use crate::{AsIndex, Column, Indices, Kind, Refusal, RefusedAt, Sample, Samples, Series, Shared, Value, Values, raw};
 
 impl sealed::Sealed for Series {}
 impl Sharing for Series {
@@ -48,6 +48,47 @@ impl Sharing for Samples {
     }
 }
 
+/// The scans of a series, and of the values of samples.
+macro_rules! scans {
+    (|$it:ident| $asked:expr) => {
+        /// As [`Series::scan_inclusive`], all of it after one edit, in memory. Linear.
+        pub fn scan_inclusive(&self, range: impl Indices) -> Result<Vec<Values>, Refusal> {
+            self.lock.read(|$it, _| Ok($asked.scan_inclusive(range)?.collect()))?
+        }
+
+        /// The same, each without the element itself.
+        pub fn scan_exclusive(&self, range: impl Indices) -> Result<Vec<Values>, Refusal> {
+            self.lock.read(|$it, _| Ok($asked.scan_exclusive(range)?.collect()))?
+        }
+
+        /// As [`Series::scan_inclusive_into`], after one edit.
+        pub fn scan_inclusive_into<'a, K: Column>(
+            &self,
+            range: impl Indices,
+            at: impl AsIndex,
+            column: &'a mut [K::Cell],
+        ) -> Result<Filled<'a, K::Cell>, Refusal> {
+            self.lock.read(|$it, base| {
+                let did = $asked.scan_inclusive_into::<K>(range, at, column)?;
+                Ok(Filled { edit: did.edit + base, ..did })
+            })?
+        }
+
+        /// As [`Series::scan_exclusive_into`], after one edit.
+        pub fn scan_exclusive_into<'a, K: Column>(
+            &self,
+            range: impl Indices,
+            at: impl AsIndex,
+            column: &'a mut [K::Cell],
+        ) -> Result<Filled<'a, K::Cell>, Refusal> {
+            self.lock.read(|$it, base| {
+                let did = $asked.scan_exclusive_into::<K>(range, at, column)?;
+                Ok(Filled { edit: did.edit + base, ..did })
+            })?
+        }
+    };
+}
+
 impl Shared<Series> {
     forwarded! {
         /// As [`Series::push`].
@@ -87,16 +128,7 @@ impl Shared<Series> {
     }
 
     questions!(Series, read, ask, u64, |series| series);
-
-    /// As [`Series::scan_inclusive`], all of it after one edit, in memory. Linear.
-    pub fn scan_inclusive(&self, range: impl Indices) -> Result<Vec<Values>, Refusal> {
-        self.lock.read(|of, _| Ok(of.scan_inclusive(range)?.collect()))?
-    }
-
-    /// The same, each without the element itself.
-    pub fn scan_exclusive(&self, range: impl Indices) -> Result<Vec<Values>, Refusal> {
-        self.lock.read(|of, _| Ok(of.scan_exclusive(range)?.collect()))?
-    }
+    scans!(|series| series);
 
     /// As [`Series::extend_from_slice`]: no other edit comes between. Tells the number of the last edit.
     pub fn extend_from_slice(&self, values: &[i64]) -> Result<u64, RefusedAt> {
@@ -152,6 +184,7 @@ impl Shared<Samples> {
     }
 
     questions!(Series, values, ask_values, u64, |samples| samples.values());
+    scans!(|samples| samples.values());
 
     /// As [`Samples::push_many`]: no other edit comes between. Tells the number of the last edit.
     pub fn push_many(&self, times: &[i64], values: &[i64]) -> Result<u64, RefusedAt> {

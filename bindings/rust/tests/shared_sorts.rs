@@ -132,6 +132,10 @@ fn each_form_answers_as_alone() {
     );
     assert_eq!(shared.scan_inclusive(6..).unwrap().iter().map(|values| values.sum).collect::<Vec<_>>(), [2, 8]);
     assert_eq!(shared.scan_exclusive(6..).unwrap().iter().map(|values| values.sum).collect::<Vec<_>>(), [0, 2]);
+    let filled = shared.scan_inclusive_into::<by::Sum>(.., 6, &mut piece).map(|filled| (filled.edit, filled.cells.to_vec()));
+    assert_eq!(filled, Ok((8, vec![13, 19])));
+    let filled = shared.scan_exclusive_into::<by::Least>(6.., 6, &mut piece).map(|filled| (filled.edit, filled.cells.to_vec()));
+    assert_eq!(filled, Ok((8, vec![0, 2])));
     assert!(Series::load(&shared.save().unwrap()).unwrap() == shared.try_clone().unwrap());
     assert_eq!(shared.clear(), Ok(Dropped { edit: 9, dropped: 8 }));
 
@@ -142,6 +146,9 @@ fn each_form_answers_as_alone() {
     assert_eq!((shared.first(), shared.size(), shared.len(), shared.is_empty()), (Ok(0), Ok(8), Ok(8), Ok(false)));
     assert_eq!((shared.times(1..4), shared.between(5..10), shared.last(10)), (Ok(vec![5, 5, 10]), Ok(1..3), Ok(6..8)));
     assert_eq!(shared.to_vec(7..), Ok(vec![Sample { time: 40, value: 6 }]));
+    assert_eq!(shared.scan_inclusive(6..).unwrap().iter().map(|values| values.sum).collect::<Vec<_>>(), [2, 8]);
+    assert_eq!(shared.scan_exclusive(6..).unwrap().iter().map(|values| values.sum).collect::<Vec<_>>(), [0, 2]);
+    assert_eq!(shared.scan_inclusive_into::<by::Sum>(.., 6, &mut piece).map(|filled| filled.cells.to_vec()), Ok(vec![13, 19]));
     assert!(Samples::load(&shared.save().unwrap()).unwrap() == shared.try_clone().unwrap());
     assert_eq!(shared.clear(), Ok(Dropped { edit: 9, dropped: 8 }));
 }
@@ -243,12 +250,18 @@ fn a_vector_of_few_edits_goes_on() {
         assert_eq!((number, told(alerts.look()), alerts.edit()), (edit, vec![one("all", edit, Value::Sum(sum))], edit.into()));
         assert_eq!((shared.sum(..), shared.value_at_edit(Kind::Sum, ..).unwrap().edit), (Ok(sum), edit));
     }
+    // scans tell such a number too, which is no longer the vector's own
+    let mut column = vec![0; wanted.len()];
+    assert_eq!(shared.scan_inclusive_into::<by::Sum>(.., &mut column).map(|filled| filled.edit), Ok(50));
+    assert_eq!(shared.with(|vector| vector.edits() < 50), Ok(true));
     assert_eq!(shared.with(|_| shared.renew()), Ok(Err(Refusal::Busy)));
     let vector = shared.close().unwrap();
     assert!(vector.to_vec().unwrap() == wanted && vector.edits() <= 6 && vector.kind() == Some(Kind::Sum));
     let mut full = Vector::with_limits(Limits::new(1, 4).unwrap()).unwrap();
     full.extend_from_slice(&[1; 4]).unwrap();
     let full = Shared::new(full);
+    full.pop().unwrap_err();
     full.renew().unwrap();
+    assert_eq!((full.scan_inclusive(..).unwrap().edit(), full.scan_exclusive(1..).unwrap().edit()), (4, 4));
     assert_eq!((full.edits(), full.pop(), full.close().unwrap().edits()), (Ok(4), Err(Refusal::Worn), 4));
 }
