@@ -226,6 +226,32 @@ class Ends(unittest.TestCase):
         # what was let go at once has ended
         self.assertRaises(StopIteration, next, alerts)
 
+    def test_answers_name_the_shared_edit_after_a_renewal(self) -> None:
+        shared = SharedVector(Vector([1, 2], most_edits=5))
+        for value in (5, 6, 7):
+            shared.write(0, value)
+        shared.renew()
+        self.assertEqual((shared.edits, shared.push(3)), (5, Receipt(6, 2)))
+        told = [shared.scan_inclusive(), shared.scan_exclusive(1), shared.scan_inclusive_by("sum"), shared.scan_exclusive_by("least", 1), shared.rolling("sum", 2)]
+        self.assertEqual([answer.edit for answer in (*told, shared.ask(), shared.reduce())], [6] * 7)
+        self.assertEqual((told[0].sums(), told[1].sums(), told[4].cells.tolist()), ([7, 9, 12], [0, 2], [7, 9, 5]))
+
+    def test_columns_of_the_callers(self) -> None:
+        elements = [3, -1, 4, 1, -5, 9, 2, 6]
+        column = array("q", [7] * 3)
+        shared = SharedVector(Vector(elements))
+        self.assertEqual((shared.scan_inclusive_into("sum", column, 0, 2), column.tolist()), (2, [3, 2, 7]))
+        self.assertEqual((shared.scan_exclusive_into("greatest", column, 1, 4), column.tolist()), (3, [0, -1, 4]))
+        self.assertEqual((shared.read_into(column, 5), column.tolist()), (3, [9, 2, 6]))
+        self.assertRaises(livevec.ShortBuffer, shared.scan_inclusive_into, "sum", column, 0, 4)
+        self.assertRaises(TypeError, shared.scan_inclusive_into, "sum", column, 0, 4, at=1)
+        series, load = SharedSeries(Series(elements)), SharedSamples(Samples(range(8), elements))
+        for one in (series, load):
+            self.assertEqual((one.scan_inclusive_into("sum", column, at=5), column.tolist()), (3, [11, 13, 19]))
+            self.assertEqual((one.scan_exclusive_into("least", column, 0, 8, at=6), column.tolist()), (2, [-5, -5, 19]))
+            self.assertEqual((one.read_into(column, 0, 2), column.tolist()), (2, [3, -1, 19]))
+        self.assertEqual((load.times_into(column, 5), column.tolist()), (3, [5, 6, 7]))
+
     def test_what_is_let_go_at_work_ends(self) -> None:
         before = threading.active_count()
         for _ in range(100):

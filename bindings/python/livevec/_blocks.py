@@ -2,26 +2,30 @@
 from __future__ import annotations
 
 import ctypes
-from typing import Callable, NamedTuple
+from typing import TYPE_CHECKING, Callable, NamedTuple
 
 from ._calls import _slot
 from ._handle import _Handle
 from ._library import _call, _released, _u32
+from ._records import _laid_out
 from ._refusals import _refuse
 from ._structures import _Count, _Slot
+
+if TYPE_CHECKING:
+    from ._records import u32, u64
 
 
 class _BatchSlot(_Slot):
     pass
 
 
+@_laid_out
 class _Taken(ctypes.Structure):
-    refusal: int
-    installed: int
-    held: int
-    stale: int
-    strangers: int
-    _fields_ = [("refusal", ctypes.c_uint32), *((name, ctypes.c_uint64) for name in ("installed", "held", "stale", "strangers"))]
+    refusal: u32
+    installed: u64
+    held: u64
+    stale: u64
+    strangers: u64
 
 
 # They take long enough to release the interpreter's lock.

@@ -12,7 +12,7 @@ from ._calls import (
     _board_close, _board_new, _board_sit, _board_take_back, _closed_read, _free_board, _free_seat, _seat_get, _seat_pop, _seat_push, _seat_reduce,
     _seat_refresh, _seat_size, _seat_write,
 )
-from ._handle import _Handle
+from ._handle import _Closable, _Handle
 from ._kinds import Kind, _kind_of
 from ._library import _Answer, _u32
 from ._limits import MOST_BOARD_BUCKETS, MOST_EDITS, MOST_SEATS
@@ -52,7 +52,7 @@ class Finished(NamedTuple):
     elements: array[int]
 
 
-class Board(_Handle):
+class Board(_Closable):
     """A growable vector of elements of 16 bits that up to eight threads edit and reduce at once, without a lock.
 
     Each thread sits down at a `Seat`. All seats' accepted edits are one list, numbered 1, 2, 3 and so on. When the seats are closed, `finish`
@@ -74,7 +74,7 @@ class Board(_Handle):
     """
 
     __slots__ = ("kind",)
-    _made_of = _BoardSlot
+    _made_of, _freed = _BoardSlot, _free_board
 
     def __init__(self, kind: Union[Kind, str] = Kind.SUM, *, seats: int = MOST_SEATS, most_buckets: int = MOST_BOARD_BUCKETS,
                  most_edits: int = MOST_EDITS) -> None:
@@ -111,16 +111,7 @@ class Board(_Handle):
 
     def close(self) -> None:
         """Gives the memory back; its seats stay good until they are closed. Every later call raises Closed; to close again does nothing."""
-        _free_board(self._at)
-
-    def __enter__(self) -> Board:
-        return self
-
-    def __exit__(self, *_: object) -> None:
-        self.close()
-
-    def __del__(self, _free: Callable[..., int] = _free_board) -> None:
-        _free(self._at)
+        super().close()
 
     def __repr__(self) -> str:
         return f"<livevec.Board of kind {self.kind.name.lower()}{'' if self._slot.full_ else ', closed'}>"

@@ -8,7 +8,7 @@ from typing import TYPE_CHECKING, Any, Callable, Iterable, Iterator, NamedTuple,
 from ._buffers import _address, _as_numpy, _as_room
 from ._elements import _AT_ONCE
 from ._numbers import _as_i64, _whole
-from ._refusals import Busy, Closed, NotKept, _refuse
+from ._refusals import Busy, Closed, NotKept
 from ._scans import Scan
 from ._series_calls import (
     _ask, _counted, _edits, _expire, _free, _get, _kept, _pop, _read, _reduce, _scan_exclusive, _scan_inclusive, _SeriesEdited, _SeriesReduced,
@@ -38,6 +38,7 @@ class _ByIndex(_SeriesSaved):
     """The part of `Series` and `Samples` that goes by index."""
 
     __slots__ = ()
+    _freed = _free
     _name: str
 
     # Edits.
@@ -179,22 +180,6 @@ class _ByIndex(_SeriesSaved):
     def scan_exclusive(self, lo: Optional[int] = None, hi: Optional[int] = None, *, at: Optional[int] = None, most: Optional[int] = None) -> Scan:
         """The same, that one excluded."""
         return self._scan(_scan_exclusive, lo, hi, at, most)
-
-    # The end.
-
-    def close(self) -> None:
-        """Gives the memory back. Every later call raises Closed; to close again does nothing. Raises Busy beside a call of another thread."""
-        if _free(self._at) == Busy.number:
-            raise _refuse(Busy.number)
-
-    def __enter__(self: _Some) -> _Some:
-        return self
-
-    def __exit__(self, *_: object) -> None:
-        self.close()
-
-    def __del__(self, _free: Callable[..., int] = _free) -> None:
-        _free(self._at)
 
     # Within.
 

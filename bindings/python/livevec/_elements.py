@@ -8,7 +8,7 @@ from typing import TYPE_CHECKING, Any, Callable, Iterable, Iterator, Optional, U
 
 from ._buffers import _address, _as_numpy, _as_room
 from ._calls import _count_capacity, _count_edits, _count_size, _get, _read
-from ._handle import _Handle
+from ._handle import _Closable
 from ._numbers import _whole
 from ._ranges import _ends, _place
 from ._refusals import _accepted, _refuse
@@ -23,7 +23,7 @@ if TYPE_CHECKING:
 _AT_ONCE = 1024
 
 
-class _Elements(_Handle, collections.abc.Sequence[int]):
+class _Elements(_Closable, collections.abc.Sequence[int]):
     """The part of `Vector` that reads."""
 
     __slots__ = ("_changes",)
@@ -69,7 +69,7 @@ class _Elements(_Handle, collections.abc.Sequence[int]):
         _accepted(_read(self._at, lo, hi, ctypes.byref(_address(room)), len(read)), lo, hi)
         return read
 
-    def read_into(self, buffer: Union[WriteableBuffer, _NumpyArray], lo: int = 0, hi: Optional[int] = None) -> int:
+    def read_into(self, buffer: Union[WriteableBuffer, _NumpyArray], lo: Optional[int] = None, hi: Optional[int] = None) -> int:
         """Fills the front of a buffer with the elements of a range, by one call, and gives how many they are. Linear in the range.
 
         The buffer has 64-bit numbers with a sign side by side, and may be written to: an `array.array('q')`, a numpy array of int64, a memoryview

@@ -2,11 +2,13 @@
 from __future__ import annotations
 
 import ctypes
-from typing import Any, TypeVar, Union
+from typing import Any, Callable, TypeVar, Union
 
+from ._refusals import Busy, _refuse
 from ._structures import _Slot
 
 _Made = TypeVar("_Made", bound="_Handle")
+_Closed = TypeVar("_Closed", bound="_Closable")
 
 
 class _Handle:
@@ -33,3 +35,26 @@ class _Handle:
 
     def __deepcopy__(self: _Made, _memo: object) -> _Made:
         return self.__copy__()
+
+
+class _Closable(_Handle):
+    """What is freed by `close`, at the end of a `with`, or with the object."""
+
+    __slots__ = ()
+
+    # C's free of what the slot holds
+    _freed: Callable[..., int]
+
+    def close(self) -> None:
+        """Gives the memory back. Every later call raises Closed; to close again does nothing. Raises Busy beside a call of another thread."""
+        if type(self)._freed(self._at) == Busy.number:
+            raise _refuse(Busy.number)
+
+    def __enter__(self: _Closed) -> _Closed:
+        return self
+
+    def __exit__(self, *_: object) -> None:
+        self.close()
+
+    def __del__(self) -> None:
+        type(self)._freed(self._at)

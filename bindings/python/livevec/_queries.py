@@ -3,21 +3,25 @@ from __future__ import annotations
 
 import ctypes
 import operator
-from typing import Callable, NamedTuple, Optional, Union
+from typing import TYPE_CHECKING, NamedTuple, Optional, Union
 
 from ._calls import _slot
-from ._handle import _Handle
+from ._handle import _Closable
 from ._kinds import Kind, _kind_of
-from ._library import _call, _i64, _size, _u32
+from ._library import _call, _size, _u32
 from ._limits import _MOST_U64, MOST_QUERIES
 from ._numbers import _as_i64
-from ._refusals import Busy, _refuse
+from ._records import _laid_out, _Refused
+from ._refusals import _refuse
 from ._samples import Samples
 from ._series import Series
-from ._series_calls import _SeriesReduced, _slot as _series_slot, _u64
+from ._series_calls import _SeriesReduced, _slot as _series_slot
 from ._structures import _Reduced, _Slot, _Values
 from ._values import _value_of
 from ._vector import Vector
+
+if TYPE_CHECKING:
+    from ._records import i64, u32, u64
 
 _NAME_BYTES = 16
 
@@ -34,24 +38,26 @@ class _Note(ctypes.Structure):
     _fields_ = [("name", ctypes.c_char * (_NAME_BYTES + 1)), ("kind", ctypes.c_uint32), ("edit", ctypes.c_uint32), ("values", _Values)]
 
 
-class _Noted(ctypes.Structure):
-    refusal: int
-    detail: int
-    edit: int
-    count: int
-    _fields_ = [("refusal", ctypes.c_uint32), ("detail", ctypes.c_uint32), ("edit", ctypes.c_uint32), ("count", ctypes.c_uint32)]
+@_laid_out
+class _Noted(_Refused):
+    edit: u32
+    count: u32
 
 
-class _SeriesNoted(ctypes.Structure):
-    refusal: int
-    detail: int
-    edit: int
-    count: int
-    _fields_ = [("refusal", _u32), ("detail", _u32), ("edit", _u64), ("count", _u32)]
+@_laid_out
+class _SeriesNoted(_Refused):
+    edit: u64
+    count: u32
 
 
+@_laid_out
 class _Query(ctypes.Structure):
-    _fields_ = [("kind", _u32), ("span", _u32), ("bound", _u32), ("lo", _u64), ("hi", _u64), ("x", _i64)]
+    kind: u32
+    span: u32
+    bound: u32
+    lo: u64
+    hi: u64
+    x: i64
 
 
 _queries, _bytes = ctypes.POINTER(_QueriesSlot), ctypes.c_char_p
@@ -82,7 +88,7 @@ class Answered(NamedTuple):
     value: Union[int, None, tuple[int, ...]]
 
 
-class Queries(_Handle):
+class Queries(_Closable):
     """A set of at most 64 standing queries, which may be asked of any `Vector`, `Series` and `Samples`.
 
         >>> from livevec import Queries, Vector
@@ -106,7 +112,7 @@ class Queries(_Handle):
     """
 
     __slots__ = ("_kinds",)
-    _made_of = _QueriesSlot
+    _made_of, _freed = _QueriesSlot, _free
 
     def __init__(self) -> None:
         # in the order in which they were named; what C answers doesn't tell the kind
@@ -177,20 +183,6 @@ class Queries(_Handle):
         if did.refusal:
             raise _refuse(did.refusal, did.detail)
         return [_note_of(room[at], did.edit) for at in range(did.count)]
-
-    def close(self) -> None:
-        """Gives the memory back. Every later call raises Closed; to close again does nothing. Raises Busy beside a call of another thread."""
-        if _free(self._at) == Busy.number:
-            raise _refuse(Busy.number)
-
-    def __enter__(self) -> Queries:
-        return self
-
-    def __exit__(self, *_: object) -> None:
-        self.close()
-
-    def __del__(self, _free: Callable[..., int] = _free) -> None:
-        _free(self._at)
 
     def __repr__(self) -> str:
         return f"<livevec.Queries {', '.join(self._kinds)}>" if self._slot.full_ else "<livevec.Queries, closed>"

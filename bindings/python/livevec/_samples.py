@@ -14,6 +14,7 @@ from ._kinds import _Chosen, _kind_of, _Mapped, _Stated, _Summed, _Value, Kind
 from ._library import _call, _i64, _pointer, _size, _u32
 from ._limits import _LEAST_I64
 from ._numbers import _as_i64, _as_u64
+from ._records import _Kept, _laid_out
 from ._refusals import BadRange, Earlier, _refuse
 from ._scans import Column
 from ._series_calls import _kept, _SeriesEdited, _SeriesReduced, _SeriesScanned, _SeriesSlot, _u64
@@ -24,6 +25,7 @@ if TYPE_CHECKING:
     from _typeshed import WriteableBuffer
 
     from ._buffers import _NumpyArray
+    from ._records import i64, u32, u64
 
 
 class _SamplesSlot(_SeriesSlot):
@@ -31,21 +33,18 @@ class _SamplesSlot(_SeriesSlot):
     pass
 
 
-class _Sample(ctypes.Structure):
-    refusal: int
-    first: int
-    size: int
-    time: int
-    value: int
-    _fields_ = [("refusal", _u32), ("first", _u64), ("size", _u64), ("time", _i64), ("value", _i64)]
+@_laid_out
+class _Sample(_Kept):
+    time: i64
+    value: i64
 
 
+@_laid_out
 class _Window(ctypes.Structure):
-    refusal: int
-    edit: int
-    lo: int
-    hi: int
-    _fields_ = [("refusal", _u32), ("edit", _u64), ("lo", _u64), ("hi", _u64)]
+    refusal: u32
+    edit: u64
+    lo: u64
+    hi: u64
 
 
 _slot = ctypes.POINTER(_SamplesSlot)

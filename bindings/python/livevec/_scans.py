@@ -45,6 +45,10 @@ class Scan(collections.abc.Sequence[Values]):
             return [self[i] for i in range(*index.indices(self._length))]
         return _values_of(_Values.from_buffer(self._room, range(self._length)[index] * ctypes.sizeof(_Values)))
 
+    def _replace(self, edit: int) -> Scan:
+        """The same with another number of the edit."""
+        return Scan(edit, self._room, self._length)
+
     def sums(self) -> list[int]:
         """The sums alone, at once."""
         return memoryview(self._room).cast("q")[:: ctypes.sizeof(_Values) // 8].tolist()[: self._length]

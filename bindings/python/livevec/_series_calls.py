@@ -2,11 +2,15 @@
 from __future__ import annotations
 
 import ctypes
-from typing import Protocol, TypeVar
+from typing import TYPE_CHECKING, Protocol, TypeVar
 
 from ._library import _call, _i64, _pointer, _released, _size, _u32
+from ._records import _Kept, _laid_out
 from ._refusals import NotKept, _refuse, _words_of
 from ._structures import _Slot, _Values
+
+if TYPE_CHECKING:
+    from ._records import i64, u32, u64
 
 _u64 = ctypes.c_uint64
 
@@ -15,53 +19,41 @@ class _SeriesSlot(_Slot):
     pass
 
 
-class _SeriesEdited(ctypes.Structure):
-    refusal: int
-    first: int
-    size: int
-    edit: int
-    place: int
-    value: int
-    _fields_ = [("refusal", _u32), ("first", _u64), ("size", _u64), ("edit", _u64), ("place", _u64), ("value", _i64)]
+@_laid_out
+class _SeriesEdited(_Kept):
+    edit: u64
+    place: u64
+    value: i64
 
 
+@_laid_out
 class _SeriesPushed(ctypes.Structure):
-    refusal: int
-    edit: int
-    pushed: int
-    _fields_ = [("refusal", _u32), ("edit", _u64), ("pushed", _u64)]
+    refusal: u32
+    edit: u64
+    pushed: u64
 
 
-class _SeriesElement(ctypes.Structure):
-    refusal: int
-    first: int
-    size: int
-    value: int
-    _fields_ = [("refusal", _u32), ("first", _u64), ("size", _u64), ("value", _i64)]
+@_laid_out
+class _SeriesElement(_Kept):
+    value: i64
 
 
+@_laid_out
 class _SeriesCount(ctypes.Structure):
-    refusal: int
-    value: int
-    _fields_ = [("refusal", _u32), ("value", _u64)]
+    refusal: u32
+    value: u64
 
 
-class _SeriesReduced(ctypes.Structure):
-    refusal: int
-    first: int
-    size: int
-    edit: int
+@_laid_out
+class _SeriesReduced(_Kept):
+    edit: u64
     values: _Values
-    _fields_ = [("refusal", _u32), ("first", _u64), ("size", _u64), ("edit", _u64), ("values", _Values)]
 
 
-class _SeriesScanned(ctypes.Structure):
-    refusal: int
-    first: int
-    size: int
-    edit: int
-    length: int
-    _fields_ = [("refusal", _u32), ("first", _u64), ("size", _u64), ("edit", _u64), ("length", _u64)]
+@_laid_out
+class _SeriesScanned(_Kept):
+    edit: u64
+    length: u64
 
 
 _slot = ctypes.POINTER(_SeriesSlot)

@@ -9,6 +9,7 @@ from ._buffers import _address, _as_column
 from ._by_kind import _addressed, _ManyByKind
 from ._kinds import Kind, _kind_of
 from ._library import _call, _pointer, _released, _size, _u32
+from ._records import _Kept, _laid_out
 from ._refusals import _PLACED, NotKept, _refuse
 from ._scans import _CELLS, Column
 from ._series_calls import _kept, _SeriesReduced, _SeriesScanned, _slot, _u64
@@ -19,25 +20,20 @@ if TYPE_CHECKING:
     from _typeshed import WriteableBuffer
 
     from ._buffers import _NumpyArray
+    from ._records import size, u64
 
 
-class _SeriesMany(ctypes.Structure):
-    refusal: int
-    first: int
-    size: int
-    edit: int
-    done: int
-    place: int
-    _fields_ = [("refusal", _u32), ("first", _u64), ("size", _u64), ("edit", _u64), ("done", _size), ("place", _size)]
+@_laid_out
+class _SeriesMany(_Kept):
+    edit: u64
+    done: size
+    place: size
 
 
-class _SeriesSummed(ctypes.Structure):
-    refusal: int
-    first: int
-    size: int
-    edit: int
+@_laid_out
+class _SeriesSummed(_Kept):
+    edit: u64
     sum: _Total
-    _fields_ = [("refusal", _u32), ("first", _u64), ("size", _u64), ("edit", _u64), ("sum", _Total)]
 
 
 _prepare = _call("livevec_series_prepare", _u32, _slot, _u32)

@@ -7,20 +7,19 @@ from array import array
 from typing import TYPE_CHECKING, Any, Optional, Union
 
 from ._library import _call, _i64, _u32
+from ._records import _Kept, _laid_out
 from ._series_calls import _kept, _slot, _u64
 
 if TYPE_CHECKING:
     from ._by_index import _ByIndex
+    from ._records import address, u64
 
 
-class _SeriesView(ctypes.Structure):
-    refusal: int
-    first: int
-    size: int
-    edit: int
-    elements: int
-    length: int
-    _fields_ = [("refusal", _u32), ("first", _u64), ("size", _u64), ("edit", _u64), ("elements", ctypes.c_void_p), ("length", _u64)]
+@_laid_out
+class _SeriesView(_Kept):
+    edit: u64
+    elements: address
+    length: u64
 
 
 _lend = _call("livevec_series_lend", _SeriesView, _slot, _u64, _u64)

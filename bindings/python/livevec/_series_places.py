@@ -1,28 +1,27 @@
 """Where in a range of a series something stands, or among the values of samples."""
 from __future__ import annotations
 
-import ctypes
-from typing import Optional
+from typing import TYPE_CHECKING, Optional
 
 from ._kinds import _SEARCHES
-from ._library import _call, _i64, _u32
+from ._library import _call, _i64
+from ._records import _Kept, _laid_out
 from ._series_calls import _kept, _slot, _u64
 from ._series_kinds import _SeriesKinds
 
+if TYPE_CHECKING:
+    from ._records import flag, i64, u64
 
-class _SeriesFound(ctypes.Structure):
-    refusal: int
-    first: int
-    size: int
-    edit: int
-    lo: int
-    hi: int
-    value: int
-    sum_low: int
-    sum_high: int
-    found: bool
-    _fields_ = [("refusal", _u32), ("first", _u64), ("size", _u64), ("edit", _u64), ("lo", _u64), ("hi", _u64), ("value", _i64), ("sum_low", _u64),
-                ("sum_high", _i64), ("found", ctypes.c_bool)]
+
+@_laid_out
+class _SeriesFound(_Kept):
+    edit: u64
+    lo: u64
+    hi: u64
+    value: i64
+    sum_low: u64
+    sum_high: i64
+    found: flag
 
 
 _searches = {name: _call(f"livevec_series_where_{name}", _SeriesFound, _slot, _u64, _u64, *[_i64] * numbers) for name, numbers in _SEARCHES.items()}

@@ -4,14 +4,14 @@ from __future__ import annotations
 from array import array
 from typing import Any, Optional
 
-from ._handle import _Handle
+from ._handle import _Closable
 from ._limits import _MOST_U64
 from ._numbers import _whole
 from ._refusals import BadRange, NotKept, _words_of
 from ._series_calls import _count_size, _counted, _first
 
 
-class _SeriesRanges(_Handle):
+class _SeriesRanges(_Closable):
     """The part of `Series` and `Samples` that tells which indices are kept."""
 
     __slots__ = ()

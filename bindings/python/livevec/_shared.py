@@ -7,9 +7,10 @@ import operator
 import threading
 import weakref
 from array import array
-from typing import Any, Callable, Generic, Iterable, Iterator, NamedTuple, Optional, TypeVar, Union, cast, overload
+from typing import TYPE_CHECKING, Any, Callable, Generic, Iterable, Iterator, NamedTuple, Optional, TypeVar, Union, cast, overload
 
 from ._buffers import _as_buffer, _as_numpy
+from ._by_index import LongReduced
 from ._by_kind import _ByKind
 from ._calls import _slot
 from ._kinds import Kind
@@ -17,6 +18,7 @@ from ._library import _call, _pointer, _released, _size, _u32
 from ._numbers import _as_i64, _whole
 from ._queries import Queries, _QueriesSlot
 from ._ranges import _as_rows, _as_table
+from ._records import _laid_out
 from ._refusals import Busy, Closed, NoMemory, _refuse
 from ._samples import Samples
 from ._scans import Column, Scan
@@ -27,12 +29,18 @@ from ._subscribers import Subscriber, _place, _Place
 from ._values import Reduced
 from ._vector import Vector, _remade
 
+if TYPE_CHECKING:
+    from _typeshed import WriteableBuffer
 
+    from ._buffers import _NumpyArray
+    from ._records import flag, u32, u64
+
+
+@_laid_out
 class _Left(ctypes.Structure):
-    refusal: int
-    is_edited: bool
-    edit: int
-    _fields_ = [("refusal", _u32), ("is_edited", ctypes.c_bool), ("edit", ctypes.c_uint64)]
+    refusal: u32
+    is_edited: flag
+    edit: u64
 
 
 # All these release the interpreter's lock: who has the lock of what is shared may want that one.
@@ -53,8 +61,10 @@ _value = _call("livevec_value", _Reduced, _slot, _u32, _u32, _u32, by=_released)
 _push_many = _call("livevec_push_many", _Pushed, _slot, _pointer, _size, by=_released)
 
 _Of = TypeVar("_Of", bound=Union[Vector, Series, Samples])
+_Pushable = TypeVar("_Pushable", bound=Union[Vector, Series])
 _Some = TypeVar("_Some", bound="_Shared[Any]")
 _Result = TypeVar("_Result")
+_Numbered = TypeVar("_Numbered", Scan, Column, Reduced, LongReduced)
 
 
 class Receipt(NamedTuple):
@@ -166,6 +176,10 @@ class _Shared(_ByKind, Generic[_Of]):
         """The elements of a range as an `array.array('q')`, all after one edit: a copy, linear in the range."""
         return self._read(lambda of: of.to_array(lo, hi))
 
+    def read_into(self, buffer: Union[WriteableBuffer, _NumpyArray], lo: Optional[int] = None, hi: Optional[int] = None) -> int:
+        """Fills the front of a buffer with the elements of a range, all after one edit, as that of what is shared. Linear in the range."""
+        return self._read(lambda of: of.read_into(buffer, lo, hi))
+
     def save(self) -> bytes:
         """All of it as bytes, after one edit, as its own `save` gives them. Linear."""
         return self._read(lambda of: of.save())
@@ -176,19 +190,32 @@ class _Shared(_ByKind, Generic[_Of]):
 
     def scan_inclusive(self, lo: Optional[int] = None, hi: Optional[int] = None) -> Scan:
         """The values of each beginning of a range, the element itself included, all after one edit. Linear."""
-        return self._read(lambda of: of.scan_inclusive(lo, hi))
+        return self._numbered(lambda of: of.scan_inclusive(lo, hi))
 
     def scan_exclusive(self, lo: Optional[int] = None, hi: Optional[int] = None) -> Scan:
         """The same, the element itself excluded."""
-        return self._read(lambda of: of.scan_exclusive(lo, hi))
+        return self._numbered(lambda of: of.scan_exclusive(lo, hi))
 
     def scan_inclusive_by(self, kind: Union[Kind, str], lo: Optional[int] = None, hi: Optional[int] = None) -> Column:
         """The running values of a range by one kind, the element itself included, as a column. Linear."""
-        return self._read(lambda of: of.scan_inclusive_by(kind, lo, hi))
+        return self._numbered(lambda of: of.scan_inclusive_by(kind, lo, hi))
 
     def scan_exclusive_by(self, kind: Union[Kind, str], lo: Optional[int] = None, hi: Optional[int] = None) -> Column:
         """The same, the element itself excluded."""
-        return self._read(lambda of: of.scan_exclusive_by(kind, lo, hi))
+        return self._numbered(lambda of: of.scan_exclusive_by(kind, lo, hi))
+
+    def scan_inclusive_into(
+        self, kind: Union[Kind, str], buffer: Union[WriteableBuffer, _NumpyArray], lo: Optional[int] = None, hi: Optional[int] = None, **at: Optional[int],
+    ) -> int:
+        """Writes such a column into the front of a buffer, as that of what is shared, and gives how many cells it has; of a series and samples `at` is
+        where it goes on."""
+        return self._read(lambda of: int(cast(Any, of).scan_inclusive_into(kind, buffer, lo, hi, **at)))
+
+    def scan_exclusive_into(
+        self, kind: Union[Kind, str], buffer: Union[WriteableBuffer, _NumpyArray], lo: Optional[int] = None, hi: Optional[int] = None, **at: Optional[int],
+    ) -> int:
+        """The same, the element itself excluded."""
+        return self._read(lambda of: int(cast(Any, of).scan_exclusive_into(kind, buffer, lo, hi, **at)))
 
     # More than one call, and the end.
 
@@ -256,6 +283,11 @@ class _Shared(_ByKind, Generic[_Of]):
     def _read(self, call: Callable[[_Of], _Result]) -> _Result:
         return self._entered(call)[0]
 
+    def _numbered(self, call: Callable[[_Of], _Numbered]) -> _Numbered:
+        """What a call gives that tells a number of an edit, with the number of the last edit here."""
+        told, edit = self._entered(call)
+        return told._replace(edit=edit)
+
     def _edited(self, call: Callable[[_Of], int]) -> Receipt:
         told, edit = self._entered(call)
         return Receipt(edit, told)
@@ -269,6 +301,8 @@ class _Shared(_ByKind, Generic[_Of]):
         return self._read(asked)
 
     def _rolling(self, kind: Kind, window: int, lo: Optional[int], hi: Optional[int], into: Any) -> Union[Column, int]:
+        if into is None:
+            return self._numbered(lambda of: cast(Column, of._rolling(kind, window, lo, hi, None)))
         return self._read(lambda of: of._rolling(kind, window, lo, hi, into))
 
     def _total(self, lo: Optional[int], hi: Optional[int]) -> int:
@@ -286,7 +320,39 @@ class _Shared(_ByKind, Generic[_Of]):
         return Subscriber(queries.names, queries, lambda seat: _subscribe(self._at, seat, queries._at))
 
 
-class SharedVector(_Shared[Vector]):
+class _SharedPushes(_Shared[_Pushable]):
+    """What a vector and a series that are shared have in common, and samples don't."""
+
+    __slots__ = ()
+    # C's call that pushes many, which releases the interpreter's lock
+    _pushes_many: Callable[..., Any]
+
+    def push(self, value: int) -> Receipt:
+        """As `push` of what is shared; the receipt has the index."""
+        element = _as_i64(value)
+        return self._edited(lambda of: of.push(element))
+
+    def append(self, value: int) -> None:
+        """As `push`, and gives nothing."""
+        self.push(value)
+
+    def swap(self, first: int, second: int) -> Receipt:
+        """As `swap` of what is shared; the receipt has the element that stands at the first index now."""
+        places = _whole(first, "the index"), _whole(second, "the index")
+        return self._edited(lambda of: of.swap(*places))
+
+    def extend(self, values: Iterable[int]) -> int:
+        """As `extend` of what is shared, with no other edit between; gives the number of the last edit."""
+        buffer = _as_buffer(values)
+        return self._entered(lambda of: of._extended(buffer, type(self)._pushes_many))[1]
+
+    def write_many(self, indices: Iterable[int], values: Iterable[int]) -> int:
+        """As `write_many` of what is shared, with no other edit between; gives the number of the last edit."""
+        rows, elements = _as_buffer(indices, "indices"), _as_buffer(values, "values")
+        return self._entered(lambda of: of.write_many(rows, elements))[1]
+
+
+class SharedVector(_SharedPushes[Vector]):
     """A `Vector` that threads share, by a lock.
 
         >>> from livevec import Queries, SharedVector, Vector
@@ -311,24 +377,10 @@ class SharedVector(_Shared[Vector]):
     """
 
     __slots__ = ()
-    _put_round = _new
+    _put_round, _pushes_many = _new, _push_many
 
     def __init__(self, vector: Optional[Vector] = None) -> None:
         super().__init__(Vector() if vector is None else _vector(vector))
-
-    def push(self, value: int) -> Receipt:
-        """As `Vector.push`; the receipt has the index."""
-        element = _as_i64(value)
-        return self._edited(lambda vector: vector.push(element))
-
-    def swap(self, first: int, second: int) -> Receipt:
-        """As `Vector.swap`; the receipt has the element that stands at the first index now."""
-        places = operator.index(first), operator.index(second)
-        return self._edited(lambda vector: vector.swap(*places))
-
-    def append(self, value: int) -> None:
-        """As `push`, and gives nothing."""
-        self.push(value)
 
     def clear(self) -> Receipt:
         """As `Vector.clear`; the receipt has how many elements were dropped."""
@@ -344,20 +396,9 @@ class SharedVector(_Shared[Vector]):
         room = operator.index(elements)
         return self._edited(lambda vector: vector.reserve(room))
 
-    def extend(self, values: Iterable[int]) -> int:
-        """As `Vector.extend`, with no other edit between; gives the number of the last edit."""
-        buffer = _as_buffer(values)
-        return self._entered(lambda vector: vector._extended(buffer, _push_many))[1]
-
-    def write_many(self, indices: Iterable[int], values: Iterable[int]) -> int:
-        """As `Vector.write_many`, with no other edit between; gives the number of the last edit."""
-        rows, elements = _as_buffer(indices, "indices"), _as_buffer(values, "values")
-        return self._entered(lambda vector: vector.write_many(rows, elements))[1]
-
     def ask(self, lo: Optional[int] = None, hi: Optional[int] = None) -> Reduced:
         """As `Vector.ask`, which tells after which edit the values are so."""
-        reduced, edit = self._entered(lambda vector: vector.ask(lo, hi))
-        return reduced._replace(edit=edit)
+        return self._numbered(lambda vector: vector.ask(lo, hi))
 
     def summary(self, lo: Optional[int] = None, hi: Optional[int] = None) -> Summary:
         """As `Vector.summary`."""
@@ -365,8 +406,7 @@ class SharedVector(_Shared[Vector]):
 
     def reduce(self, lo: Optional[int] = None, hi: Optional[int] = None) -> Reduced:
         """As `Vector.reduce`, which tells after which edit the values are so. Linear in what no worker or question computed before."""
-        reduced, edit = self._entered(lambda vector: vector._reduced(_reduce, lo, hi))
-        return reduced._replace(edit=edit)
+        return self._numbered(lambda vector: vector._reduced(_reduce, lo, hi))
 
     def renew(self) -> None:
         """Goes on as a copy of the vector, where that is nearly worn: with the same elements, limits, table and kind, and no edits but the pushes of its

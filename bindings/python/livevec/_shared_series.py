@@ -2,11 +2,11 @@
 from __future__ import annotations
 
 from array import array
-from typing import Any, Iterable, Mapping, Optional, TypeVar, Union, overload
+from typing import TYPE_CHECKING, Any, Iterable, Mapping, Optional, TypeVar, Union, overload
 
 from ._buffers import _as_buffer
 from ._by_index import LongReduced
-from ._kinds import _Chosen, _kind_of, _Summed, _Value, Kind
+from ._kinds import _Chosen, _Summed, _Value, Kind
 from ._library import _call, _pointer, _released, _size, _u32
 from ._numbers import _as_i64, _whole
 from ._queries import Queries
@@ -14,10 +14,14 @@ from ._samples import Sample, Samples, Window
 from ._scans import Column
 from ._series import Series
 from ._series_calls import _SeriesPushed, _SeriesReduced, _slot, _u64
-from ._shared import _Shared, Receipt
+from ._shared import _Shared, _SharedPushes, Receipt
 from ._structures import _Values
 from ._subscribers import Subscriber, _place
 
+if TYPE_CHECKING:
+    from _typeshed import WriteableBuffer
+
+    from ._buffers import _NumpyArray
 
 # All these release the interpreter's lock: who has the lock of what is shared may want that one, and the last three take long.
 _new = _call("livevec_shared_new_series", _u32, _place, _slot, by=_released)
@@ -63,13 +67,11 @@ class _SharedByIndex(_Shared[_Indexed]):
 
     def ask(self, lo: Optional[int] = None, hi: Optional[int] = None) -> LongReduced:
         """As `Series.ask`, which tells after which edit the values are so."""
-        reduced, edit = self._entered(lambda of: of.ask(lo, hi))
-        return LongReduced(edit, reduced.values)
+        return self._numbered(lambda of: of.ask(lo, hi))
 
     def reduce(self, lo: Optional[int] = None, hi: Optional[int] = None) -> LongReduced:
         """As `Series.reduce`, which tells after which edit the values are so."""
-        reduced, edit = self._entered(lambda of: of._reduced(_reduce, lo, hi))
-        return LongReduced(edit, reduced.values)
+        return self._numbered(lambda of: of._reduced(_reduce, lo, hi))
 
     def subscribe(self, asked: Union[Queries, Mapping[str, _Asked]]) -> Subscriber:
         """As `SharedVector.subscribe`, or by names: what a kind says of all elements that are kept, or of those that are from `lo` up to `hi`, or without
@@ -88,7 +90,7 @@ class _SharedByIndex(_Shared[_Indexed]):
         return self._read(lambda of: of._valued(kind, lo, hi, _value))
 
 
-class SharedSeries(_SharedByIndex[Series]):
+class SharedSeries(_SharedByIndex[Series], _SharedPushes[Series]):
     """A `Series` that threads share, by a lock.
 
         >>> from livevec import Series, SharedSeries
@@ -105,33 +107,10 @@ class SharedSeries(_SharedByIndex[Series]):
     """
 
     __slots__ = ()
+    _pushes_many = _push_many
 
     def __init__(self, series: Optional[Series] = None) -> None:
         super().__init__(Series() if series is None else _of(series, Series))
-
-    def push(self, value: int) -> Receipt:
-        """As `Series.push`; the receipt has the index."""
-        element = _as_i64(value)
-        return self._edited(lambda series: series.push(element))
-
-    def append(self, value: int) -> None:
-        """As `push`, and gives nothing."""
-        self.push(value)
-
-    def extend(self, values: Iterable[int]) -> int:
-        """As `Series.extend`, with no other edit between; gives the number of the last edit."""
-        buffer = _as_buffer(values)
-        return self._entered(lambda series: series._extended(buffer, _push_many))[1]
-
-    def swap(self, first: int, second: int) -> Receipt:
-        """As `Series.swap`; the receipt has the element that stands under the first index now."""
-        places = _whole(first, "the index"), _whole(second, "the index")
-        return self._edited(lambda of: of.swap(*places))
-
-    def write_many(self, indices: Iterable[int], values: Iterable[int]) -> int:
-        """As `Series.write_many`, with no other edit between; gives the number of the last edit."""
-        rows, elements = _as_buffer(indices, "indices"), _as_buffer(values, "values")
-        return self._entered(lambda of: of.write_many(rows, elements))[1]
 
 
 class SharedSamples(_SharedByIndex[Samples]):
@@ -176,6 +155,10 @@ class SharedSamples(_SharedByIndex[Samples]):
         """As `Samples.times`: a copy."""
         return self._read(lambda samples: samples.times(lo, hi))
 
+    def times_into(self, buffer: Union[WriteableBuffer, _NumpyArray], lo: Optional[int] = None, hi: Optional[int] = None) -> int:
+        """As `Samples.times_into`, all after one edit."""
+        return self._read(lambda samples: samples.times_into(buffer, lo, hi))
+
     def between(self, since: int, until: int) -> Window:
         """As `Samples.between`. Before the next call another thread may edit: within `locked` it doesn't."""
         return self._read(lambda samples: samples.between(since, until))
@@ -206,7 +189,7 @@ class SharedSamples(_SharedByIndex[Samples]):
 
     def rolling_span(self, kind: Union[Kind, str], span: int, lo: Optional[int] = None, hi: Optional[int] = None) -> Column:
         """As `Samples.rolling_span`, in a column of its own."""
-        return self._read(lambda samples: samples.rolling_span(kind, span, lo, hi))
+        return self._numbered(lambda samples: samples.rolling_span(kind, span, lo, hi))
 
 
 def _of(given: Any, wanted: type) -> Any:

@@ -1,12 +1,14 @@
-"""What the calls of include/livevec.h take and answer, as ctypes lays it out.
-
-ctypes doesn't tell what types the fields have, so each is said twice.
-"""
+"""What the calls of include/livevec.h take and answer, as ctypes lays it out."""
 from __future__ import annotations
 
 import ctypes
+from typing import TYPE_CHECKING
 
 from ._limits import SUMMARY_BYTES
+from ._records import _laid_out, _Refused
+
+if TYPE_CHECKING:
+    from ._records import flag, i64, size, u32, u64
 
 
 class _Slot(ctypes.Structure):
@@ -41,45 +43,35 @@ class _Table(ctypes.Structure):
     _fields_ = [("next", ctypes.c_uint8 * 32)]
 
 
-class _Edited(ctypes.Structure):
-    refusal: int
-    detail: int
-    edit: int
-    place: int
-    value: int
-    _fields_ = [("refusal", ctypes.c_uint32), ("detail", ctypes.c_uint32), ("edit", ctypes.c_uint32), ("place", ctypes.c_uint32),
-                ("value", ctypes.c_int64)]
+@_laid_out
+class _Edited(_Refused):
+    edit: u32
+    place: u32
+    value: i64
 
 
-class _Pushed(ctypes.Structure):
-    refusal: int
-    detail: int
-    edit: int
-    pushed: int
-    _fields_ = [("refusal", ctypes.c_uint32), ("detail", ctypes.c_uint32), ("edit", ctypes.c_uint32), ("pushed", ctypes.c_uint32)]
+@_laid_out
+class _Pushed(_Refused):
+    edit: u32
+    pushed: u32
 
 
-class _Many(ctypes.Structure):
-    refusal: int
-    detail: int
-    edit: int
-    done: int
-    place: int
-    _fields_ = [("refusal", ctypes.c_uint32), ("detail", ctypes.c_uint32), ("edit", ctypes.c_uint32), ("done", ctypes.c_size_t),
-                ("place", ctypes.c_size_t)]
+@_laid_out
+class _Many(_Refused):
+    edit: u32
+    done: size
+    place: size
 
 
+@_laid_out
 class _Count(ctypes.Structure):
-    refusal: int
-    value: int
-    _fields_ = [("refusal", ctypes.c_uint32), ("value", ctypes.c_uint32)]
+    refusal: u32
+    value: u32
 
 
-class _Element(ctypes.Structure):
-    refusal: int
-    detail: int
-    value: int
-    _fields_ = [("refusal", ctypes.c_uint32), ("detail", ctypes.c_uint32), ("value", ctypes.c_int64)]
+@_laid_out
+class _Element(_Refused):
+    value: i64
 
 
 class _Values(ctypes.Structure):
@@ -97,56 +89,45 @@ class _Values(ctypes.Structure):
                 ("automaton", ctypes.c_uint8 * 8), ("any", ctypes.c_bool)]
 
 
-class _Reduced(ctypes.Structure):
-    refusal: int
-    detail: int
-    edit: int
-    cells: int
-    summaries: int
+@_laid_out
+class _Reduced(_Refused):
+    edit: u32
+    cells: u32
+    summaries: u32
     values: _Values
-    _fields_ = [("refusal", ctypes.c_uint32), ("detail", ctypes.c_uint32), ("edit", ctypes.c_uint32), ("cells", ctypes.c_uint32),
-                ("summaries", ctypes.c_uint32), ("values", _Values)]
 
 
-class _Found(ctypes.Structure):
-    refusal: int
-    detail: int
-    edit: int
-    lo: int
-    hi: int
-    value: int
-    sum_low: int
-    sum_high: int
-    found: bool
-    _fields_ = [("refusal", ctypes.c_uint32), ("detail", ctypes.c_uint32), ("edit", ctypes.c_uint32), ("lo", ctypes.c_uint32),
-                ("hi", ctypes.c_uint32), ("value", ctypes.c_int64), ("sum_low", ctypes.c_uint64), ("sum_high", ctypes.c_int64),
-                ("found", ctypes.c_bool)]
+@_laid_out
+class _Found(_Refused):
+    edit: u32
+    lo: u32
+    hi: u32
+    value: i64
+    sum_low: u64
+    sum_high: i64
+    found: flag
 
 
+@_laid_out
 class _Total(ctypes.Structure):
-    low: int
-    high: int
-    _fields_ = [("low", ctypes.c_uint64), ("high", ctypes.c_int64)]
+    low: u64
+    high: i64
 
     def exact(self) -> int:
         """The number of 128 bits."""
         return (self.high << 64) + self.low
 
 
-class _Summed(ctypes.Structure):
-    refusal: int
-    detail: int
-    edit: int
+@_laid_out
+class _Summed(_Refused):
+    edit: u32
     sum: _Total
-    _fields_ = [("refusal", ctypes.c_uint32), ("detail", ctypes.c_uint32), ("edit", ctypes.c_uint32), ("sum", _Total)]
 
 
-class _Scanned(ctypes.Structure):
-    refusal: int
-    detail: int
-    edit: int
-    length: int
-    _fields_ = [("refusal", ctypes.c_uint32), ("detail", ctypes.c_uint32), ("edit", ctypes.c_uint32), ("length", ctypes.c_uint32)]
+@_laid_out
+class _Scanned(_Refused):
+    edit: u32
+    length: u32
 
 
 class _Summarised(ctypes.Structure):
@@ -156,49 +137,43 @@ class _Summarised(ctypes.Structure):
     _fields_ = [("refusal", ctypes.c_uint32), ("detail", ctypes.c_uint32), ("summary", ctypes.c_uint8 * SUMMARY_BYTES)]
 
 
+@_laid_out
 class _Opened(ctypes.Structure):
-    refusal: int
-    edit: int
-    count: int
+    refusal: u32
+    edit: u32
+    count: u64
     values: _Values
     table: _Table
-    at_edit: bool
-    _fields_ = [("refusal", ctypes.c_uint32), ("edit", ctypes.c_uint32), ("count", ctypes.c_uint64), ("values", _Values), ("table", _Table),
-                ("at_edit", ctypes.c_bool)]
+    at_edit: flag
 
 
+@_laid_out
 class _Claimed(ctypes.Structure):
-    refusal: int
-    found: bool
-    level: int
-    number: int
-    version: int
-    _fields_ = [("refusal", ctypes.c_uint32), ("found", ctypes.c_bool), ("level", ctypes.c_uint32), ("number", ctypes.c_uint32),
-                ("version", ctypes.c_uint32)]
+    refusal: u32
+    found: flag
+    level: u32
+    number: u32
+    version: u32
 
 
+@_laid_out
 class _Vetted(ctypes.Structure):
-    refusal: int
-    yes: bool
-    _fields_ = [("refusal", ctypes.c_uint32), ("yes", ctypes.c_bool)]
+    refusal: u32
+    yes: flag
 
 
+@_laid_out
 class _Accepted(ctypes.Structure):
-    refusal: int
-    became: int
-    now: int
-    _fields_ = [("refusal", ctypes.c_uint32), ("became", ctypes.c_uint32), ("now", ctypes.c_uint32)]
+    refusal: u32
+    became: u32
+    now: u32
 
 
-class _Renewed(ctypes.Structure):
-    refusal: int
-    detail: int
-    edit: int
-    version: int
-    _fields_ = [("refusal", ctypes.c_uint32), ("detail", ctypes.c_uint32), ("edit", ctypes.c_uint32), ("version", ctypes.c_uint32)]
+@_laid_out
+class _Renewed(_Refused):
+    edit: u32
+    version: u32
 
 
-class _Verdict(ctypes.Structure):
-    refusal: int
-    detail: int
-    _fields_ = [("refusal", ctypes.c_uint32), ("detail", ctypes.c_uint32)]
+class _Verdict(_Refused):
+    pass

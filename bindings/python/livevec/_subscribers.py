@@ -3,12 +3,16 @@ from __future__ import annotations
 
 import ctypes
 import threading
-from typing import Any, Callable, Iterable
+from typing import TYPE_CHECKING, Any, Callable, Iterable
 
-from ._library import _call, _pointer, _released, _size, _u32
+from ._library import _call, _released, _size, _u32
 from ._limits import _MOST_U64, MOST_QUERIES
 from ._queries import Note, _Note, _note_of
+from ._records import _laid_out, _Refused
 from ._refusals import _refuse
+
+if TYPE_CHECKING:
+    from ._records import flag, u32, u64
 
 
 class _Place(ctypes.Structure):
@@ -17,13 +21,11 @@ class _Place(ctypes.Structure):
     _fields_ = [("at_", ctypes.c_void_p)]
 
 
-class _Told(ctypes.Structure):
-    refusal: int
-    detail: int
-    edit: int
-    count: int
-    is_over: bool
-    _fields_ = [("refusal", _u32), ("detail", _u32), ("edit", ctypes.c_uint64), ("count", _u32), ("is_over", ctypes.c_bool)]
+@_laid_out
+class _Told(_Refused):
+    edit: u64
+    count: u32
+    is_over: flag
 
 
 # All calls at what is shared release the interpreter's lock: who has the lock of what is shared may want that one.

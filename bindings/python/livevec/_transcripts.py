@@ -2,16 +2,20 @@
 from __future__ import annotations
 
 import ctypes
-from typing import Iterable, NamedTuple, Optional, Union
+from typing import TYPE_CHECKING, Iterable, NamedTuple, Optional, Union
 
 from ._calls import _slot
 from ._kinds import Kind, _kind_of
 from ._library import _call, _size, _u32
 from ._limits import MOST_BUCKETS, MOST_EDITS
 from ._numbers import _as_u32
+from ._records import _laid_out, _Refused
 from ._refusals import NoFront, ShortBuffer, _refuse
 from ._structures import _Values
 from ._vector import Vector
+
+if TYPE_CHECKING:
+    from ._records import i64, size, u32
 
 _MOST_U64 = (1 << 64) - 1
 
@@ -60,39 +64,42 @@ class Verdict(NamedTuple):
         return self.says == "yes"
 
 
+@_laid_out
 class _Edit(ctypes.Structure):
-    what: int
-    index: int
-    second: int
-    value: int
-    _fields_ = [("what", ctypes.c_uint32), ("index", ctypes.c_uint32), ("second", ctypes.c_uint32), ("value", ctypes.c_int64)]
+    what: u32
+    index: u32
+    second: u32
+    value: i64
 
 
+@_laid_out
 class _JournalRead(ctypes.Structure):
-    refusal: int
-    edit: int
-    length: int
-    _fields_ = [("refusal", ctypes.c_uint32), ("edit", ctypes.c_uint32), ("length", ctypes.c_size_t)]
+    refusal: u32
+    edit: u32
+    length: size
 
 
+@_laid_out
 class _Recorded(ctypes.Structure):
-    _fields_ = [("edit", ctypes.c_uint32), ("kind", ctypes.c_uint32), ("lo", ctypes.c_uint32), ("hi", ctypes.c_uint32), ("values", _Values)]
+    edit: u32
+    kind: u32
+    lo: u32
+    hi: u32
+    values: _Values
 
 
+@_laid_out
 class _TextPut(ctypes.Structure):
-    refusal: int
-    length: int
-    _fields_ = [("refusal", ctypes.c_uint32), ("length", ctypes.c_size_t)]
+    refusal: u32
+    length: size
 
 
-class _Audited(ctypes.Structure):
-    refusal: int
-    detail: int
-    verdict: int
-    line: int
-    edits: int
-    answers: int
-    _fields_ = [(name, ctypes.c_uint32) for name in ("refusal", "detail", "verdict", "line", "edits", "answers")]
+@_laid_out
+class _Audited(_Refused):
+    verdict: u32
+    line: u32
+    edits: u32
+    answers: u32
 
 
 _bytes = ctypes.c_char_p

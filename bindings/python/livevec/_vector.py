@@ -3,7 +3,7 @@ from __future__ import annotations
 
 import ctypes
 from array import array
-from typing import TYPE_CHECKING, Any, Callable, Iterable, Optional, Sequence, TypeVar, Union
+from typing import TYPE_CHECKING, Any, Iterable, Optional, Sequence, TypeVar, Union
 
 from ._automaton import _table_of
 from ._calls import _free, _new, _new_of, _new_with_table, _save, _saved_length
@@ -45,6 +45,7 @@ class Vector(_Edits, _Questions, _Scans, _Claims, _Saved):
     """
 
     __slots__ = ("_limits",)
+    _freed = _free
 
     def __init__(self, elements: Iterable[int] = (), *, most_buckets: int = MOST_BUCKETS, most_edits: int = MOST_EDITS,
                  table: Optional[Sequence[Sequence[int]]] = None, kind: Union[Kind, str, None] = None) -> None:
@@ -110,21 +111,6 @@ class Vector(_Edits, _Questions, _Scans, _Claims, _Saved):
     def _save(self, place: int, room: Optional[Any], length: int) -> int:
         return _accepted(_save(self._at, place, room, length)).length
 
-    # The end.
-
-    def close(self) -> None:
-        """Gives the memory back. Every later call raises Closed; to close again does nothing. Raises Busy beside a call of another thread."""
-        if _free(self._at) == Busy.number:
-            raise _refuse(Busy.number)
-
-    def __enter__(self: _SomeVector) -> _SomeVector:
-        return self
-
-    def __exit__(self, *_: object) -> None:
-        self.close()
-
-    def __del__(self, _free: Callable[..., int] = _free) -> None:
-        _free(self._at)
 
 
 def _remade(of: type[_SomeVector], elements: array[int], buckets: int, edits: int, table: Optional[Sequence[Sequence[int]]],
