@@ -12,6 +12,7 @@ mod escaped;
 mod folders;
 mod identity;
 mod log_file;
+mod log_lines;
 mod log_places;
 mod log_server;
 mod names;

@@ -56,9 +56,9 @@ pub enum Reason {
     NoLog,
     #[error("' is a log with more than 2^62 updates before it, which can't be continued")]
     HighBase,
-    /// An update of a log, by its number in the file.
-    #[error("' is a log whose update {0} is rejected within --buckets and --edits: {1}")]
-    OverLimits(u32, Refusal),
+    /// An update of a log, by its number in the file, and by its line.
+    #[error("' is a log whose update {0}, in line {1}, is rejected within --buckets and --edits: {2}")]
+    OverLimits(u32, u32, Refusal),
     #[error("' is a log with 16777215 updates, which is too long to be continued: `livevec compact` makes it short")]
     FullLog,
     #[error("' can't be replaced by what was made of it")]

@@ -8,11 +8,12 @@ use crate::escaped::Escaped;
 use crate::folders::{Found, KEPT, beside, found_at, sync_folder};
 use crate::identity::Identity;
 use crate::log_file::{LogFile, names_of, open_locked};
+use crate::log_lines::line_of;
 use crate::log_server::lasts;
 use crate::output_file::{Access, OutputFile};
 use crate::program_error::{ProgramError, Reason};
 use crate::waited::Waited;
-use lv_edits::Edits;
+use lv_edits::{Edit, Edits};
 use lv_geometry::{Limits, Refusal};
 use lv_lines::MOST_NUMBERED;
 use lv_script::Fault;
@@ -161,22 +162,22 @@ impl StoreFile {
     }
 
     // Sees that its updates keep to these limits. To the greatest they do.
-    fn check_limits(&self, alloc: Global, limits: Limits) -> Result<(), ProgramError> {
+    fn check_limits(&mut self, alloc: Global, limits: Limits) -> Result<(), ProgramError>
+        ensures { self.new.found ≡ self.old.found }
+    {
         if limits == Limits::greatest() {
             return Ok(());
         }
-        let mut edits = Edits::new(alloc, limits);
-        for edit in self.found.edits.journal() {
-            match edits.apply(*edit) {
-                Ok(_) => {}
-                Err(Refusal::NoMemory) => return Err(ProgramError::memory()),
-                Err(refusal) => {
-                    let reason = Reason::OverLimits(edits.edit().saturating_add(1), refusal);
-                    return Err(ProgramError::new(Fault::ReadFault, reason, self.number));
-                }
-            }
+        let Some((update, refusal)) = first_refused(alloc, self.found.edits.journal(), limits)
+        else {
+            return Ok(());
+        };
+        if refusal == Refusal::NoMemory {
+            return Err(ProgramError::memory());
         }
-        Ok(())
+        let line = line_of(alloc, &mut self.file, self.number, update)?;
+        let reason = Reason::OverLimits(update, line, refusal);
+        Err(ProgramError::new(Fault::ReadFault, reason, self.number))
     }
 
     /// Begins the log where nothing is there, cuts a torn line off, which is told, and takes the second name away that a compaction has left. With `syncs`
@@ -254,6 +255,17 @@ impl StoreFile {
         })
     }
 }
+// The first of these updates that is refused within these limits, by its number, and why.
+fn first_refused(alloc: Global, updates: &[Edit], limits: Limits) -> Option<(u32, Refusal)> {
+    let mut edits = Edits::new(alloc, limits);
+    for update in updates {
+        if let Err(refusal) = edits.apply(*update) {
+            return Some((edits.edit().saturating_add(1), refusal));
+        }
+    }
+    None
+}
+
 
 // Whether the updates behind a file that begins so can be numbered.
 fn has_low_base(heading: Option<LogHeading>) -> bool
