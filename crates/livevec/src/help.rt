@@ -265,6 +265,9 @@ Writes `yes` (exit code 0), `no N` if line N is false, or `bad N` if line N does
 line of a transcript (exit code 1).
 
 With --front it writes `front N edits M answers` (exit code 0) for as much of a transcript as was
-written: complete lines from the first on. An answer may come before updates that are later than its
-own. Whatever follows the last line end doesn't count. A line that is false or misspelt is reported as
-above.";
+written: complete lines from the first on. For a log it writes `log BASE base COUNT elements N edits M
+answers`: BASE updates came before the log, which begins with COUNT elements, and N updates follow these.
+An answer may come before updates that are later than its own. Whatever follows the last line end
+doesn't count. A line that is false or misspelt is reported as above.
+
+It reads at most 1073741824 bytes, and with --front 4294967293.";
