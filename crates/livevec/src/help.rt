@@ -105,16 +105,20 @@ its reply is written, in real order and in complete lines. FILE is opened after 
 emptied last. It is a usage error if it is a link, has a second name, or is locked, as by another
 server. If `serve` is killed, `livevec audit --front` says how much is there, and `livevec restore`
 continues from it. At a good end its last line is `end`. With --sync it is on the disk before the
-reply. If FILE can't be written, that is a fault at the end.
+reply. If FILE can't be written, standard error says so at once, no session goes on, and that is a fault
+at the end. A write that would make FILE longer than 4294967293 bytes fails too, since `livevec audit
+--front` and `livevec restore` read no more. Before FILE becomes longer than 1073741824 bytes, which is
+the most that `livevec audit` reads, standard error says so once.
 
 With --log FILE the record is the store: `serve` begins with the updates of FILE and appends the new
 ones, each before its reply, and nothing goes to standard output. Their numbers go on from FILE's, also
 after `livevec compact`. With --log-answers answers are appended too. FILE is made if it isn't there,
 opened after the others, and locked before it is read; the usage errors are those of --transcript. If
 its last line isn't complete, that line is cut off, and standard error says so. If another line is
-wrong, or --buckets and --edits reject an update, that is a fault, and no file has changed. A transcript
-is no log: `livevec compact FILE` makes a log of it. If FILE can't be written, standard error says so at
-once, no session goes on, and that is a fault at the end.
+wrong, or --buckets and --edits reject an update, that is a fault, which names the line, and no file has
+changed. A transcript is no log: `livevec compact FILE` makes a log of it. If FILE can't be written, or
+would become longer than 4294967293 bytes, standard error says so at once, no session goes on, and that
+is a fault at the end.
 
 The log is made anew, of the elements that there are, as `livevec compact` does it, before the updates
 of its vector are used up, or once it has as many bytes as --compact-at says and is twice as long as

@@ -1,27 +1,34 @@
-//! A file whose failure is told at once.
+//! A file whose failure is told at once, and when it becomes long.
 
 ghost use Rattle.std.specs.Prelude.{◌≡◌};
 
 use crate::escaped::Escaped;
 use lv_hub::LogWriter;
+use lv_lines::{MOST_NUMBERED, MOST_READ};
 use lv_script::Fault;
 use lv_transcript::LogHeading;
 use std::alloc::Global;
 use std::io;
 use std::io::{Error, Write};
 
-/// A file that is written: the first failure is told on standard error when it comes, since the server tells its fault only at its end.
+// How many bytes `livevec audit` reads at most.
+const MOST_AUDITED: u64 = MOST_READ as u64;
+
+/// A file that is written: the first failure is told on standard error when it comes, since the server tells its fault only at its end. So it is told once
+/// when the file becomes longer than what `livevec audit` reads.
 #[derive(Drop)]
 pub struct AnnouncedFile<'a, E: Copy, F: Drop> {
     errors: E,
     name: &'a str,
     file: F,
     is_told: bool,
+    // How many bytes it takes until it is too long for `livevec audit`.
+    room: u64,
 }
 
 impl<'a, E: Eprint + Copy, F: Write + Drop> AnnouncedFile<'a, E, F> {
-    /// A file of this name, of which nothing was told.
-    pub fn new(errors: E, name: &'a str, file: F) -> AnnouncedFile<'a, E, F>
+    /// The file of a transcript of this name, which is empty.
+    pub fn of_transcript(errors: E, name: &'a str, file: F) -> AnnouncedFile<'a, E, F>
         ensures { result.file ≡ file }
     {
         AnnouncedFile {
@@ -29,6 +36,20 @@ impl<'a, E: Eprint + Copy, F: Write + Drop> AnnouncedFile<'a, E, F> {
             name,
             file,
             is_told: false,
+            room: MOST_AUDITED,
+        }
+    }
+
+    /// The file of a log of this name, which `livevec audit` doesn't read.
+    pub fn of_log(errors: E, name: &'a str, file: F) -> AnnouncedFile<'a, E, F>
+        ensures { result.file ≡ file }
+    {
+        AnnouncedFile {
+            errors,
+            name,
+            file,
+            is_told: false,
+            room: u64::MAX,
         }
     }
 
@@ -45,15 +66,31 @@ impl<'a, E: Eprint + Copy, F: Write + Drop> AnnouncedFile<'a, E, F> {
             "livevec: '{name}' can't be written, and no session goes on: {error}"
         );
     }
+
+    // Tells that the file becomes too long for `livevec audit`, if so many bytes more make it so.
+    fn tell_if_long(&mut self, more: u64)
+        ensures { self.new.file ≡ self.old.file }
+    {
+        if more <= self.room {
+            return;
+        }
+        self.room = u64::MAX;
+        let name = Escaped(self.name);
+        let _ = eprintln!(self.errors;
+            "livevec: '{name}' becomes longer than {MOST_AUDITED} bytes: `livevec audit` reads no more, but `livevec audit --front` reads up to {MOST_NUMBERED}"
+        );
+    }
 }
 
 impl<'a, E: Eprint + Copy, F: Write + Drop> Write for AnnouncedFile<'a, E, F> {
     ghost contents = { λ told. F.contents told.file };
 
     fn write(&mut self, buf: &[u8]) -> io::Result<usize> {
+        self.tell_if_long(buf.len() as u64);
         let written = self.file.write(buf);
-        if let Err(error) = &written {
-            self.tell(error);
+        match &written {
+            Ok(count) => self.room = self.room.saturating_sub(*count as u64),
+            Err(error) => self.tell(error),
         }
         written
     }

@@ -59,7 +59,7 @@ where
     R: Eprint,
 {
     match file {
-        Some(file) => Some(AnnouncedFile::new(rt, names.of_record().unwrap_or(""), file)),
+        Some(file) => Some(AnnouncedFile::of_transcript(rt, names.of_record().unwrap_or(""), file)),
         None => None,
     }
 }
@@ -92,7 +92,7 @@ pub fn serve_logged_files<
         edits,
         ..
     } = log;
-    let file = AnnouncedFile::new(rt, names.of_record().unwrap_or(""), file);
+    let file = AnnouncedFile::of_log(rt, names.of_record().unwrap_or(""), file);
     let begun = edits.journal();
     let served = serve_log(
         rt,

@@ -2,21 +2,30 @@
 
 use crate::output_file::{Access, OutputFile};
 use crate::program_error::Reason;
+use lv_lines::MOST_NUMBERED;
 use std::fs::{File, Files, OpenFile, TryLockError};
 use std::io;
-use std::io::Write;
+use std::io::{Error, ErrorKind, Write};
 use std::os::unix::fs::MetadataExt;
 
 // How often a file is opened anew because another came in its place.
 const TRIES: u32 = 100;
 
-/// The file of a transcript or of a log as it is written. What is flushed is on the disk, where that is wanted.
+// At most how many bytes the file has: no more are read by what reads it.
+const MOST: u64 = MOST_NUMBERED as u64;
+
+const TOO_LONG: &str = "it would have more than 4294967293 bytes";
+
+/// The file of a transcript or of a log as it is written. What is flushed is on the disk, where that is wanted. A write is refused that would make it longer
+/// than what its readers take, so it stays readable.
 #[derive(Drop)]
 pub struct LogFile<F: Drop> {
     /// The file.
     pub file: F,
     /// Whether it is wanted.
     pub syncs: bool,
+    /// How many bytes it has.
+    pub length: u64,
 }
 
 /// Opens the file of a transcript or of a log, as those of replies are opened, and locks it before anything else, so that no second
@@ -82,7 +91,14 @@ impl<F: Write + OpenFile + Drop> Write for LogFile<F> {
     ghost contents = { λ log. F.contents log.file };
 
     fn write(&mut self, buf: &[u8]) -> io::Result<usize> {
-        self.file.write(buf)
+        if self.length.saturating_add(buf.len() as u64) > MOST {
+            return Err(Error::new(ErrorKind::FileTooLarge, TOO_LONG));
+        }
+        let written = self.file.write(buf);
+        if let Ok(count) = &written {
+            self.length = self.length.saturating_add(*count as u64);
+        }
+        written
     }
 
     fn flush(&mut self) -> io::Result<()> {

@@ -261,7 +261,6 @@ fn stored<'a, C: Clock + Copy, R: Eprint + LogFolder>(
     let StartedLog {
         file,
         output,
-        length,
         heading,
         edits,
     } = log;
@@ -273,12 +272,10 @@ fn stored<'a, C: Clock + Copy, R: Eprint + LogFolder>(
         kept.compact_at,
         file,
         output,
-        length,
     );
     StartedLog {
         file,
         output,
-        length,
         heading,
         edits,
     }
@@ -429,6 +426,7 @@ fn empty_with<C: Clock + Copy, F: OpenFile + Drop>(
             let file = LogFile {
                 file,
                 syncs: names.syncs,
+                length: 0,
             };
             Ok((clients, Some(Waited::new(clock, file))))
         }

@@ -77,7 +77,12 @@ fn fill_and_replace<C: Clock + Copy, R: Files<File = File>>(
 ) -> Result<LogHeading, ProgramError>
     requires { base_of store.now.found.heading ≤ 2 ^ 62 }
 {
-    let mut log = Waited::new(clock, LogFile { file, syncs: true });
+    let file = LogFile {
+        file,
+        syncs: true,
+        length: 0,
+    };
+    let mut log = Waited::new(clock, file);
     match compact_log(alloc, &store.found, &mut log) {
         Ok(()) => {}
         Err(Fault::NoMemory) => return Err(ProgramError::memory()),

@@ -32,10 +32,8 @@ const NEW: LogHeading = LogHeading {
     elements: 0,
 };
 
-// The first line of a log before which nothing came, without its LF, and its length with it.
+// The first line of a log before which nothing came, without its LF.
 const FIRST_LINE: [u8; 13] = *b"livevec 2 0 0";
-
-const NEW_LENGTH: u64 = 14;
 
 // How many updates a vector has at most that is to be made anew.
 const MOST_SERVED: u32 = 16_777_214;
@@ -63,8 +61,6 @@ pub struct StartedLog<F: Drop> {
     pub file: F,
     /// Which file it is.
     pub output: OutputFile,
-    /// How many bytes it has.
-    pub length: u64,
     pub heading: LogHeading,
     pub edits: Edits,
 }
@@ -234,14 +230,18 @@ impl StoreFile {
             whole,
             ..
         } = found;
-        let mut file = Waited::new(clock, LogFile { file, syncs });
+        let file = LogFile {
+            file,
+            syncs,
+            length: whole,
+        };
+        let mut file = Waited::new(clock, file);
         let Some(heading) = heading else {
             drop(edits);
             write_new(alloc, number, &mut file)?;
             return Ok(StartedLog {
                 file,
                 output,
-                length: NEW_LENGTH,
                 heading: NEW,
                 edits: Edits::new(alloc, Limits::greatest()),
             });
@@ -249,12 +249,12 @@ impl StoreFile {
         Ok(StartedLog {
             file,
             output,
-            length: whole,
             heading,
             edits,
         })
     }
 }
+
 // The first of these updates that is refused within these limits, by its number, and why.
 fn first_refused(alloc: Global, updates: &[Edit], limits: Limits) -> Option<(u32, Refusal)> {
     let mut edits = Edits::new(alloc, limits);
@@ -265,7 +265,6 @@ fn first_refused(alloc: Global, updates: &[Edit], limits: Limits) -> Option<(u32
     }
     None
 }
-
 
 // Whether the updates behind a file that begins so can be numbered.
 fn has_low_base(heading: Option<LogHeading>) -> bool

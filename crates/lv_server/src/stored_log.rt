@@ -39,8 +39,7 @@ pub struct StoredLog<'a, C: Copy, E: Copy> {
     least: u64,
     file: Waited<C, LogFile<File>>,
     output: OutputFile,
-    // How many bytes it has, and from how many on it is made anew next.
-    length: u64,
+    // From how many bytes on it is made anew next.
     due: u64,
     // Whether it was told that it can't be made anew.
     is_told: bool,
@@ -49,7 +48,7 @@ pub struct StoredLog<'a, C: Copy, E: Copy> {
 }
 
 impl<'a, C: Clock + Copy, R: Eprint + LogFolder> StoredLog<'a, C, &'a R> {
-    /// A log that is open and locked, at its end, and has so many bytes. It is made anew from so many bytes on at least.
+    /// A log that is open and locked, at its end. It is made anew from so many bytes on at least.
     pub fn new(
         clock: C,
         rt: &'a R,
@@ -58,7 +57,6 @@ impl<'a, C: Clock + Copy, R: Eprint + LogFolder> StoredLog<'a, C, &'a R> {
         least: u64,
         file: Waited<C, LogFile<File>>,
         output: OutputFile,
-        length: u64,
     ) -> StoredLog<'a, C, &'a R> {
         StoredLog {
             clock,
@@ -68,7 +66,6 @@ impl<'a, C: Clock + Copy, R: Eprint + LogFolder> StoredLog<'a, C, &'a R> {
             least,
             file,
             output,
-            length,
             due: least,
             is_told: false,
             is_lost: false,
@@ -87,10 +84,9 @@ impl<'a, C: Clock + Copy, R: Eprint + LogFolder> StoredLog<'a, C, &'a R> {
     {
         let (file, output) = self.rt.make(&self.places, self.output)?;
         match self.fill_and_replace(alloc, heading, elements, file) {
-            Ok((file, length)) => {
+            Ok(file) => {
                 drop(mem::replace(&mut self.file, file));
                 self.output = output;
-                self.length = length;
                 self.sync_name();
                 Ok(())
             }
@@ -101,31 +97,32 @@ impl<'a, C: Clock + Copy, R: Eprint + LogFolder> StoredLog<'a, C, &'a R> {
         }
     }
 
-    // Fills the new file, and puts it in place of the old one. Says how many bytes it has.
+    // Fills the new file, and puts it in place of the old one.
     fn fill_and_replace(
         &self,
         alloc: Global,
         heading: LogHeading,
         elements: &[i64],
         file: File,
-    ) -> Result<(Waited<C, LogFile<File>>, u64), ProgramError>
+    ) -> Result<Waited<C, LogFile<File>>, ProgramError>
         requires count { heading.elements ≡ length elements.now }
         requires few { length elements.now ≤ 1048568 }
     {
-        let syncs = self.syncs;
-        let mut log = Waited::new(self.clock, LogFile { file, syncs });
+        let file = LogFile {
+            file,
+            syncs: self.syncs,
+            length: 0,
+        };
+        let mut log = Waited::new(self.clock, file);
         match write_log(alloc, heading, elements, &mut log) {
             Ok(()) => {}
             Err(Fault::NoMemory) => return Err(ProgramError::memory()),
             Err(_) => return Err(self.places.fault(Reason::Uncompacted)),
         }
-        let Ok(made) = log.stream().file.metadata() else {
-            return Err(self.places.fault(Reason::Uncompacted));
-        };
         let old = &self.file.stream().file;
         self.rt
             .replace(&self.places, old, self.output, &log.stream().file)?;
-        Ok((log, made.len()))
+        Ok(log)
     }
 
     // Flushes the new file's name to the disk. Where that fails and is wanted, nothing more is written: after a crash the name might lead to the old
@@ -155,11 +152,7 @@ impl<'a, C: Clock + Copy, E: Copy> Write for StoredLog<'a, C, E> {
         if self.is_lost {
             return Err(Error::from(ErrorKind::Other));
         }
-        let written = self.file.write(buf);
-        if let Ok(count) = &written {
-            self.length = self.length.saturating_add(*count as u64);
-        }
-        written
+        self.file.write(buf)
     }
 
     fn flush(&mut self) -> io::Result<()> {
@@ -172,7 +165,7 @@ impl<'a, C: Clock + Copy, E: Copy> Write for StoredLog<'a, C, E> {
 
 impl<'a, C: Clock + Copy, R: Eprint + LogFolder> LogWriter for StoredLog<'a, C, &'a R> {
     fn is_due(&self) -> bool {
-        self.length >= self.due
+        self.file.stream().length >= self.due
     }
 
     fn begin_anew(
@@ -182,7 +175,8 @@ impl<'a, C: Clock + Copy, R: Eprint + LogFolder> LogWriter for StoredLog<'a, C, 
         elements: &[i64],
     ) -> Result<(), Fault> {
         let renewed = self.renew(alloc, heading, elements);
-        self.due = self.length.saturating_mul(2).max(self.least);
+        let length = self.file.stream().length;
+        self.due = length.saturating_mul(2).max(self.least);
         match renewed {
             Ok(()) => {
                 self.is_told = false;
