@@ -125,13 +125,14 @@ impl<W: Write> LineHandler<W> for Script {
     ) -> Result<(), Fault> {
         buffer.make_room(ROOM)?;
         match command_of(number, read_line(line), buffer.held) {
-            Some(command) => answer(
-                &mut self.standing,
-                &mut self.notes,
-                &mut self.issued,
-                command,
-                buffer,
-            ),
+            Some(command) => {
+                let Script {
+                    standing,
+                    issued,
+                    notes,
+                } = self;
+                answer(standing, notes, issued, command, buffer)
+            }
             None => Ok(()),
         }
     }
