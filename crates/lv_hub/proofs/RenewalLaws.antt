@@ -21,7 +21,7 @@ use Rattle.lv_edits.specs.Verdict.{Accepts, receipt_of, refused_on, verdict_of}
 use Rattle.lv_edits.proofs.CapacityLaws.{fewest_of_max, fewest_within, least_capacity_is, longest-snoc, most_reserved-snoc, suffices_above}
 use Rattle.lv_edits.proofs.HistoryLaws.{accepted_is_possible, legal_beginnings, legal_empty, list_of-snoc, list_of_replayed, not_refused, replayed-nil, replayed-snoc, unrefused_reserve}
 use Rattle.lv_lines.specs.Texts.{numbered}
-use Rattle.lv_hub.specs.Renewing.{IsOfOneVector, IsRun, LastsAs, StandsFor, lasting, receipt_with, renewed_after, vector_limits}
+use Rattle.lv_hub.specs.Renewing.{IsOfOneVector, IsRun, LastsAs, StandsFor, lasting, opened_limits, receipt_with, renewed_after, vector_limits}
 
 -- ---- edits that make the same list
 
@@ -408,3 +408,12 @@ lasting_limits_are limits vector is many = λ i. record { buckets = ap (λ l. l.
 -- limits of a hub that lasts are such themselves
 pub lasts_so : (limits vector : Bounds) → limits ≡ lasting vector → limits ≡ lasting limits
 lasts_so limits vector is = is ∙ ap lasting (sym is)
+
+-- a hub opened for such a vector has those limits, and lasts as it was told
+pub opened_vector : (limits vector : Bounds) (lasts : Bool) → limits ≡ opened_limits lasts vector → (lasts ≡ true → vector.edits ≡ 16777215) → vector.edits ≤ 16777215 → vector ≡ vector_limits limits
+opened_vector limits vector true is many few = lasting_limits_are limits vector is (many refl)
+opened_vector limits vector false is many few = sym is ∙ sym (vector_limits_are limits (subst IsOfOneVector (sym is) few))
+
+pub opened_so : (limits vector : Bounds) (lasts : Bool) → limits ≡ opened_limits lasts vector → vector.edits ≤ 16777215 → LastsAs lasts limits
+opened_so limits vector true is few = lasts_so limits vector is
+opened_so limits vector false is few = subst IsOfOneVector (sym is) few

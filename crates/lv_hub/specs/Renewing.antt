@@ -1,5 +1,5 @@
 -- A hub whose vector is made anew: what its edits are, and what the vector has of them.
-use Rattle.std.specs.Prelude.{◌≡◌, ℕ, ℤ, ◌≤◌, ◌<◌, ◌^◌, ◌⊎◌, Bool, true, false, max, min, Option, Some, List, ◌++◌, All, drop, length, map, take}
+use Rattle.std.specs.Prelude.{◌≡◌, ℕ, ℤ, ◌≤◌, ◌<◌, ◌^◌, ◌⊎◌, if◌then◌else◌, Bool, true, false, max, min, Option, Some, List, ◌++◌, All, drop, length, map, take}
 use Rattle.lv_geometry.specs.Bounds.{Bounds}
 use Rattle.lv_geometry.specs.Cells.{capacity_of}
 use Rattle.lv_geometry.specs.Elements.{IsElement}
@@ -24,6 +24,10 @@ IsOfOneVector limits = limits.edits ≤ 16777215
 -- the limits of a hub that is made anew before its vector's edits are used up
 abbrev pub lasting : Bounds → Bounds
 lasting limits = record limits { edits = 2 ^ 62 }
+
+-- the limits of a hub whose vector has these: wider, where the hub lasts
+abbrev pub opened_limits : Bool → Bounds → Bounds
+opened_limits lasts limits = if lasts then lasting limits else limits
 
 -- the limits of the vector of a hub: no vector takes more than 16777215 edits
 abbrev pub vector_limits : Bounds → Bounds

@@ -18,7 +18,7 @@ ghost use Rattle.lv_transcript.specs.Transcript.{AreAccepted, IsTrueAnswer, grea
 ghost use Rattle.lv_hub.specs.Counting.{Counts, having_seen};
 ghost use Rattle.lv_hub.specs.declared.log_entry.LogEntry.TheVariants as logged;
 ghost use Rattle.lv_hub.specs.Logging.{CameSince, HasPlace, entry_of, with_entry};
-ghost use Rattle.lv_hub.specs.Renewing.{IsClosed, IsMadeOf, IsOfOneVector, IsRun, IsVector, LastsAs, lasting, receipt_with, renewed_after, vector_limits};
+ghost use Rattle.lv_hub.specs.Renewing.{IsClosed, IsMadeOf, IsOfOneVector, IsRun, IsVector, LastsAs, lasting, opened_limits, receipt_with, renewed_after, vector_limits};
 ghost use Rattle.lv_hub.specs.Told.{Delivers, VouchedBy, history_of, receipt_at, valued_at};
 ghost use Rattle.lv_hub.specs.Work.{left_asleep, makes_work};
 
@@ -116,53 +116,26 @@ impl<B: Body, N: WithBody<B>> Desk<B, N> {
     {
         // They are a vector's.
         let _ = limits.edits();
-        Desk::make(alloc, limits, body, blank, parts, opened, false)
+        Desk::open(alloc, limits, false, body, blank, parts, opened)
     }
 
-    /// The same, for a hub that goes on when its vector's edits are used up: the vector has these limits, and is made anew before.
-    pub fn lasting(
+    /// The same, for a hub of one vector or, where it lasts, for one that goes on when its vector's edits are used up: the vector has these
+    /// limits, and is made anew before.
+    pub fn open(
         alloc: Global,
         limits: Limits,
-        body: B,
-        blank: Blank,
-        parts: u64,
-        opened: Opened,
-    ) -> (Desk<B, N>, Share<N>)
-        requires name { blank.name ≡ N.name }
-        requires all { blank.parts ≡ N.parts }
-        requires parts { blank.parts ≡ parts }
-        requires some { 0 < parts }
-        requires limits { N.limits ≡ lasting limits }
-        requires many { limits.edits ≡ 16777215 }
-        requires history { opened ≡ N.history }
-        requires body { N.body ≡ Some body }
-        ensures edits { result.0.edits ≡ [] }
-        ensures body { result.0.live.body ≡ body }
-        ensures history { result.0.live.history ≡ record { limits = limits; journal = [] } }
-        ensures unclaimed { (n : Node) → (recorded result.0.live).claimed n ≡ None }
-        ensures nothing_kept { (n : Node) → (recorded result.0.live).kept n ≡ None }
-        ensures awake { result.0 ≡ record { edits = []; live = result.0.live; asleep = 0; dismissed = false; listened = false } }
-        ensures share { result.1 ≡ record { parts = parts; count = 0; seen = [] } }
-    {
-        Desk::make(alloc, limits, body, blank, parts, opened, true)
-    }
-
-    // The same, for a hub of one vector, or for one that goes on.
-    fn make(
-        alloc: Global,
-        limits: Limits,
-        body: B,
-        blank: Blank,
-        parts: u64,
-        opened: Opened,
         lasts: bool,
+        body: B,
+        blank: Blank,
+        parts: u64,
+        opened: Opened,
     ) -> (Desk<B, N>, Share<N>)
         requires name { blank.name ≡ N.name }
         requires all { blank.parts ≡ N.parts }
         requires parts { blank.parts ≡ parts }
         requires some { 0 < parts }
-        requires limits { limits ≡ vector_limits N.limits }
-        requires lasts { LastsAs lasts N.limits }
+        requires limits { N.limits ≡ opened_limits lasts limits }
+        requires many { lasts ≡ true → limits.edits ≡ 16777215 }
         requires history { opened ≡ N.history }
         requires body { N.body ≡ Some body }
         ensures edits { result.0.edits ≡ [] }
@@ -173,6 +146,8 @@ impl<B: Body, N: WithBody<B>> Desk<B, N> {
         ensures awake { result.0 ≡ record { edits = []; live = result.0.live; asleep = 0; dismissed = false; listened = false } }
         ensures share { result.1 ≡ record { parts = parts; count = 0; seen = [] } }
     {
+        // They are a vector's.
+        let _ = limits.edits();
         let (head, prefix) = opened.named::<N>();
         let (book, token) = blank.open::<N>();
         let live = Live::new(alloc, limits, body);

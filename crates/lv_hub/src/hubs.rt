@@ -6,7 +6,7 @@ ghost use Rattle.lv_edits.specs.History.{list_of};
 ghost use Rattle.lv_transcript.specs.Transcript.{AreAccepted, greatest};
 ghost use Rattle.lv_hub.specs.Counting.{Counts, having_seen};
 ghost use Rattle.lv_hub.specs.Logging.{CameSince, entry_of};
-ghost use Rattle.lv_hub.specs.Renewing.{IsClosed, IsMadeOf, IsOfOneVector, IsVector, lasting, renewed_after, vector_limits};
+ghost use Rattle.lv_hub.specs.Renewing.{IsClosed, IsMadeOf, IsOfOneVector, IsVector, lasting, opened_limits, renewed_after, vector_limits};
 ghost use Rattle.lv_hub.specs.Told.{ClaimTold, EditTold, DeliveryTold, ReadsTold, ReductionTold, ScanTold, StretchTold, ValueTold, receipt_at};
 
 use crate::desks::Desk;
@@ -79,11 +79,12 @@ impl<B: Body, N: WithBody<B>> Hub<B, N> {
         (Hub::of_desk(desk, body), share)
     }
 
-    /// The same, for a hub that goes on when its vector's edits are used up: the vector has these limits, and is made anew before (`renew`). Until then an
-    /// edit is refused with `NoMemory`.
-    pub fn lasting(
+    /// The same, for a hub of one vector or, where it lasts, for one that goes on when its vector's edits are used up: the vector has these limits,
+    /// and is made anew before (`renew`). Until then an edit is refused with `NoMemory`.
+    pub fn open(
         alloc: Global,
         limits: Limits,
+        lasts: bool,
         body: B,
         blank: Blank,
         parts: u64,
@@ -93,14 +94,14 @@ impl<B: Body, N: WithBody<B>> Hub<B, N> {
         requires all { blank.parts ≡ N.parts }
         requires parts { blank.parts ≡ parts }
         requires some { 0 < parts }
-        requires limits { N.limits ≡ lasting limits }
-        requires many { limits.edits ≡ 16777215 }
+        requires limits { N.limits ≡ opened_limits lasts limits }
+        requires many { lasts ≡ true → limits.edits ≡ 16777215 }
         requires history { opened ≡ N.history }
         requires body { N.body ≡ Some body }
         ensures body { result.0 ≡ body }
         ensures share { result.1 ≡ record { parts = parts; count = 0; seen = [] } }
     {
-        let (desk, share) = Desk::lasting(alloc, limits, body, blank, parts, opened);
+        let (desk, share) = Desk::open(alloc, limits, lasts, body, blank, parts, opened);
         (Hub::of_desk(desk, body), share)
     }
 

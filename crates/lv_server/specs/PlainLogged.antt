@@ -1,6 +1,6 @@
 -- What a server that goes on from a log comes to, by lists alone: sessions answered by the reference interpreter, whose numbers go on, and a file
 -- that stays a log of all edits.
-use Rattle.std.specs.Prelude.{◌≡◌, ◌⊎◌, ℕ, ◌+◌, ◌≤◌, if◌then◌else◌, nat_eq, Option, Some, List, ◌++◌, All, drop, length, map, take}
+use Rattle.std.specs.Prelude.{◌≡◌, ◌⊎◌, ℕ, ◌+◌, ◌≤◌, nat_eq, Option, Some, List, ◌++◌, All, drop, length, map, take}
 use Rattle.std.specs.List.{sum_by}
 use Rattle.std.specs.Io.KnownBytes.{Appends}
 use mathlib.Core.List.{IsPrefix}
@@ -15,14 +15,14 @@ use Rattle.lv_transcript.specs.Transcript.{ended}
 use Rattle.lv_hub.specs.Logging.{heading_after}
 use Rattle.lv_hub.specs.Noticing.{NoticesState}
 use Rattle.lv_hub.specs.PlainSession.{Seen}
-use Rattle.lv_hub.specs.Renewing.{IsRun, lasting}
+use Rattle.lv_hub.specs.Renewing.{IsRun, opened_limits}
 use Rattle.lv_hub.specs.Watched.{AreWatched, WatchState}
 use Rattle.lv_server.specs.PlainServed.{AreHeldPlainly}
 use Rattle.lv_server.specs.Served.{Sides}
 
 -- the limits of the edits of such a server: where its vector may have as many as any, it goes on when they are used up
 abbrev pub served_limits : Bounds → Bounds
-served_limits limits = if nat_eq limits.edits 16777215 then lasting limits else limits
+served_limits limits = opened_limits (nat_eq limits.edits 16777215) limits
 
 -- to a file entries were added, one a line: behind some edits they are true in the order of time, and with these edits they are all edits
 pub record LogGoesOn (begun edits : List Edit) (contents_old contents_new : Option (List ℕ)) : Type 0 where

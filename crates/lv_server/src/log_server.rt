@@ -122,7 +122,15 @@ fn serve_log_as<
     ensures served { IfOk result (λ done. IfSome done.1 (λ kept. LogServed plan.limits heading begun.now (map (λ s. record { lines = F.remaining s.lines; replies = F.contents s.replies }) clients.streams.items) (map (λ s. record { lines = F.remaining s.lines; replies = F.contents s.replies }) done.0.items)
         (map (λ w. record { questions = w.questions.items; contents = F.contents w.notes }) clients.watches.items) (map (λ w. w.notices) done.2.items) V.made (V.contents file) (V.contents kept))) }
 {
-    let (hub, mut share) = open_hub::<N>(alloc, plan.limits, body, blank, parts, opened);
+    let (hub, mut share) = Hub::<Six, N>::open(
+        alloc,
+        plan.limits,
+        lasts(plan.limits),
+        body,
+        blank,
+        parts,
+        opened,
+    );
     let lasts = lasting(plan.limits);
     let file = Some(file);
     let served = serve_all::<N, K, F, V, R>(
@@ -155,32 +163,6 @@ fn lasting(limits: Limits) -> Option<Limits>
     ensures few { limits.edits ≤ 16777215 }
 {
     if lasts(limits) { Some(limits) } else { None }
-}
-
-// A hub of a vector with these limits, which goes on where it may.
-fn open_hub<N: WithBody<Six>>(
-    alloc: Global,
-    limits: Limits,
-    body: Six,
-    blank: Blank,
-    parts: u64,
-    opened: Opened,
-) -> (Hub<Six, N>, Share<N>)
-    requires name { blank.name ≡ N.name }
-    requires all { blank.parts ≡ N.parts }
-    requires parts { blank.parts ≡ parts }
-    requires some { 0 < parts }
-    requires limits { N.limits ≡ served_limits limits }
-    requires history { opened ≡ N.history }
-    requires body { N.body ≡ Some body }
-    ensures body { result.0 ≡ body }
-    ensures share { result.1 ≡ record { parts = parts; count = 0; seen = [] } }
-{
-    if lasts(limits) {
-        Hub::lasting(alloc, limits, body, blank, parts, opened)
-    } else {
-        Hub::new(alloc, limits, body, blank, parts, opened)
-    }
 }
 
 // Closes a hub, ends its log, and gives its last file back. Then subscribers that have ended tell the last. Takes no memory.

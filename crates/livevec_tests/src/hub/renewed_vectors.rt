@@ -169,7 +169,7 @@ fn begin<N: WithBody<Six>, K: Begun, R: Wait>(
     requires there { K.there ≡ Some (record { heading = numbers; entries = [] }) }
     ensures { IfOk result (λ logged. logged.1.parts ≡ 2) }
 {
-    let (hub, share) = Hub::<Six, N>::lasting(alloc, limits, body, blank, 2, opened);
+    let (hub, share) = Hub::<Six, N>::open(alloc, limits, true, body, blank, 2, opened);
     let file = ShortFile {
         begun: 0,
         bytes: Vec::from_slice(alloc, b"livevec 2 1000 0\n")?,

@@ -25,4 +25,4 @@ pub begin-requires-clause-lasts : goal.begin-requires-clause-lasts
 begin-requires-clause-lasts g c = record { lasts = c.requires.limits; many = c.requires.many }
 
 pub begin-requires-clause-seen : goal.begin-requires-clause-seen
-begin-requires-clause-seen g c = ap (λ s. s.seen) c.lasting-hub.ensures.share ∙ sym (ap edits_there c.requires.there)
+begin-requires-clause-seen g c = ap (λ s. s.seen) c.open-hub.ensures.share ∙ sym (ap edits_there c.requires.there)
