@@ -1,10 +1,10 @@
 -- What the answers of the library are for C.
-use Rattle.std.specs.Prelude.{ℕ, ℤ, pos, Bool, true, false, ◌^◌, Option, Some, None, Result, Ok, Err, ok_or, List, length, slice_get, replicate, unwrap_or, is_some, option_map}
+use Rattle.std.specs.Prelude.{ℕ, ℤ, pos, Bool, true, false, ◌^◌, Option, Some, None, Result, Ok, Err, ok_or, List, length, nat_lt, slice_get, replicate, unwrap_or, is_some, option_map, if◌then◌else◌}
 use Rattle.std.specs.Int.{int_rem_euclid, int_div_euclid}
 use Rattle.std.specs.Int.RustNames.{unsigned_abs}
 use Rattle.lv_geometry.specs.Numbers.{number_of}
 use Rattle.lv_geometry.specs.declared.refusals.Refusal.{Refusal}
-use Rattle.lv_geometry.specs.declared.refusals.Refusal.TheVariants.{Contended, OutOfRange, Overtaken, TooLarge}
+use Rattle.lv_geometry.specs.declared.refusals.Refusal.TheVariants.{BadRange, Contended, OutOfRange, Overtaken, TooLarge}
 use Rattle.lv_bodies.specs.Six.{SixSummary}
 use Rattle.lv_edits.specs.declared.receipt.Receipt.{Receipt}
 use Rattle.lv_edits.specs.declared.receipt.Receipt.TheVariants.{Pushed, Popped, Written, Reserved, Swapped, Truncated}
@@ -70,6 +70,10 @@ element_in xs i = ok_or (slice_get xs i) (OutOfRange (length xs))
 -- the same where a slot was empty
 abbrev pub no_element : Element
 no_element = record { refusal = 101; detail = 0; value = pos 0 }
+
+-- why a range of a list is refused: its start is past its end, or else its end is past that of the list
+abbrev pub range_refusal_in : List ℤ → ℕ → ℕ → Option Refusal
+range_refusal_in xs lo hi = if nat_lt hi lo then Some BadRange else (if nat_lt (length xs) hi then Some (OutOfRange (length xs)) else None)
 
 -- the low 64 bits of a number, and the others, which have its sign
 abbrev pub low_half : ℤ → ℕ

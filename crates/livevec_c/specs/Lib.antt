@@ -23,6 +23,7 @@ pub mod Plainly
 pub mod Pushed
 pub mod Queried
 pub mod Queries
+pub mod RangeReads
 pub mod Restores
 pub mod SamplesBehind
 pub mod SavedBehind

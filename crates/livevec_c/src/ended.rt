@@ -1,6 +1,6 @@
 //! Closed boards: what the vector was, and its elements.
-ghost use Rattle.std.specs.Prelude.{◌≡◌, length};
-ghost use Rattle.livevec_c.specs.Answers.{element_in};
+ghost use Rattle.std.specs.Prelude.{◌≡◌, ◌≤◌, IfNone, length};
+ghost use Rattle.livevec_c.specs.Answers.{element_in, range_refusal_in};
 
 use lv_board::Closed;
 use lv_geometry::Refusal;
@@ -21,6 +21,22 @@ impl Ended {
         match self.closed.elements.as_slice().get(index as usize) {
             Some(x) => Ok(*x),
             None => Err(Refusal::OutOfRange { size: self.size }),
+        }
+    }
+
+    /// Why the range from index `lo` up to `hi` is refused, `BadRange` before `OutOfRange`; nothing where it isn't.
+    pub fn range_refusal(&self, lo: u32, hi: u32) -> Option<Refusal>
+        ensures value { result ≡ range_refusal_in self.now.closed.elements lo hi }
+        ensures order { IfNone result (lo ≤ hi) }
+        ensures inside { IfNone result (hi ≤ length self.now.closed.elements) }
+    {
+        let size = self.size;
+        if hi < lo {
+            Some(Refusal::BadRange)
+        } else if size < hi {
+            Some(Refusal::OutOfRange { size })
+        } else {
+            None
         }
     }
 }

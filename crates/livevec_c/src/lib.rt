@@ -33,6 +33,7 @@ mod queries_asked;
 mod queries_calls;
 mod queries_notes;
 mod queries_told;
+mod range_reads;
 mod raw;
 mod reads;
 mod restores;
