@@ -33,6 +33,11 @@
  * @par Ranges and numbers of edits
  * A range is the indices from `lo` up to `hi`, `hi` excluded. Edits are numbered 1, 2, 3 and so on; an answer names the last one.
  *
+ * @par Names and parameters
+ * Some functions are told by a number what they are to do: livevec_make_edit, livevec_judge_edit, livevec_find and livevec_scan, those like them of
+ * a series, and livevec_free_slot. Names such as livevec_push are functions of these headers over them. They are compiled with the program that
+ * calls them (LIVEVEC_INLINE) and are no symbols of the library, so another language calls the functions that take a number.
+ *
  * @par Costs
  * n is the number of elements (or, of a read, those of its range where the comment says "of the range"), and a join combines two partial
  * aggregates. "O(1) amortised" means that a single call may be O(n), when memory is moved. A tree of a kind is built by the first query of that
@@ -63,6 +68,16 @@ extern "C" {
 #endif
 #endif
 
+/** How a function is defined that these headers have whole. In C++ it isn't static, so that a program's inline functions may name it. */
+#ifdef __cplusplus
+#define LIVEVEC_INLINE inline
+#else
+#define LIVEVEC_INLINE static inline
+#endif
+
+/** The same of one whose answer isn't to be dropped. */
+#define LIVEVEC_NAMED LIVEVEC_MUST_USE LIVEVEC_INLINE
+
 #include "livevec_refusals.h"
 #include "livevec_records.h"
 
@@ -71,6 +86,11 @@ LIVEVEC_MUST_USE const char *livevec_version(void);
 
 /** A refusal in words, for example "the limit of edits is reached". Never null: for any other number it is "unknown". O(1). */
 LIVEVEC_MUST_USE const char *livevec_refusal_text(uint32_t refusal);
+
+/** Frees what a slot holds, and empties it, if that is of the sort that a ::livevec_sort says; else it answers NO_HANDLE and frees nothing, also for
+ * another number. `slot` is a slot of one of the types of that enum. Cost and refusals: those of the free of that type, as livevec_free or
+ * livevec_free_series. */
+uint32_t livevec_free_slot(void *slot, uint32_t sort);
 
 #include "livevec_vectors.h"
 #include "livevec_reductions.h"

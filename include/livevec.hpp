@@ -267,30 +267,30 @@ class vector : public inner::with_jobs, public inner::asked<vector, position> {
     summary summarise(position lo, position hi) const { return summary(inner::checked(livevec_summary_of(slot(), lo, hi), lo, hi).summary); }
 
     /** The values of each prefix of a range by all six kinds, with its last element. O(length). */
-    [[nodiscard]] std::vector<livevec_values> scan_inclusive(position lo, position hi) const { return column<livevec_values>(livevec_scan_inclusive, lo, hi); }
+    [[nodiscard]] std::vector<livevec_values> scan_inclusive(position lo, position hi) const { return column<livevec_values>(LIVEVEC_ALL_SIX, true, lo, hi); }
     /** The same without its last element. O(length). */
-    [[nodiscard]] std::vector<livevec_values> scan_exclusive(position lo, position hi) const { return column<livevec_values>(livevec_scan_exclusive, lo, hi); }
+    [[nodiscard]] std::vector<livevec_values> scan_exclusive(position lo, position hi) const { return column<livevec_values>(LIVEVEC_ALL_SIX, false, lo, hi); }
 
     /** The running values of a range by one kind, as scan_inclusive<livevec::kind::sum>(0, n), in a column of its own. Of no elements the minimum, the
      * maximum and the best run are 0. O(length). */
     template <livevec::kind Kind> [[nodiscard]] std::vector<cell<Kind>> scan_inclusive(position lo, position hi) const
     {
-        return column<cell<Kind>>(inner::by<Kind>::inclusive, lo, hi);
+        return column<cell<Kind>>(inner::number(Kind), true, lo, hi);
     }
     /** The same, each without the element at its place. O(length). */
     template <livevec::kind Kind> [[nodiscard]] std::vector<cell<Kind>> scan_exclusive(position lo, position hi) const
     {
-        return column<cell<Kind>>(inner::by<Kind>::exclusive, lo, hi);
+        return column<cell<Kind>>(inner::number(Kind), false, lo, hi);
     }
     /** The same as scan_inclusive into the front of a column of the caller's, and how many they are. O(length). */
     template <livevec::kind Kind> std::uint32_t scan_inclusive_into(position lo, position hi, view<cell<Kind>> column) const
     {
-        return inner::checked(inner::by<Kind>::inclusive(slot(), lo, hi, column.data(), column.size()), lo, hi).length;
+        return inner::checked(livevec_scan(slot(), inner::number(Kind), true, lo, hi, column.data(), column.size()), lo, hi).length;
     }
     /** The same as scan_exclusive into the front of a column of the caller's, and how many they are. O(length). */
     template <livevec::kind Kind> std::uint32_t scan_exclusive_into(position lo, position hi, view<cell<Kind>> column) const
     {
-        return inner::checked(inner::by<Kind>::exclusive(slot(), lo, hi, column.data(), column.size()), lo, hi).length;
+        return inner::checked(livevec_scan(slot(), inner::number(Kind), false, lo, hi, column.data(), column.size()), lo, hi).length;
     }
 
   private:
@@ -302,9 +302,9 @@ class vector : public inner::with_jobs, public inner::asked<vector, position> {
     struct unmade {};
     vector(unmade, limits most, std::optional<livevec::kind> only) : limits_(most), only_(only) {}
 
-    livevec_found found_by(inner::sought what, position lo, position hi, std::int64_t x) const
+    livevec_found found_by(livevec_wanted what, position lo, position hi, std::int64_t x) const
     {
-        return inner::checked(inner::find(slot(), what, lo, hi, x), lo, hi);
+        return inner::checked(livevec_find(slot(), what, lo, hi, x), lo, hi);
     }
     std::vector<livevec_values> values_of(livevec::kind kind, range_view ranges) const
     {
@@ -313,11 +313,11 @@ class vector : public inner::with_jobs, public inner::asked<vector, position> {
         return values;
     }
 
-    /* A column of its own, that a call of C fills. */
-    template <class Cell, class Call> std::vector<Cell> column(Call call, position lo, position hi) const
+    /* A column of its own, that a scan fills by a kind or by all six. */
+    template <class Cell> std::vector<Cell> column(std::uint32_t kind, bool inclusive, position lo, position hi) const
     {
         std::vector<Cell> cells(lo < hi && hi <= size() ? hi - lo : 0);
-        inner::checked(call(slot(), lo, hi, cells.data(), cells.size()), lo, hi);
+        inner::checked(livevec_scan(slot(), kind, inclusive, lo, hi, cells.data(), cells.size()), lo, hi);
         return cells;
     }
 

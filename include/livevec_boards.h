@@ -75,8 +75,8 @@ LIVEVEC_MUST_USE uint32_t livevec_closed_read(livevec_board *board, int64_t *buf
 /**@{*/
 /** Frees a board, closed or not; frees a seat. The slot is then empty. Board and seats may be freed in any order: a seat whose board was freed stays
  * good. A seat that is freed is not back, and never will be: its board can't be closed any more, but freed. Cost: O(n). Refusals: NULL, NO_HANDLE. */
-uint32_t livevec_free_board(livevec_board *board);
-uint32_t livevec_free_seat(livevec_seat *seat);
+LIVEVEC_INLINE uint32_t livevec_free_board(livevec_board *board) { return livevec_free_slot(board, LIVEVEC_BOARD); }
+LIVEVEC_INLINE uint32_t livevec_free_seat(livevec_seat *seat) { return livevec_free_slot(seat, LIVEVEC_SEAT); }
 /**@}*/
 
 #endif

@@ -180,45 +180,45 @@ class by_index : public owned<Slot, Free>, public asked<Self, position_long> {
     /** The values of each prefix of a range by all six kinds, with its last element. O(length). */
     [[nodiscard]] std::vector<livevec_values> scan_inclusive(position_long lo, position_long hi) const
     {
-        return scanned<livevec_values>(livevec_series_scan_inclusive, lo, hi);
+        return scanned<livevec_values>(LIVEVEC_ALL_SIX, true, lo, hi);
     }
     /** The same without its last element. O(length). */
     [[nodiscard]] std::vector<livevec_values> scan_exclusive(position_long lo, position_long hi) const
     {
-        return scanned<livevec_values>(livevec_series_scan_exclusive, lo, hi);
+        return scanned<livevec_values>(LIVEVEC_ALL_SIX, false, lo, hi);
     }
     /** A piece of scan_inclusive: the prefixes that end at `at` and behind it, as many as a buffer takes, and how many they are. `at` starts at `lo`, and
      * goes on by what was told. O(length), and O(at - lo) more for each kind without a tree: `ask` or `prepare` first if there are many pieces. */
     std::size_t scan_inclusive_into(position_long lo, position_long at, position_long hi, view<livevec_values> buffer) const
     {
-        return kept(livevec_series_scan_inclusive(series_slot(), lo, at, hi, buffer.data(), buffer.size()), lo, hi).length;
+        return kept(livevec_series_scan(series_slot(), LIVEVEC_ALL_SIX, true, lo, at, hi, buffer.data(), buffer.size()), lo, hi).length;
     }
     /** The same of scan_exclusive. */
     std::size_t scan_exclusive_into(position_long lo, position_long at, position_long hi, view<livevec_values> buffer) const
     {
-        return kept(livevec_series_scan_exclusive(series_slot(), lo, at, hi, buffer.data(), buffer.size()), lo, hi).length;
+        return kept(livevec_series_scan(series_slot(), LIVEVEC_ALL_SIX, false, lo, at, hi, buffer.data(), buffer.size()), lo, hi).length;
     }
 
     /** The running values of a range by one kind, as scan_inclusive<livevec::kind::sum>(0, n), in a column of its own. Of no elements the minimum, the
      * maximum and the best run are 0. O(length). */
     template <kind Kind> [[nodiscard]] std::vector<cell<Kind>> scan_inclusive(position_long lo, position_long hi) const
     {
-        return scanned<cell<Kind>>(series_by<Kind>::inclusive, lo, hi);
+        return scanned<cell<Kind>>(number(Kind), true, lo, hi);
     }
     /** The same, each without the element at its place. O(length). */
     template <kind Kind> [[nodiscard]] std::vector<cell<Kind>> scan_exclusive(position_long lo, position_long hi) const
     {
-        return scanned<cell<Kind>>(series_by<Kind>::exclusive, lo, hi);
+        return scanned<cell<Kind>>(number(Kind), false, lo, hi);
     }
     /** A piece of the former into a column of the caller's, from `at` on, and how many they are. O(length), and O(at - lo) more without a tree. */
     template <kind Kind> std::size_t scan_inclusive_into(position_long lo, position_long at, position_long hi, view<cell<Kind>> column) const
     {
-        return kept(series_by<Kind>::inclusive(series_slot(), lo, at, hi, column.data(), column.size()), lo, hi).length;
+        return kept(livevec_series_scan(series_slot(), number(Kind), true, lo, at, hi, column.data(), column.size()), lo, hi).length;
     }
     /** A piece of the latter. */
     template <kind Kind> std::size_t scan_exclusive_into(position_long lo, position_long at, position_long hi, view<cell<Kind>> column) const
     {
-        return kept(series_by<Kind>::exclusive(series_slot(), lo, at, hi, column.data(), column.size()), lo, hi).length;
+        return kept(livevec_series_scan(series_slot(), number(Kind), false, lo, at, hi, column.data(), column.size()), lo, hi).length;
     }
 
     /** How many bytes `save` gives. O(1). */
@@ -241,9 +241,9 @@ class by_index : public owned<Slot, Free>, public asked<Self, position_long> {
     friend class asked<Self, position_long>;
     template <class Of> friend class shared_form;
 
-    livevec_series_found found_by(sought what, position_long lo, position_long hi, std::int64_t x) const
+    livevec_series_found found_by(livevec_wanted what, position_long lo, position_long hi, std::int64_t x) const
     {
-        return kept(find(series_slot(), what, lo, hi, x), lo, hi);
+        return kept(livevec_series_find(series_slot(), what, lo, hi, x), lo, hi);
     }
     std::vector<livevec_values> values_of(kind of, series_range_view ranges) const
     {
@@ -251,11 +251,11 @@ class by_index : public owned<Slot, Free>, public asked<Self, position_long> {
         each_of_series(livevec_series_value_many(series_slot(), number(of), ranges.data(), values.data(), ranges.size()), ranges);
         return values;
     }
-    template <class Cell, class Call> std::vector<Cell> scanned(Call call, position_long lo, position_long hi) const
+    template <class Cell> std::vector<Cell> scanned(std::uint32_t kind, bool inclusive, position_long lo, position_long hi) const
     {
         kept(livevec_series_read(series_slot(), lo, hi, nullptr, 0), lo, hi);
         std::vector<Cell> cells(hi - lo);
-        kept(call(series_slot(), lo, lo, hi, cells.data(), cells.size()), lo, hi);
+        kept(livevec_series_scan(series_slot(), kind, inclusive, lo, lo, hi, cells.data(), cells.size()), lo, hi);
         return cells;
     }
 };

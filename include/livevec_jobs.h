@@ -31,8 +31,8 @@ uint32_t livevec_forget(livevec_vector *slot);
 /**@{*/
 /** Frees a job that is not run; frees an outcome. The slot is then empty. Of a slot that holds something else, as a vector, each answers NO_HANDLE
  * and frees nothing. Cost: O(1). Refusals: NULL, NO_HANDLE. */
-uint32_t livevec_free_job(livevec_job *job);
-uint32_t livevec_free_outcome(livevec_outcome *outcome);
+LIVEVEC_INLINE uint32_t livevec_free_job(livevec_job *job) { return livevec_free_slot(job, LIVEVEC_JOB); }
+LIVEVEC_INLINE uint32_t livevec_free_outcome(livevec_outcome *outcome) { return livevec_free_slot(outcome, LIVEVEC_OUTCOME); }
 /**@}*/
 
 /** Jobs of many blocks at once, for threads that help with much work. A block is 8 elements side by side; of `size` elements size / 8 are whole, and
@@ -74,6 +74,6 @@ livevec_count livevec_accept_subtree(livevec_vector *slot, livevec_batch *batch)
 
 /** Frees a batch or a subtree, run or not. The slot is then empty. Of a slot that holds something else it answers NO_HANDLE and frees nothing. Cost:
  * O(1) for each block. Refusals: NULL, NO_HANDLE. */
-uint32_t livevec_free_batch(livevec_batch *batch);
+LIVEVEC_INLINE uint32_t livevec_free_batch(livevec_batch *batch) { return livevec_free_slot(batch, LIVEVEC_BATCH); }
 
 #endif

@@ -38,40 +38,6 @@ struct best_run_long {
 
 namespace inner {
 
-/** What a search looks for. */
-enum class sought { least, greatest, best, reaches, reaches_back, first_at_least, first_at_most, last_at_least, last_at_most };
-
-/** A search of a vector, which compares with a number or with nothing. */
-inline livevec_found find(livevec_vector *slot, sought what, position lo, position hi, std::int64_t x)
-{
-    switch (what) {
-    case sought::least: return livevec_where_least(slot, lo, hi);
-    case sought::greatest: return livevec_where_greatest(slot, lo, hi);
-    case sought::best: return livevec_where_best(slot, lo, hi);
-    case sought::reaches: return livevec_where_reaches(slot, lo, hi, x);
-    case sought::reaches_back: return livevec_where_reaches_back(slot, lo, hi, x);
-    case sought::first_at_least: return livevec_where_first_at_least(slot, lo, hi, x);
-    case sought::first_at_most: return livevec_where_first_at_most(slot, lo, hi, x);
-    case sought::last_at_least: return livevec_where_last_at_least(slot, lo, hi, x);
-    default: return livevec_where_last_at_most(slot, lo, hi, x);
-    }
-}
-/** The same of a series. */
-inline livevec_series_found find(livevec_series *slot, sought what, position_long lo, position_long hi, std::int64_t x)
-{
-    switch (what) {
-    case sought::least: return livevec_series_where_least(slot, lo, hi);
-    case sought::greatest: return livevec_series_where_greatest(slot, lo, hi);
-    case sought::best: return livevec_series_where_best(slot, lo, hi);
-    case sought::reaches: return livevec_series_where_reaches(slot, lo, hi, x);
-    case sought::reaches_back: return livevec_series_where_reaches_back(slot, lo, hi, x);
-    case sought::first_at_least: return livevec_series_where_first_at_least(slot, lo, hi, x);
-    case sought::first_at_most: return livevec_series_where_first_at_most(slot, lo, hi, x);
-    case sought::last_at_least: return livevec_series_where_last_at_least(slot, lo, hi, x);
-    default: return livevec_series_where_last_at_most(slot, lo, hi, x);
-    }
-}
-
 /** What goes with an index. */
 template <class Range, class Placed, class Run, class Found> struct answers {
     using range = Range;   /**< what a range of many is */
@@ -137,31 +103,31 @@ class asked {
     }
 
     /** The position of the first minimum of a range. O(log n). */
-    [[nodiscard]] auto where_least(Index lo, Index hi) const { return element_at(found(sought::least, lo, hi)); }
+    [[nodiscard]] auto where_least(Index lo, Index hi) const { return element_at(found(LIVEVEC_WHERE_LEAST, lo, hi)); }
     /** The position of the first maximum of a range. O(log n). */
-    [[nodiscard]] auto where_greatest(Index lo, Index hi) const { return element_at(found(sought::greatest, lo, hi)); }
+    [[nodiscard]] auto where_greatest(Index lo, Index hi) const { return element_at(found(LIVEVEC_WHERE_GREATEST, lo, hi)); }
     /** The position of the best run: of several the one that ends first, and of those the shortest. O(log n). */
     [[nodiscard]] auto where_best(Index lo, Index hi) const
     {
-        const auto told = found(sought::best, lo, hi);
+        const auto told = found(LIVEVEC_WHERE_BEST, lo, hi);
         return told.found ? std::optional<best_of>(best_of{told.lo, told.hi, joined(told.sum_high, told.sum_low)}) : std::nullopt;
     }
     /** The least end, from lo to hi, such that the elements from lo up to it add up to `sum` or more. No sum wraps. O(log n). */
     [[nodiscard]] std::optional<size_type> where_reaches(Index lo, Index hi, element sum) const
     {
-        const auto told = found(sought::reaches, lo, hi, sum);
+        const auto told = found(LIVEVEC_WHERE_REACHES, lo, hi, sum);
         return told.found ? std::optional<size_type>(told.hi) : std::nullopt;
     }
     /** The greatest start, from hi down to lo, such that the elements from it up to hi add up to `sum` or more. O(log n). */
-    [[nodiscard]] std::optional<size_type> where_reaches_back(Index lo, Index hi, element sum) const { return start(sought::reaches_back, lo, hi, sum); }
+    [[nodiscard]] std::optional<size_type> where_reaches_back(Index lo, Index hi, element sum) const { return start(LIVEVEC_WHERE_REACHES_BACK, lo, hi, sum); }
     /** The index of the first element of a range that is at least a bound. O(log n). */
-    [[nodiscard]] std::optional<size_type> where_first_at_least(Index lo, Index hi, element bound) const { return start(sought::first_at_least, lo, hi, bound); }
+    [[nodiscard]] std::optional<size_type> where_first_at_least(Index lo, Index hi, element bound) const { return start(LIVEVEC_WHERE_FIRST_AT_LEAST, lo, hi, bound); }
     /** The index of the first element that is at most a bound. O(log n). */
-    [[nodiscard]] std::optional<size_type> where_first_at_most(Index lo, Index hi, element bound) const { return start(sought::first_at_most, lo, hi, bound); }
+    [[nodiscard]] std::optional<size_type> where_first_at_most(Index lo, Index hi, element bound) const { return start(LIVEVEC_WHERE_FIRST_AT_MOST, lo, hi, bound); }
     /** The index of the last element that is at least a bound. O(log n). */
-    [[nodiscard]] std::optional<size_type> where_last_at_least(Index lo, Index hi, element bound) const { return start(sought::last_at_least, lo, hi, bound); }
+    [[nodiscard]] std::optional<size_type> where_last_at_least(Index lo, Index hi, element bound) const { return start(LIVEVEC_WHERE_LAST_AT_LEAST, lo, hi, bound); }
     /** The index of the last element that is at most a bound. O(log n). */
-    [[nodiscard]] std::optional<size_type> where_last_at_most(Index lo, Index hi, element bound) const { return start(sought::last_at_most, lo, hi, bound); }
+    [[nodiscard]] std::optional<size_type> where_last_at_most(Index lo, Index hi, element bound) const { return start(LIVEVEC_WHERE_LAST_AT_MOST, lo, hi, bound); }
 
   private:
     using placed_at = typename by_position<Index>::placed;
@@ -171,12 +137,12 @@ class asked {
     Self &self() noexcept { return static_cast<Self &>(*this); }
     const Self &self() const noexcept { return static_cast<const Self &>(*this); }
     livevec_values values(kind of, Index lo, Index hi) const { return self().value(of, lo, hi).values; }
-    answer_to found(sought what, Index lo, Index hi, std::int64_t x = 0) const { return self().found_by(what, lo, hi, x); }
+    answer_to found(livevec_wanted what, Index lo, Index hi, std::int64_t x = 0) const { return self().found_by(what, lo, hi, x); }
     static std::optional<placed_at> element_at(const answer_to &told)
     {
         return told.found ? std::optional<placed_at>(placed_at{told.lo, told.value}) : std::nullopt;
     }
-    std::optional<size_type> start(sought what, Index lo, Index hi, std::int64_t x) const
+    std::optional<size_type> start(livevec_wanted what, Index lo, Index hi, std::int64_t x) const
     {
         const answer_to told = found(what, lo, hi, x);
         return told.found ? std::optional<size_type>(told.lo) : std::nullopt;

@@ -58,6 +58,6 @@ LIVEVEC_MUST_USE livevec_noted livevec_notes(livevec_queries *slot, livevec_vect
 LIVEVEC_MUST_USE livevec_series_noted livevec_series_notes(livevec_queries *slot, livevec_series *series, livevec_note *notes, size_t room);
 
 /** Frees a set, and empties its slot. Cost: O(q). Refusals: NULL, NO_HANDLE. */
-uint32_t livevec_free_queries(livevec_queries *slot);
+LIVEVEC_INLINE uint32_t livevec_free_queries(livevec_queries *slot) { return livevec_free_slot(slot, LIVEVEC_QUERIES); }
 
 #endif

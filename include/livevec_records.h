@@ -51,6 +51,42 @@ typedef struct livevec_queries {
     unsigned char busy_;    /**< the library's own */
 } livevec_queries;
 
+/** What a slot holds, for livevec_free_slot. */
+typedef enum livevec_sort {
+    LIVEVEC_VECTOR = 0,  /**< a vector, in a livevec_vector */
+    LIVEVEC_JOB = 1,     /**< a job, in a livevec_job */
+    LIVEVEC_OUTCOME = 2, /**< an outcome, in a livevec_outcome */
+    LIVEVEC_BATCH = 3,   /**< jobs of blocks or of a subtree, or what they gave, in a livevec_batch */
+    LIVEVEC_BOARD = 4,   /**< a board, closed or not, in a livevec_board */
+    LIVEVEC_SEAT = 5,    /**< a seat, in a livevec_seat */
+    LIVEVEC_SERIES = 6,  /**< a series in a livevec_series, or samples in a livevec_samples; also while they are loaded */
+    LIVEVEC_QUERIES = 7  /**< standing queries, in a livevec_queries */
+} livevec_sort;
+
+/** What an edit is. */
+typedef enum livevec_edit_kind {
+    LIVEVEC_PUSH = 1,     /**< an element at the end */
+    LIVEVEC_POP = 2,      /**< the last element dropped */
+    LIVEVEC_WRITE = 3,    /**< an element overwritten */
+    LIVEVEC_RESERVE = 4,  /**< room made: of a vector only */
+    LIVEVEC_SWAP = 5,     /**< two elements exchanged */
+    LIVEVEC_TRUNCATE = 6, /**< all behind the first ones dropped */
+    LIVEVEC_EXPIRE = 7    /**< all before an index dropped: of a series only */
+} livevec_edit_kind;
+
+/** What a search looks for in a range. Those that compare do so with a number `x` of the caller's. */
+typedef enum livevec_wanted {
+    LIVEVEC_WHERE_LEAST = 0,          /**< the first of the least elements */
+    LIVEVEC_WHERE_GREATEST = 1,       /**< the first of the greatest elements */
+    LIVEVEC_WHERE_BEST = 2,           /**< the best run */
+    LIVEVEC_WHERE_REACHES = 3,        /**< the least end up to which the elements add up to `x` or more */
+    LIVEVEC_WHERE_REACHES_BACK = 4,   /**< the greatest start from which on they do */
+    LIVEVEC_WHERE_FIRST_AT_LEAST = 5, /**< the first element that is `x` or more */
+    LIVEVEC_WHERE_FIRST_AT_MOST = 6,  /**< the first element that is `x` or less */
+    LIVEVEC_WHERE_LAST_AT_LEAST = 7,  /**< the last element that is `x` or more */
+    LIVEVEC_WHERE_LAST_AT_MOST = 8    /**< the last element that is `x` or less */
+} livevec_wanted;
+
 /** An automaton of eight states: from state q, an element x leads to next[q][x mod 4], the remainder never negative. */
 typedef struct livevec_table {
     uint8_t next[8][4]; /**< the state that follows, by state and remainder */
@@ -254,6 +290,9 @@ typedef enum livevec_kind {
     LIVEVEC_AFFINE = 4,    /**< the composition of affine maps modulo 2^32 */
     LIVEVEC_AUTOMATON = 5  /**< the composition of an automaton's transitions */
 } livevec_kind;
+
+/** In place of a ::livevec_kind, where a scan is by all six at once. */
+#define LIVEVEC_ALL_SIX 6
 
 /** How many bytes the name of a standing query has at most, and how many queries a set has. So no call tells more notes than that. */
 #define LIVEVEC_NAME_BYTES 16

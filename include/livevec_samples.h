@@ -42,7 +42,7 @@ LIVEVEC_MUST_USE uint32_t livevec_samples_new(livevec_samples *slot);
 
 /** Frees samples and empties their slot, also while they are loaded; livevec_free_series at `&samples.values` does the same. Of a slot that holds
  * neither samples nor a series it frees nothing. Cost: O(1). Refusals: NULL, NO_HANDLE. */
-uint32_t livevec_free_samples(livevec_samples *slot);
+LIVEVEC_INLINE uint32_t livevec_free_samples(livevec_samples *slot) { return livevec_free_slot(slot, LIVEVEC_SERIES); }
 
 /** Puts a sample at the end. `place` is its index. O(1) amortised, and O(1) joins for each kind that has a tree. Of EARLIER, `value` is the time of
  * the last sample. Cost: O(1) amortised, for each tree too. Refusals: NULL, NO_HANDLE, WORN, FULL, EARLIER, NO_MEMORY. */

@@ -95,11 +95,17 @@ LIVEVEC_MUST_USE uint32_t livevec_series_new(livevec_series *slot);
 
 /** Frees a series and empties its slot, also while it is loaded; and samples, at `&samples.values`. Of a slot that holds something else it frees
  * nothing. Cost: O(1). Refusals: NULL, NO_HANDLE. */
-uint32_t livevec_free_series(livevec_series *slot);
+LIVEVEC_INLINE uint32_t livevec_free_series(livevec_series *slot) { return livevec_free_slot(slot, LIVEVEC_SERIES); }
+
+/** Makes an edit: which, a ::livevec_edit_kind says. `index`, `second` and `value` are what it has of these, as the functions of the edits' own
+ * names, below, take them; what it doesn't have is not looked at. Cost and refusals: those of that function; NO_HANDLE also for a number that is no
+ * edit of a series. */
+LIVEVEC_MUST_USE livevec_series_edited livevec_series_make_edit(livevec_series *slot, uint32_t edit, uint64_t index, uint64_t second, int64_t value);
 
 /** Puts an element at the end. `place` is its index. O(1) amortised. Cost: O(1) amortised, for each tree too. Refusals: NULL, NO_HANDLE, WORN, FULL,
  * NO_MEMORY. */
-LIVEVEC_MUST_USE livevec_series_edited livevec_series_push(livevec_series *slot, int64_t value);
+LIVEVEC_NAMED livevec_series_edited livevec_series_push(livevec_series *slot, int64_t value)
+{ return livevec_series_make_edit(slot, LIVEVEC_PUSH, 0, 0, value); }
 
 /** Pushes elements in order, all of them or none. A null pointer with length 0 is an empty array. Refused as the first push that would be refused,
  * with WORN or FULL, else with NO_MEMORY: nothing has changed then. Cost: O(length) amortised, for each tree too. Refusals: NULL, NO_HANDLE, WORN,
@@ -107,11 +113,12 @@ LIVEVEC_MUST_USE livevec_series_edited livevec_series_push(livevec_series *slot,
 LIVEVEC_MUST_USE livevec_series_pushed livevec_series_push_many(livevec_series *slot, const int64_t *values, size_t length);
 
 /** Drops the last element. `value` is that element. Takes no memory. Cost: O(1) for each tree. Refusals: NULL, NO_HANDLE, WORN, EMPTY. */
-LIVEVEC_MUST_USE livevec_series_edited livevec_series_pop(livevec_series *slot);
+LIVEVEC_NAMED livevec_series_edited livevec_series_pop(livevec_series *slot) { return livevec_series_make_edit(slot, LIVEVEC_POP, 0, 0, 0); }
 
 /** Overwrites the element under an index. `value` is the element before. Takes no memory. Cost: O(log n) for each tree. Refusals: NULL, NO_HANDLE,
  * WORN, OUT_OF_RANGE. */
-LIVEVEC_MUST_USE livevec_series_edited livevec_series_write(livevec_series *slot, uint64_t index, int64_t value);
+LIVEVEC_NAMED livevec_series_edited livevec_series_write(livevec_series *slot, uint64_t index, int64_t value)
+{ return livevec_series_make_edit(slot, LIVEVEC_WRITE, index, 0, value); }
 
 /** Overwrites the element under each of `length` indices, in order, by the value at the same place: `values` has so many too. An index may come
  * twice: the later value stays. Each is an edit of its own. All are made, or none: all indices are looked at before the first write, and whether so
@@ -122,16 +129,19 @@ LIVEVEC_MUST_USE livevec_series_many livevec_series_write_many(livevec_series *s
 
 /** Exchanges the elements under two indices, which may be one. `value` is the element at the first index now. Takes no memory. Cost: O(log n) for
  * each tree. Refusals: NULL, NO_HANDLE, WORN, OUT_OF_RANGE. */
-LIVEVEC_MUST_USE livevec_series_edited livevec_series_swap(livevec_series *slot, uint64_t first, uint64_t second);
+LIVEVEC_NAMED livevec_series_edited livevec_series_swap(livevec_series *slot, uint64_t first, uint64_t second)
+{ return livevec_series_make_edit(slot, LIVEVEC_SWAP, first, second, 0); }
 
 /** Drops the elements from an index on, which is `size` then. `place` is how many were dropped. Takes no memory. Cost: O(1) for each tree. Refusals:
  * NULL, NO_HANDLE, WORN, OUT_OF_RANGE. */
-LIVEVEC_MUST_USE livevec_series_edited livevec_series_truncate(livevec_series *slot, uint64_t size);
+LIVEVEC_NAMED livevec_series_edited livevec_series_truncate(livevec_series *slot, uint64_t size)
+{ return livevec_series_make_edit(slot, LIVEVEC_TRUNCATE, size, 0, 0); }
 
 /** Drops the elements before an index, which is `first` then; the others keep their indices. `place` is how many were dropped. O(1) amortised. Gives
  * memory back: there is some for at most twice the elements that are kept, and 64, then, and the trees are made anew over these. It is never
  * refused for memory: a tree for which there is none stays as it is. Cost: O(1) amortised. Refusals: NULL, NO_HANDLE, WORN, OUT_OF_RANGE. */
-LIVEVEC_MUST_USE livevec_series_edited livevec_series_expire(livevec_series *slot, uint64_t index);
+LIVEVEC_NAMED livevec_series_edited livevec_series_expire(livevec_series *slot, uint64_t index)
+{ return livevec_series_make_edit(slot, LIVEVEC_EXPIRE, index, 0, 0); }
 
 /** The element under an index. Reads. Cost: O(1). Refusals: NULL, NO_HANDLE, OUT_OF_RANGE. */
 LIVEVEC_MUST_USE livevec_series_element livevec_series_get(livevec_series *slot, uint64_t index);
@@ -171,6 +181,13 @@ LIVEVEC_MUST_USE livevec_series_view livevec_series_lend(livevec_series *slot, u
  * NO_HANDLE. */
 uint32_t livevec_series_give_back(livevec_series *slot);
 
+/** The running values of a range from the index `at` on, by one ::livevec_kind or by LIVEVEC_ALL_SIX, into a column of the caller's, as many cells as
+ * it takes; cells are those of livevec_scan. The functions of the scans' own names, here and in livevec_series_kinds.h, take a column of their cells
+ * alone, and say what it has then. Reads. Cost: O(length), and O(at - lo) more for each kind without a tree. Refusals: NULL, BAD_KIND, NO_HANDLE,
+ * BAD_RANGE and OUT_OF_RANGE (of `lo` to `at`, then of `at` to `hi`). */
+LIVEVEC_MUST_USE livevec_series_scanned livevec_series_scan(livevec_series *slot, uint32_t kind, bool inclusive, uint64_t lo, uint64_t at,
+                                                            uint64_t hi, void *column, size_t length);
+
 /**@{*/
 /** The running values of a range by all six kinds, from the index `at` on, as many as a buffer of `length` takes: buffer[i] has those of the
  * elements from `lo` up to `at` + i, that one included, or excluded. The first piece has `at` = `lo`, the next one `at` and as many as were put; an
@@ -178,10 +195,12 @@ uint32_t livevec_series_give_back(livevec_series *slot);
  * it, and one step for each value: where there are many pieces, have the trees made by a livevec_series_ask. Takes no memory, changes nothing.
  * If it was refused the buffer is as it was. Reads. Cost: O(length), and O(at - lo) more for each kind without a tree. Refusals: NULL,
  * NO_HANDLE, BAD_RANGE and OUT_OF_RANGE (of `lo` to `at`, then of `at` to `hi`). */
-LIVEVEC_MUST_USE livevec_series_scanned livevec_series_scan_inclusive(livevec_series *slot, uint64_t lo, uint64_t at, uint64_t hi,
-                                                                      livevec_values *buffer, size_t length);
-LIVEVEC_MUST_USE livevec_series_scanned livevec_series_scan_exclusive(livevec_series *slot, uint64_t lo, uint64_t at, uint64_t hi,
-                                                                      livevec_values *buffer, size_t length);
+LIVEVEC_NAMED livevec_series_scanned livevec_series_scan_inclusive(livevec_series *slot, uint64_t lo, uint64_t at, uint64_t hi,
+                                                                  livevec_values *buffer, size_t length)
+{ return livevec_series_scan(slot, LIVEVEC_ALL_SIX, true, lo, at, hi, buffer, length); }
+LIVEVEC_NAMED livevec_series_scanned livevec_series_scan_exclusive(livevec_series *slot, uint64_t lo, uint64_t at, uint64_t hi,
+                                                                  livevec_values *buffer, size_t length)
+{ return livevec_series_scan(slot, LIVEVEC_ALL_SIX, false, lo, at, hi, buffer, length); }
 /**@}*/
 
 #endif

@@ -59,35 +59,6 @@ template <class Asked> std::uint64_t each_of_series(const livevec_series_many &m
     return many.edit;
 }
 
-/** A call of C that writes a piece of a column. */
-template <class Cell>
-using scanning_series = livevec_series_scanned (*)(livevec_series *, std::uint64_t, std::uint64_t, std::uint64_t, Cell *, std::size_t);
-
-/** The two calls of C that write columns of a kind. */
-template <kind Kind, scanning_series<typename by<Kind>::twin> Inclusive, scanning_series<typename by<Kind>::twin> Exclusive> struct series_scans {
-    using twin = typename by<Kind>::twin; /**< C's cell */
-    /** Each prefix with its last element. */
-    static livevec_series_scanned inclusive(livevec_series *slot, std::uint64_t lo, std::uint64_t at, std::uint64_t hi, cell<Kind> *column, std::size_t length)
-    {
-        return Inclusive(slot, lo, at, hi, reinterpret_cast<twin *>(column), length);
-    }
-    /** Each prefix without it. */
-    static livevec_series_scanned exclusive(livevec_series *slot, std::uint64_t lo, std::uint64_t at, std::uint64_t hi, cell<Kind> *column, std::size_t length)
-    {
-        return Exclusive(slot, lo, at, hi, reinterpret_cast<twin *>(column), length);
-    }
-};
-/** What a kind has. */
-template <kind Kind> struct series_by;
-template <> struct series_by<kind::sum> : series_scans<kind::sum, livevec_series_scan_inclusive_sum, livevec_series_scan_exclusive_sum> {};
-template <> struct series_by<kind::least> : series_scans<kind::least, livevec_series_scan_inclusive_least, livevec_series_scan_exclusive_least> {};
-template <>
-struct series_by<kind::greatest> : series_scans<kind::greatest, livevec_series_scan_inclusive_greatest, livevec_series_scan_exclusive_greatest> {};
-template <> struct series_by<kind::best> : series_scans<kind::best, livevec_series_scan_inclusive_best, livevec_series_scan_exclusive_best> {};
-template <> struct series_by<kind::affine> : series_scans<kind::affine, livevec_series_scan_inclusive_affine, livevec_series_scan_exclusive_affine> {};
-template <>
-struct series_by<kind::automaton> : series_scans<kind::automaton, livevec_series_scan_inclusive_automaton, livevec_series_scan_exclusive_automaton> {};
-
 } // namespace inner
 
 } // namespace livevec

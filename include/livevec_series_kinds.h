@@ -57,35 +57,49 @@ typedef struct livevec_series_found {
     bool found; /**< whether there is such a thing; if not, all but `edit` is 0 */
 } livevec_series_found;
 
+/** Where something stands in a range: what, a ::livevec_wanted says. `x` is what it is compared with, and isn't looked at if nothing is compared. The
+ * functions of the searches' own names, below, say what each finds. Reads. Cost: as livevec_series_value. Refusals: NULL, BAD_KIND (no
+ * ::livevec_wanted), NO_HANDLE, BAD_RANGE, OUT_OF_RANGE, NO_MEMORY: nothing has changed then. */
+LIVEVEC_MUST_USE livevec_series_found livevec_series_find(livevec_series *slot, uint32_t wanted, uint64_t lo, uint64_t hi, int64_t x);
+
 /**@{*/
 /** Where the first of the least elements of a range stands, and the first of the greatest: from its index up to the next one. There is none of an
  * empty range. O(log n) joins. Each asks the tree of its kind, here of the least or of the greatest, and makes it first, if there is none, as
  * livevec_series_prepare does. Changes no answer. Reads. Cost: as livevec_series_value. Refusals: NULL, NO_HANDLE, BAD_RANGE, OUT_OF_RANGE,
  * NO_MEMORY: nothing has changed then. */
-LIVEVEC_MUST_USE livevec_series_found livevec_series_where_least(livevec_series *slot, uint64_t lo, uint64_t hi);
-LIVEVEC_MUST_USE livevec_series_found livevec_series_where_greatest(livevec_series *slot, uint64_t lo, uint64_t hi);
+LIVEVEC_NAMED livevec_series_found livevec_series_where_least(livevec_series *slot, uint64_t lo, uint64_t hi)
+{ return livevec_series_find(slot, LIVEVEC_WHERE_LEAST, lo, hi, 0); }
+LIVEVEC_NAMED livevec_series_found livevec_series_where_greatest(livevec_series *slot, uint64_t lo, uint64_t hi)
+{ return livevec_series_find(slot, LIVEVEC_WHERE_GREATEST, lo, hi, 0); }
 /**@}*/
 
 /** Where the best run of a range stands: one or more neighbours that add up to the most. Of several it is the one that ends first, and of those the
  * shortest. It asks the kind of best runs, and is refused as livevec_series_where_least is. Reads. Cost: as livevec_series_value. */
-LIVEVEC_MUST_USE livevec_series_found livevec_series_where_best(livevec_series *slot, uint64_t lo, uint64_t hi);
+LIVEVEC_NAMED livevec_series_found livevec_series_where_best(livevec_series *slot, uint64_t lo, uint64_t hi)
+{ return livevec_series_find(slot, LIVEVEC_WHERE_BEST, lo, hi, 0); }
 
 /**@{*/
 /** The least end, from lo to hi, up to which the elements from lo on add up to `sum` or more (lo itself, where `sum` is 0 or less); and the greatest
  * start from which on those up to hi do (hi itself, then). Elements may be negative, and no sum wraps. They ask the kind of best runs, and are
  * refused as livevec_series_where_least is. Reads. Cost: as livevec_series_value. */
-LIVEVEC_MUST_USE livevec_series_found livevec_series_where_reaches(livevec_series *slot, uint64_t lo, uint64_t hi, int64_t sum);
-LIVEVEC_MUST_USE livevec_series_found livevec_series_where_reaches_back(livevec_series *slot, uint64_t lo, uint64_t hi, int64_t sum);
+LIVEVEC_NAMED livevec_series_found livevec_series_where_reaches(livevec_series *slot, uint64_t lo, uint64_t hi, int64_t sum)
+{ return livevec_series_find(slot, LIVEVEC_WHERE_REACHES, lo, hi, sum); }
+LIVEVEC_NAMED livevec_series_found livevec_series_where_reaches_back(livevec_series *slot, uint64_t lo, uint64_t hi, int64_t sum)
+{ return livevec_series_find(slot, LIVEVEC_WHERE_REACHES_BACK, lo, hi, sum); }
 /**@}*/
 
 /**@{*/
 /** Where the first or the last element of a range stands that is at least, or at most, `bound`: from its index up to the next one. `value` isn't
  * told. They ask the kind of the greatest (at least) or of the least (at most), and are refused as livevec_series_where_least is. Reads. Cost: as
  * livevec_series_value. */
-LIVEVEC_MUST_USE livevec_series_found livevec_series_where_first_at_least(livevec_series *slot, uint64_t lo, uint64_t hi, int64_t bound);
-LIVEVEC_MUST_USE livevec_series_found livevec_series_where_first_at_most(livevec_series *slot, uint64_t lo, uint64_t hi, int64_t bound);
-LIVEVEC_MUST_USE livevec_series_found livevec_series_where_last_at_least(livevec_series *slot, uint64_t lo, uint64_t hi, int64_t bound);
-LIVEVEC_MUST_USE livevec_series_found livevec_series_where_last_at_most(livevec_series *slot, uint64_t lo, uint64_t hi, int64_t bound);
+LIVEVEC_NAMED livevec_series_found livevec_series_where_first_at_least(livevec_series *slot, uint64_t lo, uint64_t hi, int64_t bound)
+{ return livevec_series_find(slot, LIVEVEC_WHERE_FIRST_AT_LEAST, lo, hi, bound); }
+LIVEVEC_NAMED livevec_series_found livevec_series_where_first_at_most(livevec_series *slot, uint64_t lo, uint64_t hi, int64_t bound)
+{ return livevec_series_find(slot, LIVEVEC_WHERE_FIRST_AT_MOST, lo, hi, bound); }
+LIVEVEC_NAMED livevec_series_found livevec_series_where_last_at_least(livevec_series *slot, uint64_t lo, uint64_t hi, int64_t bound)
+{ return livevec_series_find(slot, LIVEVEC_WHERE_LAST_AT_LEAST, lo, hi, bound); }
+LIVEVEC_NAMED livevec_series_found livevec_series_where_last_at_most(livevec_series *slot, uint64_t lo, uint64_t hi, int64_t bound)
+{ return livevec_series_find(slot, LIVEVEC_WHERE_LAST_AT_MOST, lo, hi, bound); }
 /**@}*/
 
 /**@{*/
@@ -96,30 +110,42 @@ LIVEVEC_MUST_USE livevec_series_found livevec_series_where_last_at_most(livevec_
  * those elements where the kind has no tree, and one step for each cell: where there are many pieces, make the tree by livevec_series_prepare.
  * Takes no memory, changes nothing. If it was refused the column is as it was. Reads. Cost: O(length), and O(at - lo) more without a tree.
  * Refusals: NULL, NO_HANDLE, BAD_RANGE and OUT_OF_RANGE (of `lo` to `at`, then of `at` to `hi`). */
-LIVEVEC_MUST_USE livevec_series_scanned livevec_series_scan_inclusive_sum(livevec_series *slot, uint64_t lo, uint64_t at,
-                                                                          uint64_t hi, uint64_t *column, size_t length);
-LIVEVEC_MUST_USE livevec_series_scanned livevec_series_scan_inclusive_least(livevec_series *slot, uint64_t lo, uint64_t at,
-                                                                            uint64_t hi, int64_t *column, size_t length);
-LIVEVEC_MUST_USE livevec_series_scanned livevec_series_scan_inclusive_greatest(livevec_series *slot, uint64_t lo, uint64_t at,
-                                                                               uint64_t hi, int64_t *column, size_t length);
-LIVEVEC_MUST_USE livevec_series_scanned livevec_series_scan_inclusive_best(livevec_series *slot, uint64_t lo, uint64_t at,
-                                                                           uint64_t hi, livevec_total *column, size_t length);
-LIVEVEC_MUST_USE livevec_series_scanned livevec_series_scan_inclusive_affine(livevec_series *slot, uint64_t lo, uint64_t at,
-                                                                             uint64_t hi, livevec_map *column, size_t length);
-LIVEVEC_MUST_USE livevec_series_scanned livevec_series_scan_inclusive_automaton(livevec_series *slot, uint64_t lo, uint64_t at,
-                                                                                uint64_t hi, livevec_states *column, size_t length);
-LIVEVEC_MUST_USE livevec_series_scanned livevec_series_scan_exclusive_sum(livevec_series *slot, uint64_t lo, uint64_t at,
-                                                                          uint64_t hi, uint64_t *column, size_t length);
-LIVEVEC_MUST_USE livevec_series_scanned livevec_series_scan_exclusive_least(livevec_series *slot, uint64_t lo, uint64_t at,
-                                                                            uint64_t hi, int64_t *column, size_t length);
-LIVEVEC_MUST_USE livevec_series_scanned livevec_series_scan_exclusive_greatest(livevec_series *slot, uint64_t lo, uint64_t at,
-                                                                               uint64_t hi, int64_t *column, size_t length);
-LIVEVEC_MUST_USE livevec_series_scanned livevec_series_scan_exclusive_best(livevec_series *slot, uint64_t lo, uint64_t at,
-                                                                           uint64_t hi, livevec_total *column, size_t length);
-LIVEVEC_MUST_USE livevec_series_scanned livevec_series_scan_exclusive_affine(livevec_series *slot, uint64_t lo, uint64_t at,
-                                                                             uint64_t hi, livevec_map *column, size_t length);
-LIVEVEC_MUST_USE livevec_series_scanned livevec_series_scan_exclusive_automaton(livevec_series *slot, uint64_t lo, uint64_t at,
-                                                                                uint64_t hi, livevec_states *column, size_t length);
+LIVEVEC_NAMED livevec_series_scanned livevec_series_scan_inclusive_sum(livevec_series *slot, uint64_t lo, uint64_t at, uint64_t hi,
+                                                                       uint64_t *column, size_t length)
+{ return livevec_series_scan(slot, LIVEVEC_SUM, true, lo, at, hi, column, length); }
+LIVEVEC_NAMED livevec_series_scanned livevec_series_scan_inclusive_least(livevec_series *slot, uint64_t lo, uint64_t at, uint64_t hi,
+                                                                         int64_t *column, size_t length)
+{ return livevec_series_scan(slot, LIVEVEC_LEAST, true, lo, at, hi, column, length); }
+LIVEVEC_NAMED livevec_series_scanned livevec_series_scan_inclusive_greatest(livevec_series *slot, uint64_t lo, uint64_t at, uint64_t hi,
+                                                                            int64_t *column, size_t length)
+{ return livevec_series_scan(slot, LIVEVEC_GREATEST, true, lo, at, hi, column, length); }
+LIVEVEC_NAMED livevec_series_scanned livevec_series_scan_inclusive_best(livevec_series *slot, uint64_t lo, uint64_t at, uint64_t hi,
+                                                                        livevec_total *column, size_t length)
+{ return livevec_series_scan(slot, LIVEVEC_BEST, true, lo, at, hi, column, length); }
+LIVEVEC_NAMED livevec_series_scanned livevec_series_scan_inclusive_affine(livevec_series *slot, uint64_t lo, uint64_t at, uint64_t hi,
+                                                                          livevec_map *column, size_t length)
+{ return livevec_series_scan(slot, LIVEVEC_AFFINE, true, lo, at, hi, column, length); }
+LIVEVEC_NAMED livevec_series_scanned livevec_series_scan_inclusive_automaton(livevec_series *slot, uint64_t lo, uint64_t at, uint64_t hi,
+                                                                             livevec_states *column, size_t length)
+{ return livevec_series_scan(slot, LIVEVEC_AUTOMATON, true, lo, at, hi, column, length); }
+LIVEVEC_NAMED livevec_series_scanned livevec_series_scan_exclusive_sum(livevec_series *slot, uint64_t lo, uint64_t at, uint64_t hi,
+                                                                       uint64_t *column, size_t length)
+{ return livevec_series_scan(slot, LIVEVEC_SUM, false, lo, at, hi, column, length); }
+LIVEVEC_NAMED livevec_series_scanned livevec_series_scan_exclusive_least(livevec_series *slot, uint64_t lo, uint64_t at, uint64_t hi,
+                                                                         int64_t *column, size_t length)
+{ return livevec_series_scan(slot, LIVEVEC_LEAST, false, lo, at, hi, column, length); }
+LIVEVEC_NAMED livevec_series_scanned livevec_series_scan_exclusive_greatest(livevec_series *slot, uint64_t lo, uint64_t at, uint64_t hi,
+                                                                            int64_t *column, size_t length)
+{ return livevec_series_scan(slot, LIVEVEC_GREATEST, false, lo, at, hi, column, length); }
+LIVEVEC_NAMED livevec_series_scanned livevec_series_scan_exclusive_best(livevec_series *slot, uint64_t lo, uint64_t at, uint64_t hi,
+                                                                        livevec_total *column, size_t length)
+{ return livevec_series_scan(slot, LIVEVEC_BEST, false, lo, at, hi, column, length); }
+LIVEVEC_NAMED livevec_series_scanned livevec_series_scan_exclusive_affine(livevec_series *slot, uint64_t lo, uint64_t at, uint64_t hi,
+                                                                          livevec_map *column, size_t length)
+{ return livevec_series_scan(slot, LIVEVEC_AFFINE, false, lo, at, hi, column, length); }
+LIVEVEC_NAMED livevec_series_scanned livevec_series_scan_exclusive_automaton(livevec_series *slot, uint64_t lo, uint64_t at, uint64_t hi,
+                                                                             livevec_states *column, size_t length)
+{ return livevec_series_scan(slot, LIVEVEC_AUTOMATON, false, lo, at, hi, column, length); }
 /**@}*/
 
 #endif

@@ -273,7 +273,7 @@ class shared_form : public asked<shared<Of>, typename Of::position_type> {
 
   private:
     friend class asked<shared<Of>, position_type>;
-    auto found_by(sought what, position_type lo, position_type hi, std::int64_t x) const { return reads(&Of::found_by, what, lo, hi, x); }
+    auto found_by(livevec_wanted what, position_type lo, position_type hi, std::int64_t x) const { return reads(&Of::found_by, what, lo, hi, x); }
     std::vector<livevec_values> values_of(kind by, view<const typename Of::range_type> ranges) const { return reads(&Of::values_of, by, ranges); }
 
     std::unique_ptr<state> state_;

@@ -6,16 +6,6 @@
 #ifndef LIVEVEC_TRANSCRIPTS_H
 #define LIVEVEC_TRANSCRIPTS_H
 
-/** What an edit was. */
-typedef enum livevec_edit_kind {
-    LIVEVEC_PUSH = 1,      /**< an element at the end */
-    LIVEVEC_POP = 2,       /**< the last element dropped */
-    LIVEVEC_WRITE = 3,     /**< an element overwritten */
-    LIVEVEC_RESERVE = 4,   /**< room made */
-    LIVEVEC_SWAP = 5,      /**< two elements exchanged */
-    LIVEVEC_TRUNCATE = 6   /**< all behind the first ones dropped */
-} livevec_edit_kind;
-
 /** An edit as it was accepted. What it doesn't have is 0. */
 typedef struct livevec_edit {
     uint32_t what;   /**< a livevec_edit_kind */

@@ -22,41 +22,59 @@ LIVEVEC_MUST_USE uint32_t livevec_new_with_table(livevec_vector *slot, uint32_t 
 
 /** Frees a vector and empties its slot. Its jobs and outcomes stay good for nothing but to be freed. Each free is of its own type: of a slot that
  * holds something else, as one that was cast, it answers NO_HANDLE and frees nothing. Cost: O(n). Refusals: NULL, NO_HANDLE. */
-uint32_t livevec_free(livevec_vector *slot);
+LIVEVEC_INLINE uint32_t livevec_free(livevec_vector *slot) { return livevec_free_slot(slot, LIVEVEC_VECTOR); }
+
+/** Makes an edit: which, a ::livevec_edit_kind says. `index`, `second` and `value` are what a ::livevec_edit has of it, and what that doesn't have is
+ * not looked at. The functions of the edits' own names, below, say what each does and answers. Cost and refusals: those of that function;
+ * NO_HANDLE also for a number that is no edit of a vector. */
+LIVEVEC_MUST_USE livevec_edited livevec_make_edit(livevec_vector *slot, uint32_t edit, uint32_t index, uint32_t second, int64_t value);
 
 /** Puts an element at the end. `place` is its index. Cost: O(log n) amortised. Refusals: NULL, NO_HANDLE, WORN, FULL, NO_MEMORY. */
-LIVEVEC_MUST_USE livevec_edited livevec_push(livevec_vector *slot, int64_t value);
+LIVEVEC_NAMED livevec_edited livevec_push(livevec_vector *slot, int64_t value) { return livevec_make_edit(slot, LIVEVEC_PUSH, 0, 0, value); }
 
 /** Drops the last element. `value` is that element. Cost: O(log n). Refusals: NULL, NO_HANDLE, WORN, EMPTY, NO_MEMORY. */
-LIVEVEC_MUST_USE livevec_edited livevec_pop(livevec_vector *slot);
+LIVEVEC_NAMED livevec_edited livevec_pop(livevec_vector *slot) { return livevec_make_edit(slot, LIVEVEC_POP, 0, 0, 0); }
 
 /** Overwrites the element at an index. `value` is the element before. Cost: O(log n) amortised. Refusals: NULL, NO_HANDLE, WORN, OUT_OF_RANGE,
  * NO_MEMORY. */
-LIVEVEC_MUST_USE livevec_edited livevec_write(livevec_vector *slot, uint32_t index, int64_t value);
+LIVEVEC_NAMED livevec_edited livevec_write(livevec_vector *slot, uint32_t index, int64_t value)
+{ return livevec_make_edit(slot, LIVEVEC_WRITE, index, 0, value); }
 
 /** Makes room for so many elements in all. `place` is how many now fit. Cost: O(1), and the memory that is asked for. Refusals: NULL, NO_HANDLE,
  * WORN, TOO_LARGE, NO_MEMORY. */
-LIVEVEC_MUST_USE livevec_edited livevec_reserve(livevec_vector *slot, uint32_t elements);
+LIVEVEC_NAMED livevec_edited livevec_reserve(livevec_vector *slot, uint32_t elements)
+{ return livevec_make_edit(slot, LIVEVEC_RESERVE, elements, 0, 0); }
 
 /** The element at an index. Reads. Cost: O(1). Refusals: NULL, NO_HANDLE, OUT_OF_RANGE. */
 LIVEVEC_MUST_USE livevec_element livevec_get(livevec_vector *slot, uint32_t index);
 
 /** Exchanges the elements at two indices, which may be one. `value` is the element at the first index now. Cost: O(log n) amortised. Refusals: NULL,
  * NO_HANDLE, WORN, OUT_OF_RANGE, NO_MEMORY. */
-LIVEVEC_MUST_USE livevec_edited livevec_swap(livevec_vector *slot, uint32_t first, uint32_t second);
+LIVEVEC_NAMED livevec_edited livevec_swap(livevec_vector *slot, uint32_t first, uint32_t second)
+{ return livevec_make_edit(slot, LIVEVEC_SWAP, first, second, 0); }
 
 /** Keeps so many elements, the first ones, and drops the others. `place` is how many were dropped. Cost: O(log n) amortised. Refusals: NULL,
  * NO_HANDLE, WORN, OUT_OF_RANGE, NO_MEMORY. */
-LIVEVEC_MUST_USE livevec_edited livevec_truncate(livevec_vector *slot, uint32_t elements);
+LIVEVEC_NAMED livevec_edited livevec_truncate(livevec_vector *slot, uint32_t elements)
+{ return livevec_make_edit(slot, LIVEVEC_TRUNCATE, elements, 0, 0); }
+
+/** Why an edit would be refused that livevec_make_edit is told so, out of memory apart; nothing is changed. Reads. Cost: O(1). Refusals: those of the
+ * edit but NO_MEMORY; NO_HANDLE also for a number that is no edit of a vector. */
+LIVEVEC_MUST_USE livevec_verdict livevec_judge_edit(livevec_vector *slot, uint32_t edit, uint32_t index, uint32_t second, int64_t value);
 
 /**@{*/
 /** Why that very edit would be refused, out of memory apart; nothing is changed. Reads. Cost: O(1). Refusals: those of the edit but NO_MEMORY. */
-LIVEVEC_MUST_USE livevec_verdict livevec_verdict_push(livevec_vector *slot, int64_t value);
-LIVEVEC_MUST_USE livevec_verdict livevec_verdict_pop(livevec_vector *slot);
-LIVEVEC_MUST_USE livevec_verdict livevec_verdict_write(livevec_vector *slot, uint32_t index, int64_t value);
-LIVEVEC_MUST_USE livevec_verdict livevec_verdict_reserve(livevec_vector *slot, uint32_t elements);
-LIVEVEC_MUST_USE livevec_verdict livevec_verdict_swap(livevec_vector *slot, uint32_t first, uint32_t second);
-LIVEVEC_MUST_USE livevec_verdict livevec_verdict_truncate(livevec_vector *slot, uint32_t elements);
+LIVEVEC_NAMED livevec_verdict livevec_verdict_push(livevec_vector *slot, int64_t value)
+{ return livevec_judge_edit(slot, LIVEVEC_PUSH, 0, 0, value); }
+LIVEVEC_NAMED livevec_verdict livevec_verdict_pop(livevec_vector *slot) { return livevec_judge_edit(slot, LIVEVEC_POP, 0, 0, 0); }
+LIVEVEC_NAMED livevec_verdict livevec_verdict_write(livevec_vector *slot, uint32_t index, int64_t value)
+{ return livevec_judge_edit(slot, LIVEVEC_WRITE, index, 0, value); }
+LIVEVEC_NAMED livevec_verdict livevec_verdict_reserve(livevec_vector *slot, uint32_t elements)
+{ return livevec_judge_edit(slot, LIVEVEC_RESERVE, elements, 0, 0); }
+LIVEVEC_NAMED livevec_verdict livevec_verdict_swap(livevec_vector *slot, uint32_t first, uint32_t second)
+{ return livevec_judge_edit(slot, LIVEVEC_SWAP, first, second, 0); }
+LIVEVEC_NAMED livevec_verdict livevec_verdict_truncate(livevec_vector *slot, uint32_t elements)
+{ return livevec_judge_edit(slot, LIVEVEC_TRUNCATE, elements, 0, 0); }
 /**@}*/
 
 /** Pushes elements in order: all are pushed, or none. Room for them, and for what may be asked after them, is made before the first. Where one would

@@ -1,5 +1,6 @@
 /* The functions of livevec.h: each answers LIVEVEC_NULL where a pointer is null, and else calls the proved export of its name, or one that is
- * told by a number or a choice what is meant: which edit, kind, count or sort of slot. Where that answers more, the function copies its part.
+ * told by a number or a choice what is meant: which edit, kind, count or sort of slot. Where that answers more, the function copies its part. The
+ * names of single edits, verdicts, searches, scans and frees are defined in the headers, over those that are told a number.
  * Here stand those of vectors, jobs and outcomes; the others in livevec_many.c, livevec_scans.c and the files of exact sums, saved vectors,
  * summaries, queries, boards, series, samples and transcripts. Those of many elements at once are one proved call, but for questions, which walk
  * over their ranges, and pushes of many samples; two of summaries make a proved call for up to 1,024. An exact sum computes with what several
@@ -62,38 +63,24 @@ ENTERED(uint32_t, AS_NUMBER, new_of, (livevec_vector *slot, uint32_t kind, uint3
 ENTERED(uint32_t, AS_NUMBER, new_with_table, (livevec_vector *slot, uint32_t buckets, uint32_t edits, const livevec_table *table),
         THERE(slot && table), slot, enter, new(slot, true, 0, buckets, edits, true, table))
 livevec_edited livevec_proved_edit(livevec_vector *slot, uint32_t what, uint32_t index, uint32_t second, int64_t value);
-EDITED(livevec_edited, push, (livevec_vector *slot, int64_t value), edit(slot, LIVEVEC_PUSH, 0, 0, value))
-EDITED(livevec_edited, write, (livevec_vector *slot, uint32_t index, int64_t value), edit(slot, LIVEVEC_WRITE, index, 0, value))
-EDITED(livevec_edited, pop, (livevec_vector *slot), edit(slot, LIVEVEC_POP, 0, 0, 0))
-EDITED(livevec_edited, reserve, (livevec_vector *slot, uint32_t elements), edit(slot, LIVEVEC_RESERVE, elements, 0, 0))
-EDITED(livevec_edited, swap, (livevec_vector *slot, uint32_t first, uint32_t second), edit(slot, LIVEVEC_SWAP, first, second, 0))
-EDITED(livevec_edited, truncate, (livevec_vector *slot, uint32_t elements), edit(slot, LIVEVEC_TRUNCATE, elements, 0, 0))
-ENTERED(livevec_element, AS_STRUCT, get, (livevec_vector *slot, uint32_t index), THERE(slot), slot, enter_to_read, get(slot, A_VECTOR, index))
-COUNTED(livevec_count, size, livevec_vector, A_VECTOR, ELEMENTS)
-COUNTED(livevec_count, capacity, livevec_vector, A_VECTOR, ROOM)
-COUNTED(livevec_count, edits, livevec_vector, A_VECTOR, ACCEPTED)
+ENTERED(livevec_edited, AS_STRUCT, make_edit, (livevec_vector *slot, uint32_t edit, uint32_t index, uint32_t second, int64_t value), THERE(slot),
+        slot, enter, edit(slot, edit, index, second, value))
+ENTERED(livevec_element, AS_STRUCT, get, (livevec_vector *slot, uint32_t index), THERE(slot), slot, enter_to_read, get(slot, LIVEVEC_VECTOR, index))
+COUNTED(livevec_count, size, livevec_vector, LIVEVEC_VECTOR, ELEMENTS)
+COUNTED(livevec_count, capacity, livevec_vector, LIVEVEC_VECTOR, ROOM)
+COUNTED(livevec_count, edits, livevec_vector, LIVEVEC_VECTOR, ACCEPTED)
 VALUED(livevec_reduced, reduce, (livevec_vector *slot, uint32_t lo, uint32_t hi), value(slot, AS_KEPT, 0, lo, hi))
 VALUED(livevec_reduced, ask, (livevec_vector *slot, uint32_t lo, uint32_t hi), value(slot, BY_TREES, 0, lo, hi))
 VALUED(livevec_reduced, value, (livevec_vector *slot, uint32_t kind, uint32_t lo, uint32_t hi), value(slot, BY_KIND, kind, lo, hi))
 
-/* `livevec_where_NAME` by the number under which the proved export knows what is looked for. */
-#define FOUND_BY(name, wanted) FOUND_IN(livevec_found, where_##name, find, livevec_vector, uint32_t, wanted)
-#define FOUND_BY_BOUND(name, wanted) FOUND_IN_BY(livevec_found, where_##name, find, livevec_vector, uint32_t, wanted)
 livevec_found livevec_proved_find(livevec_vector *slot, uint32_t wanted, int64_t x, uint32_t lo, uint32_t hi);
-
-EACH_SEARCH(FOUND_BY, FOUND_BY_BOUND)
+ENTERED(livevec_found, AS_STRUCT, find, (livevec_vector *slot, uint32_t wanted, uint32_t lo, uint32_t hi, int64_t x), THERE(slot), slot,
+        enter_to_read, find(slot, wanted, x, lo, hi))
 READS(livevec_summarised, summary_of, (livevec_vector *slot, uint32_t lo, uint32_t hi), slot, (slot, lo, hi))
 
-/* `livevec_verdict_NAME`, by a proved export that knows the edit by its livevec_edit_kind. */
-#define JUDGED(name, parameters, call) ENTERED(livevec_verdict, AS_STRUCT, verdict_##name, parameters, THERE(slot), slot, enter_to_read, call)
 livevec_verdict livevec_proved_verdict(livevec_vector *slot, uint32_t what, uint32_t index, uint32_t second, int64_t value);
-
-JUDGED(push, (livevec_vector *slot, int64_t value), verdict(slot, LIVEVEC_PUSH, 0, 0, value))
-JUDGED(pop, (livevec_vector *slot), verdict(slot, LIVEVEC_POP, 0, 0, 0))
-JUDGED(write, (livevec_vector *slot, uint32_t index, int64_t value), verdict(slot, LIVEVEC_WRITE, index, 0, value))
-JUDGED(reserve, (livevec_vector *slot, uint32_t elements), verdict(slot, LIVEVEC_RESERVE, elements, 0, 0))
-JUDGED(swap, (livevec_vector *slot, uint32_t first, uint32_t second), verdict(slot, LIVEVEC_SWAP, first, second, 0))
-JUDGED(truncate, (livevec_vector *slot, uint32_t elements), verdict(slot, LIVEVEC_TRUNCATE, elements, 0, 0))
+ENTERED(livevec_verdict, AS_STRUCT, judge_edit, (livevec_vector *slot, uint32_t edit, uint32_t index, uint32_t second, int64_t value), THERE(slot),
+        slot, enter_to_read, verdict(slot, edit, index, second, value))
 
 ANSWERED(livevec_count, refresh, (livevec_vector *slot, uint32_t jobs), slot, (slot, jobs))
 ANSWERED_AT_TWO(livevec_claimed, claim, (livevec_vector *slot, livevec_job *job), slot, enter, job, enter, (slot, job))
@@ -111,7 +98,4 @@ ANSWERED_AT_TWO(livevec_count, accept_subtree, (livevec_vector *slot, livevec_ba
 TOLD(run_blocks, (livevec_batch *batch), batch, (batch))
 ANSWERED_AT_TWO(livevec_taken, accept_blocks, (livevec_vector *slot, livevec_batch *batch), slot, enter, batch, enter, (slot, batch))
 
-FREED(free, livevec_vector, A_VECTOR)
-FREED(free_job, livevec_job, A_JOB)
-FREED(free_outcome, livevec_outcome, AN_OUTCOME)
-FREED(free_batch, livevec_batch, A_BATCH)
+ENTERED(uint32_t, AS_NUMBER, free_slot, (void *slot, uint32_t sort), THERE(slot), AS_SLOT(slot), enter, free(slot, sort))

@@ -8,10 +8,10 @@ TOLD_AT_TWO(board_take_back, (livevec_board *board, livevec_seat *seat), board, 
 /* A seat's calls are an edit by its livevec_edit_kind, or one of these. */
 enum { LOOK_AT = 4, COUNT = 5, REFRESH = 6 };
 livevec_edited livevec_proved_seat_call(livevec_seat *slot, uint32_t what, uint32_t index, int64_t value, uint32_t tries);
-EDITED(livevec_edited, seat_push, (livevec_seat *slot, int64_t value, uint32_t tries), seat_call(slot, LIVEVEC_PUSH, 0, value, tries))
-EDITED(livevec_edited, seat_pop, (livevec_seat *slot, uint32_t tries), seat_call(slot, LIVEVEC_POP, 0, 0, tries))
-EDITED(livevec_edited, seat_write, (livevec_seat *slot, uint32_t index, int64_t value, uint32_t tries),
-       seat_call(slot, LIVEVEC_WRITE, index, value, tries))
+#define SEAT_EDITED(name, parameters, call) ENTERED(livevec_edited, AS_STRUCT, name, parameters, THERE(slot), slot, enter, call)
+SEAT_EDITED(seat_push, (livevec_seat *slot, int64_t value, uint32_t tries), seat_call(slot, LIVEVEC_PUSH, 0, value, tries))
+SEAT_EDITED(seat_pop, (livevec_seat *slot, uint32_t tries), seat_call(slot, LIVEVEC_POP, 0, 0, tries))
+SEAT_EDITED(seat_write, (livevec_seat *slot, uint32_t index, int64_t value, uint32_t tries), seat_call(slot, LIVEVEC_WRITE, index, value, tries))
 
 static livevec_element as_element(livevec_edited told)
 {
@@ -30,11 +30,9 @@ LOOKS_AT(livevec_count, seat_size, (livevec_seat *slot), THERE(slot), as_count(l
 EDITS(livevec_renewed, seat_refresh, (livevec_seat *slot, uint32_t block), THERE(slot), as_renewed(livevec_proved_seat_call(slot, REFRESH, block, 0, 1)))
 READS(livevec_reduced, seat_reduce, (livevec_seat *seat, uint32_t lo, uint32_t hi), seat, (seat, lo, hi))
 ANSWERED(livevec_count, board_close, (livevec_board *board), board, (board))
-COUNTED(livevec_count, closed_size, livevec_board, A_BOARD, ELEMENTS)
-ENTERED(livevec_element, AS_STRUCT, closed_get, (livevec_board *slot, uint32_t index), THERE(slot), slot, enter_to_read, get(slot, A_BOARD, index))
-
-FREED(free_board, livevec_board, A_BOARD)
-FREED(free_seat, livevec_seat, A_SEAT)
+COUNTED(livevec_count, closed_size, livevec_board, LIVEVEC_BOARD, ELEMENTS)
+ENTERED(livevec_element, AS_STRUCT, closed_get, (livevec_board *slot, uint32_t index), THERE(slot), slot, enter_to_read,
+        get(slot, LIVEVEC_BOARD, index))
 
 /* Each board has a stamp of its own, which its seats have too: so a seat is told from those of other boards. */
 uint32_t livevec_proved_board_new(livevec_board *slot, uint32_t kind, uint32_t buckets, uint32_t edits, uint32_t seats, uint64_t stamp);
@@ -45,15 +43,11 @@ ENTERED(uint32_t, AS_NUMBER, board_new, (livevec_board *slot, uint32_t kind, uin
 
 static uint32_t read_closed(livevec_board *board, int64_t *buffer, size_t room, uint32_t *count)
 {
-    livevec_series_count size = livevec_proved_count(board, A_BOARD, ELEMENTS);
+    livevec_series_count size = livevec_proved_count(board, LIVEVEC_BOARD, ELEMENTS);
     if (size.refusal)
         return size.refusal;
     *count = (uint32_t)size.value;
-    if (room < size.value)
-        return LIVEVEC_SHORT_BUFFER;
-    for (uint32_t i = 0; i < size.value; i++)
-        buffer[i] = livevec_proved_get(board, A_BOARD, i).value;
-    return LIVEVEC_OK;
+    return livevec_proved_read(board, LIVEVEC_BOARD, 0, *count, buffer ? buffer : &(int64_t){0}, room).refusal;
 }
 IN_SLOT(uint32_t, AS_NUMBER, closed_read, (livevec_board *board, int64_t *buffer, size_t room, uint32_t *count),
         first_of(THERE(board && count), ARRAY(buffer, room)), board, enter_to_read, read_closed(board, buffer, room, count))

@@ -17,7 +17,7 @@ static livevec_series_reduced value_of(void *slot, bool is_series, uint32_t kind
 
 static int64_t element_of(void *slot, bool is_series, uint64_t index)
 {
-    return is_series ? livevec_proved_series_get(slot, index, false).value : livevec_proved_get(slot, A_VECTOR, (uint32_t)index).value;
+    return is_series ? livevec_proved_series_get(slot, index, false).value : livevec_proved_get(slot, LIVEVEC_VECTOR, (uint32_t)index).value;
 }
 
 /* The sum of `many` elements, none of which is below `least`: the first number from `many` times that on with these low 64 bits. It is exact where
@@ -55,11 +55,12 @@ static livevec_series_summed add_up(void *slot, bool is_series, uint64_t lo, uin
 
 static livevec_summed add_up_vector(livevec_vector *slot, uint32_t lo, uint32_t hi)
 {
-    livevec_scanned range = judge_range(slot, lo, hi, SIZE_MAX);
+    livevec_scanned range = judge_range(slot, lo, hi);
     if (range.refusal)
         return (livevec_summed){.refusal = range.refusal, .detail = range.detail};
     livevec_series_summed told = add_up(slot, false, lo, hi);
-    return (livevec_summed){.refusal = told.refusal, .edit = range.edit, .sum = told.sum};
+    uint32_t edit = (uint32_t)livevec_proved_count(slot, LIVEVEC_VECTOR, ACCEPTED).value;
+    return (livevec_summed){.refusal = told.refusal, .edit = edit, .sum = told.sum};
 }
 
 LOOKS_AT(livevec_summed, exact_sum, (livevec_vector *slot, uint32_t lo, uint32_t hi), THERE(slot), add_up_vector(slot, lo, hi))

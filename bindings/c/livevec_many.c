@@ -18,12 +18,10 @@ static livevec_many judge_ranges(livevec_vector *slot, uint32_t kind, const live
     livevec_many answer = {.refusal = none.refusal, .edit = none.edit};
     if (answer.refusal)
         return answer;
-    uint32_t size = (uint32_t)livevec_proved_count(slot, A_VECTOR, ELEMENTS).value;
     for (size_t i = 0; i < length; i++) {
-        if (ranges[i].hi < ranges[i].lo)
-            return (livevec_many){.refusal = LIVEVEC_BAD_RANGE, .place = i};
-        if (ranges[i].hi > size)
-            return (livevec_many){.refusal = LIVEVEC_OUT_OF_RANGE, .detail = size, .place = i};
+        livevec_scanned range = judge_range(slot, ranges[i].lo, ranges[i].hi);
+        if (range.refusal)
+            return (livevec_many){.refusal = range.refusal, .detail = range.detail, .place = i};
     }
     answer.done = length;
     return answer;

@@ -12,7 +12,6 @@ ENTERED(uint32_t, AS_NUMBER, watch, (livevec_queries *slot, NAMED, uint32_t kind
 ENTERED(uint32_t, AS_NUMBER, watch_query, (livevec_queries *slot, NAMED, const livevec_query *query), THERE(slot && name && query), slot, enter,
         watch(slot, name, OF_NAME(name_length), query->kind, query->span, query->lo, query->hi, query->bound, query->x))
 AT_ONE(uint32_t, AS_NUMBER, unwatch, (livevec_queries *slot, NAMED), THERE(slot && name), slot, enter, (slot, name, OF_NAME(name_length)))
-FREED(free_queries, livevec_queries, SOME_QUERIES)
 
 /* The proved exports know one type of slot. They are asked of a vector as of a series, in numbers of 64 bits. */
 livevec_series_reduced livevec_proved_answer(livevec_queries *slot, void *target, NAMED);

@@ -3,14 +3,12 @@
 
 /* What samples and a series have in common is done at `values`. The proved exports know one type of slot. */
 livevec_series_edited livevec_proved_samples_edit(livevec_series *slot, bool expires, int64_t time, int64_t value);
-livevec_series_scanned livevec_proved_series_read(livevec_series *slot, bool times, uint64_t lo, uint64_t hi, int64_t *buffer, size_t length);
 livevec_window livevec_proved_samples_window(livevec_series *slot, bool last, int64_t since, int64_t until, uint64_t span);
 
 /* `livevec_NAME` at the values of samples. */
 #define AT_VALUES(answer, as, name, parameters, as_slot, call) ENTERED(answer, as, name, parameters, THERE(slot), &slot->values, as_slot, call)
 
 AT_VALUES(uint32_t, AS_NUMBER, samples_new, (livevec_samples *slot), enter, begin(&slot->values, NEW_SAMPLES))
-AT_VALUES(uint32_t, AS_NUMBER, free_samples, (livevec_samples *slot), enter, free(&slot->values, A_SERIES))
 AT_VALUES(livevec_series_edited, AS_STRUCT, samples_push, (livevec_samples *slot, int64_t time, int64_t value),
           enter, samples_edit(&slot->values, false, time, value))
 AT_VALUES(livevec_series_edited, AS_STRUCT, samples_expire_before, (livevec_samples *slot, int64_t time),

@@ -2,23 +2,16 @@
 #include "livevec_slots.h"
 
 BEGUN(series_new, livevec_series, NEW_SERIES)
-FREED(free_series, livevec_series, A_SERIES)
-/* An expiry is no livevec_edit_kind. */
-enum { EXPIRE = 7 };
 livevec_series_edited livevec_proved_series_edit(livevec_series *slot, uint32_t what, uint64_t index, uint64_t second, int64_t value);
-EDITED(livevec_series_edited, series_push, (livevec_series *slot, int64_t value), series_edit(slot, LIVEVEC_PUSH, 0, 0, value))
-EDITED(livevec_series_edited, series_write, (livevec_series *slot, uint64_t index, int64_t value), series_edit(slot, LIVEVEC_WRITE, index, 0, value))
-EDITED(livevec_series_edited, series_pop, (livevec_series *slot), series_edit(slot, LIVEVEC_POP, 0, 0, 0))
-EDITED(livevec_series_edited, series_swap, (livevec_series *slot, uint64_t first, uint64_t second), series_edit(slot, LIVEVEC_SWAP, first, second, 0))
-EDITED(livevec_series_edited, series_truncate, (livevec_series *slot, uint64_t size), series_edit(slot, LIVEVEC_TRUNCATE, size, 0, 0))
-EDITED(livevec_series_edited, series_expire, (livevec_series *slot, uint64_t index), series_edit(slot, EXPIRE, index, 0, 0))
+ENTERED(livevec_series_edited, AS_STRUCT, series_make_edit, (livevec_series *slot, uint32_t edit, uint64_t index, uint64_t second, int64_t value),
+        THERE(slot), slot, enter, series_edit(slot, edit, index, second, value))
 VALUED(livevec_series_reduced, series_reduce, (livevec_series *slot, uint64_t lo, uint64_t hi), series_value(slot, AS_KEPT, 0, lo, hi))
 VALUED(livevec_series_reduced, series_ask, (livevec_series *slot, uint64_t lo, uint64_t hi), series_value(slot, BY_TREES, 0, lo, hi))
 
-COUNTED(livevec_series_count, series_first, livevec_series, A_SERIES, FIRST_KEPT)
-COUNTED(livevec_series_count, series_size, livevec_series, A_SERIES, BEHIND_LAST)
-COUNTED(livevec_series_count, series_edits, livevec_series, A_SERIES, SERIES_ACCEPTED)
-COUNTED(livevec_series_count, series_saved_length, livevec_series, A_SERIES, SAVED_BYTES)
+COUNTED(livevec_series_count, series_first, livevec_series, LIVEVEC_SERIES, FIRST_KEPT)
+COUNTED(livevec_series_count, series_size, livevec_series, LIVEVEC_SERIES, BEHIND_LAST)
+COUNTED(livevec_series_count, series_edits, livevec_series, LIVEVEC_SERIES, SERIES_ACCEPTED)
+COUNTED(livevec_series_count, series_saved_length, livevec_series, LIVEVEC_SERIES, SAVED_BYTES)
 
 static livevec_series_element without_time(livevec_sample told)
 {
@@ -26,9 +19,6 @@ static livevec_series_element without_time(livevec_sample told)
 }
 LOOKS_AT(livevec_series_element, series_get, (livevec_series *slot, uint64_t index), THERE(slot),
          without_time(livevec_proved_series_get(slot, index, false)))
-
-/* Of arrays a proved call is never given a null pointer: where there are no places, they begin anywhere. */
-livevec_series_scanned livevec_proved_series_read(livevec_series *slot, bool times, uint64_t lo, uint64_t hi, int64_t *buffer, size_t length);
 
 /* All pushes at once, or all writes, or none. */
 static const uint64_t no_index[1];

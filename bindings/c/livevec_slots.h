@@ -181,17 +181,18 @@ static inline uint32_t first_of(uint32_t why, uint32_t next)
 #define OF_BYTES(answer, name, parameters, judged, arguments) \
     OVER_PROVED(answer, AS_STRUCT, name, parameters, judged, true, (void)0, arguments)
 
-/* The sorts of what slots hold, by the numbers of the proved export that frees. */
-enum {
-    A_VECTOR = 0,
-    A_JOB = 1,
-    AN_OUTCOME = 2,
-    A_BATCH = 3,
-    A_BOARD = 4,
-    A_SEAT = 5,
-    A_SERIES = 6,
-    SOME_QUERIES = 7
+/* What a slot of each livevec_sort is: so one function enters them all. Only the byte is read and written by way of it, as a character, which may be
+ * done to what has any type. */
+struct slot {
+    livevec_handle handle_;
+    unsigned char busy_;
 };
+#define AS_SLOT(any) ((struct slot *)(any))
+#define IS_SLOT(type) \
+    _Static_assert(sizeof(type) == sizeof(struct slot) && offsetof(type, busy_) == offsetof(struct slot, busy_), #type " is laid out as a slot");
+IS_SLOT(livevec_vector) IS_SLOT(livevec_job) IS_SLOT(livevec_outcome) IS_SLOT(livevec_batch)
+IS_SLOT(livevec_board) IS_SLOT(livevec_seat) IS_SLOT(livevec_series) IS_SLOT(livevec_queries)
+
 uint32_t livevec_proved_free(void *slot, uint32_t sort);
 
 /* What has no parameter begins by its number. */
@@ -199,87 +200,28 @@ enum { NEW_SERIES = 0, NEW_SAMPLES = 1, NEW_LOADER = 2, NEW_QUERIES = 3 };
 uint32_t livevec_proved_begin(void *slot, uint32_t what);
 #define BEGUN(name, type, what) ENTERED(uint32_t, AS_NUMBER, name, (type *slot), THERE(slot), slot, enter, begin(slot, what))
 
-/* `livevec_NAME` frees what a slot of its type holds, and nothing else. */
-#define FREED(name, type, sort) ENTERED(uint32_t, AS_NUMBER, name, (type *slot), THERE(slot), slot, enter, free(slot, sort))
-
-/* `livevec_NAME` makes an edit, by a proved export that knows it by its livevec_edit_kind. */
-#define EDITED(answer, name, parameters, call) ENTERED(answer, AS_STRUCT, name, parameters, THERE(slot), slot, enter, call)
-
-/* What a search looks for, by the numbers of the proved exports. */
-enum {
-    WANTED_LEAST = 0,
-    WANTED_GREATEST = 1,
-    WANTED_BEST = 2,
-    WANTED_REACHES = 3,
-    WANTED_REACHES_BACK = 4,
-    WANTED_FIRST_AT_LEAST = 5,
-    WANTED_FIRST_AT_MOST = 6,
-    WANTED_LAST_AT_LEAST = 7,
-    WANTED_LAST_AT_MOST = 8
-};
-
-/* A search of one of these names, which compares with nothing, or with a number of the caller's. */
-#define FOUND_IN(answer, name, proved, type, index, wanted) \
-    LOOKS_AT(answer, name, (type *slot, index lo, index hi), THERE(slot), livevec_proved_##proved(slot, wanted, 0, lo, hi))
-#define FOUND_IN_BY(answer, name, proved, type, index, wanted) \
-    LOOKS_AT(answer, name, (type *slot, index lo, index hi, int64_t x), THERE(slot), livevec_proved_##proved(slot, wanted, x, lo, hi))
-
-/* All of them: those that compare with nothing, and those that compare with a number. */
-#define EACH_SEARCH(plain, by)                \
-    plain(least, WANTED_LEAST)                \
-    plain(greatest, WANTED_GREATEST)          \
-    plain(best, WANTED_BEST)                  \
-    by(reaches, WANTED_REACHES)               \
-    by(reaches_back, WANTED_REACHES_BACK)     \
-    by(first_at_least, WANTED_FIRST_AT_LEAST) \
-    by(first_at_most, WANTED_FIRST_AT_MOST)   \
-    by(last_at_least, WANTED_LAST_AT_LEAST)   \
-    by(last_at_most, WANTED_LAST_AT_MOST)
-
-/* The columns of the proved scans, each of cells of its own type: a scan fills that of its kind, or of all six, and the others have no places.
- * A proved call is never given a null pointer: a column without places begins anywhere. */
-typedef struct columns {
-    uint64_t *sums;
-    int64_t *extremes;
-    livevec_total *totals;
-    livevec_map *maps;
-    livevec_states *states;
-    livevec_values *values;
-    size_t sums_length, extremes_length, totals_length, maps_length, states_length, values_length;
-} columns;
-static inline columns no_columns(void)
-{
-    static livevec_values nowhere;
-    void *any = &nowhere;
-    return (columns){.sums = any, .extremes = any, .totals = any, .maps = any, .states = any, .values = any};
-}
+/* A proved scan has a column for each type of cell. It fills the one that its kind has, or that of all six. The others have no places, and begin
+ * anywhere, since a proved call is never given a null pointer. */
 #define COLUMNS                                                                                                                   \
     uint64_t *sums, size_t sums_length, int64_t *extremes, size_t extremes_length, livevec_total *totals, size_t totals_length,   \
         livevec_map *maps, size_t maps_length, livevec_states *states, size_t states_length, livevec_values *values, size_t values_length
-#define EACH_OF(to)                                                                                                               \
-    to.sums, to.sums_length, to.extremes, to.extremes_length, to.totals, to.totals_length, to.maps, to.maps_length, to.states,    \
-        to.states_length, to.values, to.values_length
+static inline void *begin_of(bool filled, void *column)
+{
+    static livevec_values nowhere;
+    return filled && column ? column : &nowhere;
+}
+/* By a function's own `column` and `length`. */
+#define COLUMN_IF(filled) begin_of(filled, column), (filled) ? length : 0
+#define COLUMNS_OF(kind)                                                                                                                 \
+    COLUMN_IF(kind == LIVEVEC_SUM), COLUMN_IF(kind == LIVEVEC_LEAST || kind == LIVEVEC_GREATEST), COLUMN_IF(kind == LIVEVEC_BEST),       \
+        COLUMN_IF(kind == LIVEVEC_AFFINE), COLUMN_IF(kind == LIVEVEC_AUTOMATON), COLUMN_IF(kind == LIVEVEC_ALL_SIX)
 
-/* `livevec_NAME`, a scan into a column: `scan` is told why it is refused before its slot is entered, and which column is filled. */
-#define SCAN(answer, name, parameters, scan, field, ...)                      \
-    answer livevec_##name parameters                                          \
-    {                                                                         \
-        columns to = no_columns();                                            \
-        if (column)                                                           \
-            to.field = column;                                                \
-        to.field##_length = length;                                           \
-        return scan(first_of(THERE(slot), ARRAY(column, length)), slot, to, __VA_ARGS__); \
-    }
-/* All of them, by their endings, by the numbers of the proved exports, by the columns and by their cells. */
-enum { ALL_SIX = 6 };
-#define EACH_SCAN(scanned)                                   \
-    scanned(_sum, LIVEVEC_SUM, sums, uint64_t)               \
-    scanned(_least, LIVEVEC_LEAST, extremes, int64_t)        \
-    scanned(_greatest, LIVEVEC_GREATEST, extremes, int64_t)  \
-    scanned(_best, LIVEVEC_BEST, totals, livevec_total)      \
-    scanned(_affine, LIVEVEC_AFFINE, maps, livevec_map)      \
-    scanned(_automaton, LIVEVEC_AUTOMATON, states, livevec_states) \
-    scanned(, ALL_SIX, values, livevec_values)
+/* What refuses a column, before the slot is entered: its cells are those of its kind, and of no kind as long as a number. */
+static inline uint32_t judge_column(uint32_t kind, const void *column, size_t length)
+{
+    size_t each = kind == LIVEVEC_ALL_SIX ? sizeof(livevec_values) : kind == LIVEVEC_BEST ? sizeof(livevec_total) : sizeof(uint64_t);
+    return judge_array(column, length, each);
+}
 
 /* What is counted, by the numbers of the proved export: of a vector (and of a closed board its elements), and of a series or samples. */
 enum { ELEMENTS = 0, ROOM = 1, ACCEPTED = 2 };
@@ -298,26 +240,15 @@ static inline livevec_count count_as_livevec_count(livevec_series_count told)
     return (livevec_count){.refusal = told.refusal, .value = (uint32_t)told.value};
 }
 
-/* What refuses a range of a vector whose slot is entered, for a buffer of so many values. */
-static inline livevec_scanned judge_range(livevec_vector *slot, uint32_t lo, uint32_t hi, size_t length)
+/* The elements of a range of a vector, or of a closed board, into a buffer. */
+livevec_scanned livevec_proved_read(void *slot, uint32_t sort, uint32_t lo, uint32_t hi, int64_t *buffer, size_t length);
+
+/* What refuses a range of a vector whose slot is entered. A proved read says it, which is given no places: where they alone are wanting, nothing else
+ * refuses the range. */
+static inline livevec_scanned judge_range(livevec_vector *slot, uint32_t lo, uint32_t hi)
 {
-    livevec_scanned answer = {LIVEVEC_OK, 0, 0, 0};
-    livevec_series_count size = livevec_proved_count(slot, A_VECTOR, ELEMENTS);
-    if (size.refusal) {
-        answer.refusal = size.refusal;
-    } else if (hi < lo) {
-        answer.refusal = LIVEVEC_BAD_RANGE;
-    } else if (hi > size.value) {
-        answer.refusal = LIVEVEC_OUT_OF_RANGE;
-        answer.detail = (uint32_t)size.value;
-    } else if (length < hi - lo) {
-        answer.refusal = LIVEVEC_SHORT_BUFFER;
-        answer.detail = hi - lo;
-    } else {
-        answer.edit = (uint32_t)livevec_proved_count(slot, A_VECTOR, ACCEPTED).value;
-        answer.length = hi - lo;
-    }
-    return answer;
+    livevec_scanned told = livevec_proved_read(slot, LIVEVEC_VECTOR, lo, hi, &(int64_t){0}, 0);
+    return told.refusal == LIVEVEC_SHORT_BUFFER ? (livevec_scanned){.length = told.detail} : told;
 }
 
 /* All pushes at once, or all writes, or none. As many values as indices are handed over. A proved call is never given a null pointer. */
@@ -328,7 +259,7 @@ static inline livevec_pushed push_all(livevec_vector *slot, const int64_t *value
 {
     static const uint32_t no_index[1];
     if (!length)
-        return (livevec_pushed){.refusal = livevec_proved_count(slot, A_VECTOR, ELEMENTS).refusal};
+        return (livevec_pushed){.refusal = livevec_proved_count(slot, LIVEVEC_VECTOR, ELEMENTS).refusal};
     livevec_many told = livevec_proved_edit_all(slot, true, no_index, 0, values, length);
     return (livevec_pushed){.refusal = told.refusal, .detail = told.detail, .edit = told.edit, .pushed = (uint32_t)told.done};
 }
@@ -336,6 +267,9 @@ static inline livevec_pushed push_all(livevec_vector *slot, const int64_t *value
 /* The same of a series, in 64 bits. */
 livevec_series_many livevec_proved_series_edit_all(livevec_series *slot, bool pushes, const uint64_t *indices, size_t places, const int64_t *values,
                                                    size_t length);
+
+/* The elements of a range of a series into a buffer, as many as it takes, or the times of samples. */
+livevec_series_scanned livevec_proved_series_read(livevec_series *slot, bool times, uint64_t lo, uint64_t hi, int64_t *buffer, size_t length);
 
 /* The elements that a proved call lends. It is given some to begin with, of which there are none. */
 struct lent {

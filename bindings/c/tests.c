@@ -285,6 +285,7 @@ int main(void)
     jobs();
     misuse_of_vectors();
     lengths();
+    numbers();
     beside();
     kinds();
     columns();

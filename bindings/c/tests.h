@@ -19,6 +19,9 @@ size_t memory_held(void);
 void lengths(void);
 void misuse_of_vectors(void);
 
+/* The tests of functions that are told by a number what is meant. */
+void numbers(void);
+
 /* The tests of boards and seats. */
 void boards(void);
 

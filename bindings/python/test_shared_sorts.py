@@ -185,6 +185,37 @@ class AsAlone(unittest.TestCase):
         self.assertEqual(Samples.load(load.save()), Samples(self.TIMES, self.ELEMENTS))
 
 
+class Compared(unittest.TestCase):
+    def test_elements_count_and_not_where_they_stand(self) -> None:
+        one, same, other = (SharedVector(Vector(of)) for of in ([1, 2], [1, 2], [1, 3]))
+        self.assertTrue(one == same and one != other and one == one)
+        other[1] = 2
+        self.assertTrue(other == same)
+        late, early = SharedSeries(Series([9, 2, 3])), SharedSeries(Series([1, 2, 3]))
+        self.assertFalse(late == early)
+        for series in (late, early):
+            series.expire(1)
+        self.assertTrue(late == early)
+        self.assertFalse(one == late or one == [1, 2])
+        self.assertTrue(SharedSamples(Samples([0, 5], [7, 7])) == SharedSamples(Samples([0, 5], [7, 7])) != SharedSamples(Samples([0, 6], [7, 7])))
+        self.assertRaises(TypeError, hash, one)
+        one.close()
+        self.assertRaises(livevec.Closed, lambda: one == same)
+
+    def test_both_ways_at_once(self) -> None:
+        a, b = (SharedVector(Vector([1] * 64)) for _ in range(2))
+        told: list[int] = []
+        both = [threading.Thread(target=lambda of=of, to=to: told.append(sum(of == to for _ in range(200)))) for of, to in ((a, b), (b, a))]
+        for thread in both:
+            thread.start()
+        for round in range(100):
+            a[0] = round % 2
+        for thread in both:
+            thread.join(60)
+        a[0] = 1
+        self.assertEqual((len(told), a == b), (2, True))
+
+
 class Ends(unittest.TestCase):
     def setUp(self) -> None:
         # one that is started in the background ignores it

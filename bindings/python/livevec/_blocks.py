@@ -2,7 +2,7 @@
 from __future__ import annotations
 
 import ctypes
-from typing import TYPE_CHECKING, Callable, NamedTuple
+from typing import TYPE_CHECKING, NamedTuple
 
 from ._calls import _slot
 from ._handle import _Handle
@@ -16,7 +16,7 @@ if TYPE_CHECKING:
 
 
 class _BatchSlot(_Slot):
-    pass
+    sort = 3
 
 
 @_laid_out
@@ -35,7 +35,6 @@ _run_blocks = _call("livevec_run_blocks", _u32, _batch, by=_released)
 _accept_blocks = _call("livevec_accept_blocks", _Taken, _slot, _batch, by=_released)
 _subtree = _call("livevec_subtree", _Count, _slot, _batch, _u32, by=_released)
 _accept_subtree = _call("livevec_accept_subtree", _Count, _slot, _batch, by=_released)
-_free_batch = _call("livevec_free_batch", _u32, _batch)
 
 
 class Taken(NamedTuple):
@@ -63,9 +62,6 @@ class _Portion(_Handle):
         refusal = _run_blocks(self._at)
         if refusal:
             raise _refuse(refusal)
-
-    def __del__(self, _free: Callable[..., int] = _free_batch) -> None:
-        _free(self._at)
 
 
 class Batch(_Portion):

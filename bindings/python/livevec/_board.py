@@ -9,7 +9,7 @@ from typing import Any, Callable, NamedTuple, Optional, TypeVar, Union
 
 from ._buffers import _address
 from ._calls import (
-    _board_close, _board_new, _board_sit, _board_take_back, _closed_read, _free_board, _free_seat, _seat_get, _seat_pop, _seat_push, _seat_reduce,
+    _board_close, _board_new, _board_sit, _board_take_back, _closed_read, _seat_get, _seat_pop, _seat_push, _seat_reduce,
     _seat_refresh, _seat_size, _seat_write,
 )
 from ._handle import _Closable, _Handle
@@ -74,7 +74,7 @@ class Board(_Closable):
     """
 
     __slots__ = ("kind",)
-    _made_of, _freed = _BoardSlot, _free_board
+    _made_of = _BoardSlot
 
     def __init__(self, kind: Union[Kind, str] = Kind.SUM, *, seats: int = MOST_SEATS, most_buckets: int = MOST_BOARD_BUCKETS,
                  most_edits: int = MOST_EDITS) -> None:
@@ -192,10 +192,10 @@ class Seat(_Handle):
     # Within.
 
     # Calls at a board keep the interpreter's lock, so that its slot serves one at a time. A board that is closed takes no seat back.
-    def _go(self, at: Any, _take_back: Callable[..., int] = _board_take_back, _free: Callable[..., int] = _free_seat) -> None:
+    def _go(self, at: Any, _take_back: Callable[..., int] = _board_take_back) -> None:
         board = getattr(self, "_board", None)
         if board is None or _take_back(board._at, at):
-            _free(at)
+            self._free()
 
     def _alone(self, call: Callable[..., _Result], *arguments: int) -> _Result:
         """A call while no other is at the slot."""

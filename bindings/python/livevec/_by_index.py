@@ -7,12 +7,13 @@ from typing import TYPE_CHECKING, Any, Callable, Iterable, Iterator, NamedTuple,
 
 from ._buffers import _address, _as_numpy, _as_room
 from ._elements import _AT_ONCE
+from ._kinds import _ALL_SIX
+from ._library import _EXPIRE, _NO_LONG_INDEX, _NO_VALUE, _POP, _TRUNCATE, _WRITE
 from ._numbers import _as_i64, _whole
 from ._refusals import Busy, Closed, NotKept
 from ._scans import Scan
 from ._series_calls import (
-    _ask, _counted, _edits, _expire, _free, _get, _kept, _pop, _read, _reduce, _scan_exclusive, _scan_inclusive, _SeriesEdited, _SeriesReduced,
-    _SeriesScanned, _truncate, _write,
+    _ask, _counted, _edits, _get, _kept, _make_edit, _read, _reduce, _scan, _SeriesEdited, _SeriesReduced, _SeriesScanned,
 )
 from ._series_lent import Lent
 from ._series_saved import _SeriesSaved
@@ -38,18 +39,17 @@ class _ByIndex(_SeriesSaved):
     """The part of `Series` and `Samples` that goes by index."""
 
     __slots__ = ()
-    _freed = _free
     _name: str
 
     # Edits.
 
     def pop(self) -> int:
         """Drops the last element, and gives it. O(log n). Raises Worn, Empty."""
-        return self._edited(_pop(self._at)).value
+        return self._edited(_make_edit(self._at, _POP, _NO_LONG_INDEX, _NO_LONG_INDEX, _NO_VALUE)).value
 
     def write(self, index: int, value: int) -> int:
         """Overwrites an element, and gives the one before. O(log n). Raises Worn, NotKept."""
-        return self._edited(_write(self._at, self._index(index), _as_i64(value)), index).value
+        return self._edited(_make_edit(self._at, _WRITE, self._index(index), _NO_LONG_INDEX, _as_i64(value)), index).value
 
     def __setitem__(self, index: int, value: int) -> None:
         if isinstance(index, slice):
@@ -58,12 +58,12 @@ class _ByIndex(_SeriesSaved):
 
     def truncate(self, size: int) -> int:
         """Drops the elements from an index on, which is `size` then, and gives how many they were. O(log n). Raises Worn, NotKept."""
-        return self._edited(_truncate(self._at, self._index(size)), size).place
+        return self._edited(_make_edit(self._at, _TRUNCATE, self._index(size), _NO_LONG_INDEX, _NO_VALUE), size).place
 
     def expire(self, index: int) -> int:
         """Drops the elements before an index, which is `first` then, and gives how many they were. The others keep their indices. O(1) amortised.
         It gives memory back, and never raises NoMemory. Raises Worn, NotKept."""
-        return self._edited(_expire(self._at, self._index(index)), index).place
+        return self._edited(_make_edit(self._at, _EXPIRE, self._index(index), _NO_LONG_INDEX, _NO_VALUE), index).place
 
     def clear(self) -> int:
         """Drops all that is kept, by one edit, and gives how many elements that was. What is pushed next has the index that `first` was. O(log n). Raises
@@ -175,11 +175,11 @@ class _ByIndex(_SeriesSaved):
         first piece, and the next one starts at `lo + len(piece)`. A piece costs a reduction of what lies before it, and one step for each
         value: if there are many pieces, `ask` first, so that each kind has a tree. Raises BadRange, NotKept.
         """
-        return self._scan(_scan_inclusive, lo, hi, at, most)
+        return self._scan(True, lo, hi, at, most)
 
     def scan_exclusive(self, lo: Optional[int] = None, hi: Optional[int] = None, *, at: Optional[int] = None, most: Optional[int] = None) -> Scan:
         """The same, that one excluded."""
-        return self._scan(_scan_exclusive, lo, hi, at, most)
+        return self._scan(False, lo, hi, at, most)
 
     # Within.
 
@@ -214,8 +214,8 @@ class _ByIndex(_SeriesSaved):
         did = _kept(call(self._at, start, end), start, end)
         return LongReduced(did.edit, _values_of(did.values))
 
-    def _scan(self, call: Callable[..., _SeriesScanned], lo: Optional[int], hi: Optional[int], at: Optional[int], most: Optional[int]) -> Scan:
+    def _scan(self, inclusive: bool, lo: Optional[int], hi: Optional[int], at: Optional[int], most: Optional[int]) -> Scan:
         lo, at, hi, length = self._piece(lo, hi, at, most)
         room = bytearray(max(length, 1) * ctypes.sizeof(_Values))
-        did = _kept(call(self._at, lo, at, hi, ctypes.byref(_address(room)), length), lo, hi)
+        did = _kept(_scan(self._at, _ALL_SIX, inclusive, lo, at, hi, ctypes.byref(_address(room)), length), lo, hi)
         return Scan(did.edit, room, did.length)

@@ -208,7 +208,7 @@ class _ByKind:
     def _total(self, lo: Optional[int], hi: Optional[int]) -> int:
         raise NotImplementedError
 
-    def _located(self, what: str, lo: Optional[int], hi: Optional[int], *number: int) -> Any:
+    def _located(self, what: str, lo: Optional[int], hi: Optional[int], number: int = 0) -> Any:
         """What C has found by the search of a name; None if there is nothing."""
         raise NotImplementedError
 

@@ -4,8 +4,7 @@ from __future__ import annotations
 import ctypes
 from typing import Any
 
-from ._kinds import _SEARCHES
-from ._library import _call, _i64, _pointer, _released, _size, _u32
+from ._library import _call, _flag, _i64, _lib, _pointer, _released, _size, _u32
 from ._structures import (
     _Accepted, _BoardSlot, _Claimed, _Count, _Edited, _Element, _Found, _JobSlot, _Many, _Opened, _OutcomeSlot, _Pushed, _Reduced, _Renewed,
     _Scanned, _SeatSlot, _Summarised, _Summed, _Table, _VectorSlot, _Verdict, _Vetted,
@@ -17,13 +16,8 @@ _slot, _job, _outcome = ctypes.POINTER(_VectorSlot), ctypes.POINTER(_JobSlot), c
 _new = _call("livevec_new", _u32, _slot, _u32, _u32)
 _new_of = _call("livevec_new_of", _u32, _slot, _u32, _u32, _u32)
 _new_with_table = _call("livevec_new_with_table", _u32, _slot, _u32, _u32, ctypes.POINTER(_Table))
-_free = _call("livevec_free", _u32, _slot)
-_push = _call("livevec_push", _Edited, _slot, _i64)
-_pop = _call("livevec_pop", _Edited, _slot)
-_write = _call("livevec_write", _Edited, _slot, _u32, _i64)
-_reserve = _call("livevec_reserve", _Edited, _slot, _u32)
-_swap = _call("livevec_swap", _Edited, _slot, _u32, _u32)
-_truncate = _call("livevec_truncate", _Edited, _slot, _u32)
+_make_edit = _call("livevec_make_edit", _Edited, _slot, _u32, _u32, _u32, _i64)
+_judge_edit = _call("livevec_judge_edit", _Verdict, _slot, _u32, _u32, _u32, _i64)
 _push_many = _call("livevec_push_many", _Pushed, _slot, _pointer, _size)
 _write_many = _call("livevec_write_many", _Many, _slot, _pointer, _pointer, _size, by=_released)
 _push_saved = _call("livevec_push_saved", _Pushed, _slot, _pointer, _size, by=_released)
@@ -39,13 +33,9 @@ _ask = _call("livevec_ask", _Reduced, _slot, _u32, _u32)
 _value = _call("livevec_value", _Reduced, _slot, _u32, _u32, _u32)
 _exact_sum = _call("livevec_exact_sum", _Summed, _slot, _u32, _u32)
 _value_many = _call("livevec_value_many", _Many, _slot, _u32, _pointer, _pointer, _size, by=_released)
-_searches = {name: _call(f"livevec_where_{name}", _Found, _slot, _u32, _u32, *[_i64] * numbers) for name, numbers in _SEARCHES.items()}
-_scan_inclusive = _call("livevec_scan_inclusive", _Scanned, _slot, _u32, _u32, _pointer, _size)
-_scan_exclusive = _call("livevec_scan_exclusive", _Scanned, _slot, _u32, _u32, _pointer, _size)
+_find = _call("livevec_find", _Found, _slot, _u32, _u32, _u32, _i64)
 # scans by one kind write columns, and take long enough to release the interpreter's lock
-_columns_inclusive, _columns_exclusive = (
-    {name: _call(f"livevec_scan_{way}_{name}", _Scanned, _slot, _u32, _u32, _pointer, _size, by=_released)
-     for name in ("sum", "least", "greatest", "best", "affine", "automaton")} for way in ("inclusive", "exclusive"))
+_scan, _scan_by = (_call("livevec_scan", _Scanned, _slot, _u32, _flag, _u32, _u32, _pointer, _size, by=lib) for lib in (_lib, _released))
 # a summary's bytes are read during the call alone
 _sealed = ctypes.c_char_p
 _summary_empty = _call("livevec_summary_empty", _Summarised)
@@ -60,22 +50,12 @@ _run = _call("livevec_run", _u32, _job, _outcome)
 _vet = _call("livevec_vet", _Vetted, _slot, _outcome)
 _accept = _call("livevec_accept", _Accepted, _slot, _outcome)
 _forget = _call("livevec_forget", _u32, _slot)
-_free_job = _call("livevec_free_job", _u32, _job)
-_free_outcome = _call("livevec_free_outcome", _u32, _outcome)
-_verdict_push = _call("livevec_verdict_push", _Verdict, _slot, _i64)
-_verdict_pop = _call("livevec_verdict_pop", _Verdict, _slot)
-_verdict_write = _call("livevec_verdict_write", _Verdict, _slot, _u32, _i64)
-_verdict_reserve = _call("livevec_verdict_reserve", _Verdict, _slot, _u32)
-_verdict_swap = _call("livevec_verdict_swap", _Verdict, _slot, _u32, _u32)
-_verdict_truncate = _call("livevec_verdict_truncate", _Verdict, _slot, _u32)
 _board, _seat = ctypes.POINTER(_BoardSlot), ctypes.POINTER(_SeatSlot)
 _board_new = _call("livevec_board_new", _u32, _board, _u32, _u32, _u32, _u32)
 _board_sit = _call("livevec_board_sit", _u32, _board, _seat)
 _board_take_back = _call("livevec_board_take_back", _u32, _board, _seat)
 _board_close = _call("livevec_board_close", _Count, _board)
 _closed_read = _call("livevec_closed_read", _u32, _board, _pointer, _size, ctypes.POINTER(_u32))
-_free_board = _call("livevec_free_board", _u32, _board)
-_free_seat = _call("livevec_free_seat", _u32, _seat)
 _seat_push = _call("livevec_seat_push", _Edited, _seat, _i64, _u32, by=_released)
 _seat_pop = _call("livevec_seat_pop", _Edited, _seat, _u32, by=_released)
 _seat_write = _call("livevec_seat_write", _Edited, _seat, _u32, _i64, _u32, by=_released)

@@ -5,16 +5,14 @@ import ctypes
 from typing import TYPE_CHECKING, Callable, Iterable, Optional, TypeVar
 
 from ._buffers import _address, _as_buffer
-from ._calls import (
-    _pop, _push, _push_many, _push_saved, _reserve, _swap, _truncate, _verdict_pop, _verdict_push, _verdict_reserve, _verdict_swap, _verdict_truncate,
-    _verdict_write, _write, _write_many,
-)
+from ._calls import _judge_edit, _make_edit, _push_many, _push_saved, _write_many
 from ._elements import _Elements
+from ._library import _NO_INDEX, _NO_VALUE, _POP, _PUSH, _RESERVE, _SWAP, _TRUNCATE, _WRITE
 from ._numbers import _as_i64, _as_u32
 from ._ranges import _as_places
 from ._refusals import _PLACED, Closed, Refusal, _accepted, _refuse
 from ._saved import _bytes_of
-from ._structures import _Edited, _Pushed, _Verdict
+from ._structures import _Edited, _Pushed
 
 if TYPE_CHECKING:
     from _typeshed import ReadableBuffer, WriteableBuffer
@@ -29,7 +27,7 @@ class _Edits(_Elements):
 
     def push(self, value: int) -> int:
         """Puts an element at the end, and gives its index. O(log n) amortised. Raises Worn, Full, NoMemory; OverflowError where it does not fit 64 bits."""
-        return self._edited(_push(self._at, _as_i64(value))).place
+        return self._edited(_make_edit(self._at, _PUSH, _NO_INDEX, _NO_INDEX, _as_i64(value))).place
 
     def append(self, value: int) -> None:
         """Puts an element at the end, as a list does. Raises as `push` does."""
@@ -37,11 +35,11 @@ class _Edits(_Elements):
 
     def pop(self) -> int:
         """Drops the last element, and gives it. O(log n). Raises Worn, Empty, NoMemory."""
-        return self._edited(_pop(self._at)).value
+        return self._edited(_make_edit(self._at, _POP, _NO_INDEX, _NO_INDEX, _NO_VALUE)).value
 
     def write(self, index: int, value: int) -> int:
         """Overwrites an element, and gives the one before. O(log n) amortised. Raises Worn, OutOfRange, NoMemory; OverflowError where it does not fit 64 bits."""
-        return self._edited(_write(self._at, self._index(index), _as_i64(value)), index).value
+        return self._edited(_make_edit(self._at, _WRITE, self._index(index), _NO_INDEX, _as_i64(value)), index).value
 
     def __setitem__(self, index: int, value: int) -> None:
         if isinstance(index, slice):
@@ -50,15 +48,15 @@ class _Edits(_Elements):
 
     def reserve(self, elements: int) -> int:
         """Makes room for so many elements in all, and gives the capacity. Linear in the room. Raises Worn, TooLarge, NoMemory. It is an edit like any other."""
-        return self._edited(_reserve(self._at, _as_u32(elements, "elements"))).place
+        return self._edited(_make_edit(self._at, _RESERVE, _as_u32(elements, "elements"), _NO_INDEX, _NO_VALUE)).place
 
     def swap(self, first: int, second: int) -> int:
         """Exchanges two elements, whose indices may be one, and gives the one at the first now. O(log n) amortised. Raises Worn, OutOfRange, NoMemory."""
-        return self._edited(_swap(self._at, self._index(first), self._index(second)), *([max(first, second)] if min(first, second) >= 0 else [])).value
+        return self._edited(_make_edit(self._at, _SWAP, self._index(first), self._index(second), _NO_VALUE), *([max(first, second)] if min(first, second) >= 0 else [])).value
 
     def truncate(self, elements: int) -> int:
         """Keeps so many elements, the first ones, and gives how many were dropped. O(log n) amortised. Raises Worn, OutOfRange, NoMemory. It gives no memory back."""
-        return self._edited(_truncate(self._at, _as_u32(elements, "elements"))).place
+        return self._edited(_make_edit(self._at, _TRUNCATE, _as_u32(elements, "elements"), _NO_INDEX, _NO_VALUE)).place
 
     def _edited(self, told: _Edited, *given: int) -> _Edited:
         _accepted(told, *given)
@@ -69,30 +67,30 @@ class _Edits(_Elements):
 
     def why_not_push(self, value: int) -> Optional[Refusal]:
         """Why `push` would be refused, or None. Like the five below it gives the refusal and doesn't raise it; want of memory isn't told."""
-        return self._why(_verdict_push(self._at, _as_i64(value)))
+        return self._why(_PUSH, value=_as_i64(value))
 
     def why_not_pop(self) -> Optional[Refusal]:
         """Why `pop` would be refused, or None."""
-        return self._why(_verdict_pop(self._at))
+        return self._why(_POP)
 
     def why_not_write(self, index: int, value: int) -> Optional[Refusal]:
         """Why `write` would be refused, or None."""
-        return self._why(_verdict_write(self._at, self._index(index), _as_i64(value)))
+        return self._why(_WRITE, self._index(index), value=_as_i64(value))
 
     def why_not_reserve(self, elements: int) -> Optional[Refusal]:
         """Why `reserve` would be refused, or None."""
-        return self._why(_verdict_reserve(self._at, _as_u32(elements, "elements")))
+        return self._why(_RESERVE, _as_u32(elements, "elements"))
 
     def why_not_swap(self, first: int, second: int) -> Optional[Refusal]:
         """Why `swap` would be refused, or None."""
-        return self._why(_verdict_swap(self._at, self._index(first), self._index(second)))
+        return self._why(_SWAP, self._index(first), self._index(second))
 
     def why_not_truncate(self, elements: int) -> Optional[Refusal]:
         """Why `truncate` would be refused, or None."""
-        return self._why(_verdict_truncate(self._at, _as_u32(elements, "elements")))
+        return self._why(_TRUNCATE, _as_u32(elements, "elements"))
 
-    @staticmethod
-    def _why(told: _Verdict) -> Optional[Refusal]:
+    def _why(self, edit: ctypes.c_uint32, index: int = 0, second: int = 0, value: int = 0) -> Optional[Refusal]:
+        told = _judge_edit(self._at, edit, index, second, value)
         if told.refusal >= Closed.number:
             raise _refuse(told.refusal)
         return _refuse(told.refusal, told.detail) if told.refusal else None

@@ -4,8 +4,11 @@ from __future__ import annotations
 import ctypes
 from typing import Any, Callable, TypeVar, Union
 
+from ._library import _call, _pointer, _u32
 from ._refusals import Busy, _refuse
 from ._structures import _Slot
+
+_free_slot = _call("livevec_free_slot", _u32, _pointer, _u32)
 
 _Made = TypeVar("_Made", bound="_Handle")
 _Closed = TypeVar("_Closed", bound="_Closable")
@@ -27,6 +30,13 @@ class _Handle:
         made._at = ctypes.byref(made._slot)
         return made
 
+    def __del__(self) -> None:
+        self._free()
+
+    def _free(self, _free: Callable[..., int] = _free_slot) -> int:
+        """Frees what the slot holds, and gives C's answer."""
+        return _free(self._at, self._slot.sort)
+
     def __reduce__(self) -> Union[str, tuple[Any, ...]]:
         raise TypeError(f"a {type(self).__name__} can't be copied or pickled, for it lies with the library in this process")
 
@@ -42,12 +52,9 @@ class _Closable(_Handle):
 
     __slots__ = ()
 
-    # C's free of what the slot holds
-    _freed: Callable[..., int]
-
     def close(self) -> None:
         """Gives the memory back. Every later call raises Closed; to close again does nothing. Raises Busy beside a call of another thread."""
-        if type(self)._freed(self._at) == Busy.number:
+        if self._free() == Busy.number:
             raise _refuse(Busy.number)
 
     def __enter__(self: _Closed) -> _Closed:
@@ -55,6 +62,3 @@ class _Closable(_Handle):
 
     def __exit__(self, *_: object) -> None:
         self.close()
-
-    def __del__(self) -> None:
-        type(self)._freed(self._at)

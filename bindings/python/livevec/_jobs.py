@@ -2,9 +2,9 @@
 from __future__ import annotations
 
 import enum
-from typing import Callable, NamedTuple
+from typing import NamedTuple
 
-from ._calls import _free_job, _free_outcome, _run
+from ._calls import _run
 from ._handle import _Handle
 from ._refusals import Closed, _refuse
 from ._structures import _JobSlot, _OutcomeSlot
@@ -50,9 +50,6 @@ class Job(_Handle):
             raise _refuse(refusal)
         return outcome
 
-    def __del__(self, _free: Callable[..., int] = _free_job) -> None:
-        _free(self._at)
-
     def __repr__(self) -> str:
         if not hasattr(self, "node"):
             return "<livevec.Job of nothing>"
@@ -67,9 +64,6 @@ class Outcome(_Handle):
 
     def __init__(self, node: Node, version: int) -> None:
         self.node, self.version = node, version
-
-    def __del__(self, _free: Callable[..., int] = _free_outcome) -> None:
-        _free(self._at)
 
     def __repr__(self) -> str:
         return f"<livevec.Outcome of {self.node} at version {self.version}>"

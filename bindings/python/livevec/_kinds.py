@@ -25,8 +25,10 @@ _Value = Union[int, None, tuple[int, ...]]
 
 _KINDS = {it.name.lower(): it for it in Kind}
 
-# the searches, by what follows `where_` in their names, and how many numbers each takes besides a range
-_SEARCHES = {"least": 0, "greatest": 0, "best": 0, "reaches": 1, "reaches_back": 1, "first_at_least": 1, "first_at_most": 1, "last_at_least": 1, "last_at_most": 1}
+# C's number in place of a kind's, where a scan is by all six
+_ALL_SIX = 6
+# the numbers by which C knows searches, by what follows `where_` in their names
+_SEARCHES = {"least": 0, "greatest": 1, "best": 2, "reaches": 3, "reaches_back": 4, "first_at_least": 5, "first_at_most": 6, "last_at_least": 7, "last_at_most": 8}
 
 
 def _kind_of(kind: Union[Kind, str]) -> Kind:

@@ -73,4 +73,9 @@ _u32: type[ctypes.c_uint32]
 _i64: type[ctypes.c_int64]
 _pointer: type[ctypes.c_void_p]
 _size: type[ctypes.c_size_t]
-_u32, _i64, _pointer, _size = ctypes.c_uint32, ctypes.c_int64, ctypes.c_void_p, ctypes.c_size_t
+_flag: type[ctypes.c_bool]
+_u32, _i64, _pointer, _size, _flag = ctypes.c_uint32, ctypes.c_int64, ctypes.c_void_p, ctypes.c_size_t, ctypes.c_bool
+
+# The numbers by which C knows edits, and the index that an edit doesn't have: made once, since ctypes takes them quicker than it makes them.
+_PUSH, _POP, _WRITE, _RESERVE, _SWAP, _TRUNCATE, _EXPIRE = (_u32(number) for number in range(1, 8))
+_NO_INDEX, _NO_LONG_INDEX, _NO_VALUE = _u32(0), ctypes.c_uint64(0), _i64(0)

@@ -27,7 +27,7 @@ _NAME_BYTES = 16
 
 
 class _QueriesSlot(_Slot):
-    pass
+    sort = 7
 
 
 class _Note(ctypes.Structure):
@@ -68,7 +68,6 @@ _answer = _call("livevec_answer", _Reduced, _queries, _slot, _bytes, _size)
 _notes = _call("livevec_notes", _Noted, _queries, _slot, ctypes.POINTER(_Note), _size)
 _series_answer = _call("livevec_series_answer", _SeriesReduced, _queries, _series_slot, _bytes, _size)
 _series_notes = _call("livevec_series_notes", _SeriesNoted, _queries, _series_slot, ctypes.POINTER(_Note), _size)
-_free = _call("livevec_free_queries", _u32, _queries)
 
 
 class Note(NamedTuple):
@@ -112,7 +111,7 @@ class Queries(_Closable):
     """
 
     __slots__ = ("_kinds",)
-    _made_of, _freed = _QueriesSlot, _free
+    _made_of = _QueriesSlot
 
     def __init__(self) -> None:
         # in the order in which they were named; what C answers doesn't tell the kind

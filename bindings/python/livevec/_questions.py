@@ -7,9 +7,9 @@ from typing import TYPE_CHECKING, Any, Callable, Optional
 
 from ._buffers import _address
 from ._by_kind import _addressed, _ManyByKind
-from ._calls import _ask, _exact_sum, _reduce, _searches, _summary_of, _value, _value_many
+from ._calls import _ask, _exact_sum, _find, _reduce, _summary_of, _value, _value_many
 from ._elements import _Elements
-from ._kinds import Kind
+from ._kinds import _SEARCHES, Kind
 from ._ranges import _as_pairs, _low_words
 from ._refusals import _PLACED, _accepted, _refuse
 from ._structures import _Found, _Reduced, _Values
@@ -69,9 +69,9 @@ class _Questions(_Elements, _ManyByKind):
             raise _refuse(did.refusal, did.detail, 0, did.place, f"ranges[{did.place}]" if did.refusal in _PLACED else "")
         return None
 
-    def _located(self, what: str, lo: Optional[int], hi: Optional[int], *number: int) -> Optional[_Found]:
+    def _located(self, what: str, lo: Optional[int], hi: Optional[int], number: int = 0) -> Optional[_Found]:
         start, end = self._range(lo, hi)
-        did = _accepted(_searches[what](self._at, start, end, *number), start, end)
+        did = _accepted(_find(self._at, _SEARCHES[what], start, end, number), start, end)
         return did if did.found else None
 
     def _reduced(self, call: Callable[..., _Reduced], lo: Optional[int], hi: Optional[int]) -> Reduced:

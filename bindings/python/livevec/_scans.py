@@ -4,14 +4,14 @@ from __future__ import annotations
 import collections.abc
 import ctypes
 import struct
-from typing import TYPE_CHECKING, Any, Callable, NamedTuple, Optional, Union, overload
+from typing import TYPE_CHECKING, Any, NamedTuple, Optional, Union, overload
 
 from ._buffers import _address, _as_column
-from ._calls import _columns_exclusive, _columns_inclusive, _scan_exclusive, _scan_inclusive
+from ._calls import _scan, _scan_by
 from ._elements import _Elements
-from ._kinds import Kind, _kind_of
+from ._kinds import _ALL_SIX, Kind, _kind_of
 from ._refusals import _accepted
-from ._structures import _Scanned, _Values
+from ._structures import _Values
 from ._values import Values, _values_of
 
 if TYPE_CHECKING:
@@ -76,22 +76,22 @@ class _Scans(_Elements):
 
     def scan_inclusive(self, lo: Optional[int] = None, hi: Optional[int] = None) -> Scan:
         """The values of each beginning of a range, the element itself included. Linear. Raises BadRange, OutOfRange, MemoryError."""
-        return self._scan(_scan_inclusive, lo, hi)
+        return self._scan(True, lo, hi)
 
     def scan_exclusive(self, lo: Optional[int] = None, hi: Optional[int] = None) -> Scan:
         """The values of each beginning of a range, the element itself excluded. Linear. Raises BadRange, OutOfRange, MemoryError."""
-        return self._scan(_scan_exclusive, lo, hi)
+        return self._scan(False, lo, hi)
 
     def scan_inclusive_by(self, kind: Union[Kind, str], lo: Optional[int] = None, hi: Optional[int] = None) -> Column:
         """The running values of a range by one kind, the element itself included, as one column.
 
         One call of C goes over the elements once, so it is linear, and keeps nothing. Other threads run meanwhile; of it and an edit of theirs at this
         vector, the second raises Busy. Raises BadRange, OutOfRange, MemoryError; ValueError of what is no kind."""
-        return self._column(_columns_inclusive, _kind_of(kind), lo, hi)
+        return self._column(True, _kind_of(kind), lo, hi)
 
     def scan_exclusive_by(self, kind: Union[Kind, str], lo: Optional[int] = None, hi: Optional[int] = None) -> Column:
         """The same, the element itself excluded. Raises as `scan_inclusive_by` does."""
-        return self._column(_columns_exclusive, _kind_of(kind), lo, hi)
+        return self._column(False, _kind_of(kind), lo, hi)
 
     def scan_inclusive_into(self, kind: Union[Kind, str], buffer: Union[WriteableBuffer, _NumpyArray], lo: Optional[int] = None, hi: Optional[int] = None) -> int:
         """Writes such a column into the front of a buffer, where that lies, and gives how many cells it has.
@@ -99,37 +99,37 @@ class _Scans(_Elements):
         The buffer has numbers of the cells' width side by side, as many an element as a cell has, and may be written to: a numpy array of
         int64 for the sum, of n times 2 uint32 for affine. The sum goes into uint64 too. Any other raises TypeError. What the buffer has
         behind stays. Raises ShortBuffer, and what `scan_inclusive_by` raises but MemoryError; the buffer is then as it was."""
-        return self._fill(_columns_inclusive, _kind_of(kind), buffer, lo, hi)
+        return self._fill(True, _kind_of(kind), buffer, lo, hi)
 
     def scan_exclusive_into(self, kind: Union[Kind, str], buffer: Union[WriteableBuffer, _NumpyArray], lo: Optional[int] = None, hi: Optional[int] = None) -> int:
         """The same, the element itself excluded. Raises as `scan_inclusive_into` does."""
-        return self._fill(_columns_exclusive, _kind_of(kind), buffer, lo, hi)
+        return self._fill(False, _kind_of(kind), buffer, lo, hi)
 
     # Within.
 
-    def _scan(self, call: Callable[..., _Scanned], lo: Optional[int], hi: Optional[int]) -> Scan:
+    def _scan(self, inclusive: bool, lo: Optional[int], hi: Optional[int]) -> Scan:
         lo, hi = self._range(lo, hi)
         length = self._room(lo, hi)
         room = bytearray(max(length, 1) * ctypes.sizeof(_Values))
-        did = _accepted(call(self._at, lo, hi, ctypes.byref(_address(room)), length), lo, hi)
+        did = _accepted(_scan(self._at, _ALL_SIX, inclusive, lo, hi, ctypes.byref(_address(room)), length), lo, hi)
         return Scan(did.edit, room, did.length)
 
-    def _column(self, calls: dict[str, Callable[..., _Scanned]], kind: Kind, lo: Optional[int], hi: Optional[int]) -> Column:
+    def _column(self, inclusive: bool, kind: Kind, lo: Optional[int], hi: Optional[int]) -> Column:
         lo, hi = self._range(lo, hi)
         length = self._room(lo, hi)
         of, count = _CELLS[kind]
         width = count * struct.calcsize(of)
         room = bytearray(max(length, 1) * width)
-        did = _accepted(calls[kind.name.lower()](self._at, lo, hi, ctypes.byref(_address(room)), length), lo, hi)
+        did = _accepted(_scan_by(self._at, kind.value, inclusive, lo, hi, ctypes.byref(_address(room)), length), lo, hi)
         cells = memoryview(room)[: did.length * width]
         # no view of several dimensions has none of its rows
         return Column(did.edit, cells.cast(of) if count == 1 or not cells else cells.cast(of, [did.length, count]))
 
-    def _fill(self, calls: dict[str, Callable[..., _Scanned]], kind: Kind, buffer: Any, lo: Optional[int], hi: Optional[int]) -> int:
+    def _fill(self, inclusive: bool, kind: Kind, buffer: Any, lo: Optional[int], hi: Optional[int]) -> int:
         of, count = _CELLS[kind]
         view = _as_column(buffer, of, count)
         lo, hi = self._range(lo, hi)
         length = view.nbytes // (count * struct.calcsize(of))
         # an address is needed also where there is nothing to write
         room: WriteableBuffer = view if length else bytearray(16)
-        return _accepted(calls[kind.name.lower()](self._at, lo, hi, ctypes.byref(_address(room)), length), lo, hi).length
+        return _accepted(_scan_by(self._at, kind.value, inclusive, lo, hi, ctypes.byref(_address(room)), length), lo, hi).length

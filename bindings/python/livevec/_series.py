@@ -6,10 +6,10 @@ from typing import TYPE_CHECKING, Callable, Iterable, TypeVar
 
 from ._buffers import _address, _as_buffer
 from ._by_index import _ByIndex
-from ._library import _call, _u32
+from ._library import _NO_LONG_INDEX, _NO_VALUE, _PUSH, _SWAP, _call, _u32
 from ._numbers import _as_i64
 from ._refusals import _refuse
-from ._series_calls import _new, _push, _push_many, _SeriesPushed, _SeriesSlot, _slot, _swap
+from ._series_calls import _make_edit, _new, _push_many, _SeriesPushed, _SeriesSlot, _slot
 from ._series_kinds import _all_kept, _write_many
 
 if TYPE_CHECKING:
@@ -56,7 +56,7 @@ class Series(_ByIndex):
     def push(self, value: int) -> int:
         """Puts an element at the end, and gives its index. O(1) amortised, and as much again for each tree. Raises Worn, Full, NoMemory; OverflowError
         where it does not fit 64 bits."""
-        return self._edited(_push(self._at, _as_i64(value))).place
+        return self._edited(_make_edit(self._at, _PUSH, _NO_LONG_INDEX, _NO_LONG_INDEX, _as_i64(value))).place
 
     def append(self, value: int) -> None:
         """As `push`, and gives nothing."""
@@ -100,7 +100,7 @@ class Series(_ByIndex):
 
     def swap(self, first: int, second: int) -> int:
         """Exchanges the elements under two indices, and gives the one under the first now. O(log n). Raises Worn, NotKept."""
-        return self._edited(_swap(self._at, self._index(first), self._index(second))).value
+        return self._edited(_make_edit(self._at, _SWAP, self._index(first), self._index(second), _NO_VALUE)).value
 
     def __eq__(self, other: object) -> bool:
         if not isinstance(other, Series):

@@ -4,7 +4,7 @@ from __future__ import annotations
 import ctypes
 from typing import TYPE_CHECKING, Protocol, TypeVar
 
-from ._library import _call, _i64, _pointer, _released, _size, _u32
+from ._library import _call, _flag, _i64, _pointer, _released, _size, _u32
 from ._records import _Kept, _laid_out
 from ._refusals import NotKept, _refuse, _words_of
 from ._structures import _Slot, _Values
@@ -16,7 +16,7 @@ _u64 = ctypes.c_uint64
 
 
 class _SeriesSlot(_Slot):
-    pass
+    sort = 6
 
 
 @_laid_out
@@ -58,14 +58,8 @@ class _SeriesScanned(_Kept):
 
 _slot = ctypes.POINTER(_SeriesSlot)
 _new = _call("livevec_series_new", _u32, _slot)
-_free = _call("livevec_free_series", _u32, _slot)
-_push = _call("livevec_series_push", _SeriesEdited, _slot, _i64)
+_make_edit = _call("livevec_series_make_edit", _SeriesEdited, _slot, _u32, _u64, _u64, _i64)
 _push_many = _call("livevec_series_push_many", _SeriesPushed, _slot, _pointer, _size)
-_pop = _call("livevec_series_pop", _SeriesEdited, _slot)
-_write = _call("livevec_series_write", _SeriesEdited, _slot, _u64, _i64)
-_swap = _call("livevec_series_swap", _SeriesEdited, _slot, _u64, _u64)
-_truncate = _call("livevec_series_truncate", _SeriesEdited, _slot, _u64)
-_expire = _call("livevec_series_expire", _SeriesEdited, _slot, _u64)
 _get = _call("livevec_series_get", _SeriesElement, _slot, _u64)
 _first = _call("livevec_series_first", _SeriesCount, _slot)
 _count_size = _call("livevec_series_size", _SeriesCount, _slot)
@@ -73,8 +67,7 @@ _edits = _call("livevec_series_edits", _SeriesCount, _slot)
 _reduce = _call("livevec_series_reduce", _SeriesReduced, _slot, _u64, _u64)
 _ask = _call("livevec_series_ask", _SeriesReduced, _slot, _u64, _u64)
 _read = _call("livevec_series_read", _SeriesScanned, _slot, _u64, _u64, _pointer, _size)
-_scan_inclusive = _call("livevec_series_scan_inclusive", _SeriesScanned, _slot, _u64, _u64, _u64, _pointer, _size, by=_released)
-_scan_exclusive = _call("livevec_series_scan_exclusive", _SeriesScanned, _slot, _u64, _u64, _u64, _pointer, _size, by=_released)
+_scan = _call("livevec_series_scan", _SeriesScanned, _slot, _u32, _flag, _u64, _u64, _u64, _pointer, _size, by=_released)
 
 
 class _Answer(Protocol):

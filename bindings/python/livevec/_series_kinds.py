@@ -12,7 +12,7 @@ from ._library import _call, _pointer, _released, _size, _u32
 from ._records import _Kept, _laid_out
 from ._refusals import _PLACED, NotKept, _refuse
 from ._scans import _CELLS, Column
-from ._series_calls import _kept, _SeriesReduced, _SeriesScanned, _slot, _u64
+from ._series_calls import _kept, _scan, _SeriesReduced, _slot, _u64
 from ._series_ranges import _SeriesRanges
 from ._structures import _Total, _Values
 
@@ -41,9 +41,6 @@ _write_many = _call("livevec_series_write_many", _SeriesMany, _slot, _pointer, _
 _value = _call("livevec_series_value", _SeriesReduced, _slot, _u32, _u64, _u64)
 _exact_sum = _call("livevec_series_exact_sum", _SeriesSummed, _slot, _u64, _u64)
 _value_many = _call("livevec_series_value_many", _SeriesMany, _slot, _u32, _pointer, _pointer, _size, by=_released)
-_columns_inclusive, _columns_exclusive = (
-    {name: _call(f"livevec_series_scan_{way}_{name}", _SeriesScanned, _slot, _u64, _u64, _u64, _pointer, _size, by=_released)
-     for name in ("sum", "least", "greatest", "best", "affine", "automaton")} for way in ("inclusive", "exclusive"))
 
 
 def _all_kept(told: _SeriesMany, what: str) -> None:
@@ -74,13 +71,13 @@ class _SeriesKinds(_SeriesRanges, _ManyByKind):
         """The running values of a range by one kind, the element itself included, as one column, or a piece of it: `at` and `most` are as
         `scan_inclusive` has them, and so is what a piece costs. Other threads run meanwhile. Raises BadRange, NotKept, MemoryError; ValueError
         of what is no kind."""
-        return self._column(_columns_inclusive, _kind_of(kind), lo, hi, at, most)
+        return self._column(True, _kind_of(kind), lo, hi, at, most)
 
     def scan_exclusive_by(
         self, kind: Union[Kind, str], lo: Optional[int] = None, hi: Optional[int] = None, *, at: Optional[int] = None, most: Optional[int] = None,
     ) -> Column:
         """The same, the element itself excluded. Raises as `scan_inclusive_by` does."""
-        return self._column(_columns_exclusive, _kind_of(kind), lo, hi, at, most)
+        return self._column(False, _kind_of(kind), lo, hi, at, most)
 
     def scan_inclusive_into(
         self, kind: Union[Kind, str], buffer: Union[WriteableBuffer, _NumpyArray], lo: Optional[int] = None, hi: Optional[int] = None, *,
@@ -89,14 +86,14 @@ class _SeriesKinds(_SeriesRanges, _ManyByKind):
         """Writes such a piece into the front of a buffer, as many cells as that takes, and gives how many they are: the next piece goes on at `at`
         and as many. The buffer is as `Vector.scan_inclusive_into` wants it, and what it has behind stays. Raises what `scan_inclusive_by`
         raises but MemoryError; the buffer is then as it was."""
-        return self._fill(_columns_inclusive, _kind_of(kind), buffer, lo, hi, at)
+        return self._fill(True, _kind_of(kind), buffer, lo, hi, at)
 
     def scan_exclusive_into(
         self, kind: Union[Kind, str], buffer: Union[WriteableBuffer, _NumpyArray], lo: Optional[int] = None, hi: Optional[int] = None, *,
         at: Optional[int] = None,
     ) -> int:
         """The same, the element itself excluded. Raises as `scan_inclusive_into` does."""
-        return self._fill(_columns_exclusive, _kind_of(kind), buffer, lo, hi, at)
+        return self._fill(False, _kind_of(kind), buffer, lo, hi, at)
 
     # Within.
 
@@ -122,25 +119,21 @@ class _SeriesKinds(_SeriesRanges, _ManyByKind):
         _all_kept(did, "ranges")
         return did.edit
 
-    def _column(
-        self, calls: dict[str, Callable[..., _SeriesScanned]], kind: Kind, lo: Optional[int], hi: Optional[int], at: Optional[int], most: Optional[int],
-    ) -> Column:
+    def _column(self, inclusive: bool, kind: Kind, lo: Optional[int], hi: Optional[int], at: Optional[int], most: Optional[int]) -> Column:
         lo, at, hi, length = self._piece(lo, hi, at, most)
         of, count = _CELLS[kind]
         width = count * struct.calcsize(of)
         room = bytearray(max(length, 1) * width)
-        did = _kept(calls[kind.name.lower()](self._at, lo, at, hi, ctypes.byref(_address(room)), length), lo, hi)
+        did = _kept(_scan(self._at, kind.value, inclusive, lo, at, hi, ctypes.byref(_address(room)), length), lo, hi)
         cells = memoryview(room)[: did.length * width]
         # no view of several dimensions has none of its rows
         return Column(did.edit, cells.cast(of) if count == 1 or not cells else cells.cast(of, [did.length, count]))
 
-    def _fill(
-        self, calls: dict[str, Callable[..., _SeriesScanned]], kind: Kind, buffer: Any, lo: Optional[int], hi: Optional[int], at: Optional[int],
-    ) -> int:
+    def _fill(self, inclusive: bool, kind: Kind, buffer: Any, lo: Optional[int], hi: Optional[int], at: Optional[int]) -> int:
         of, count = _CELLS[kind]
         view = _as_column(buffer, of, count)
         lo, at, hi, _ = self._piece(lo, hi, at, None)
         length = view.nbytes // (count * struct.calcsize(of))
         # an address is needed also where there is nothing to write
         room: WriteableBuffer = view if length else bytearray(16)
-        return _kept(calls[kind.name.lower()](self._at, lo, at, hi, ctypes.byref(_address(room)), length), lo, hi).length
+        return _kept(_scan(self._at, kind.value, inclusive, lo, at, hi, ctypes.byref(_address(room)), length), lo, hi).length

@@ -4,7 +4,7 @@ from __future__ import annotations
 from typing import TYPE_CHECKING, Optional
 
 from ._kinds import _SEARCHES
-from ._library import _call, _i64
+from ._library import _call, _i64, _u32
 from ._records import _Kept, _laid_out
 from ._series_calls import _kept, _slot, _u64
 from ._series_kinds import _SeriesKinds
@@ -24,7 +24,7 @@ class _SeriesFound(_Kept):
     found: flag
 
 
-_searches = {name: _call(f"livevec_series_where_{name}", _SeriesFound, _slot, _u64, _u64, *[_i64] * numbers) for name, numbers in _SEARCHES.items()}
+_find = _call("livevec_series_find", _SeriesFound, _slot, _u32, _u64, _u64, _i64)
 
 
 class _SeriesPlaces(_SeriesKinds):
@@ -32,7 +32,7 @@ class _SeriesPlaces(_SeriesKinds):
 
     __slots__ = ()
 
-    def _located(self, what: str, lo: Optional[int], hi: Optional[int], *number: int) -> Optional[_SeriesFound]:
+    def _located(self, what: str, lo: Optional[int], hi: Optional[int], number: int = 0) -> Optional[_SeriesFound]:
         start, end = self._range(lo, hi)
-        told = _kept(_searches[what](self._at, start, end, *number), start, end)
+        told = _kept(_find(self._at, _SEARCHES[what], start, end, number), start, end)
         return told if told.found else None

@@ -155,6 +155,9 @@ class SharedSamples(_SharedByIndex[Samples]):
         """As `Samples.times`: a copy."""
         return self._read(lambda samples: samples.times(lo, hi))
 
+    def _columns(self) -> tuple[array[int], ...]:
+        return self._read(lambda samples: (samples.to_array(), samples.times()))
+
     def times_into(self, buffer: Union[WriteableBuffer, _NumpyArray], lo: Optional[int] = None, hi: Optional[int] = None) -> int:
         """As `Samples.times_into`, all after one edit."""
         return self._read(lambda samples: samples.times_into(buffer, lo, hi))

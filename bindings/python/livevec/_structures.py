@@ -2,7 +2,7 @@
 from __future__ import annotations
 
 import ctypes
-from typing import TYPE_CHECKING
+from typing import TYPE_CHECKING, ClassVar
 
 from ._limits import SUMMARY_BYTES
 from ._records import _laid_out, _Refused
@@ -14,28 +14,30 @@ if TYPE_CHECKING:
 class _Slot(ctypes.Structure):
     # A slot is never copied: it lies in the object that owns it, and is passed by its address alone.
     full_: bool
+    # what it holds, by the number by which C frees that
+    sort: ClassVar[int]
     _fields_ = [("full_", ctypes.c_bool), ("at_", ctypes.c_void_p), ("busy_", ctypes.c_ubyte)]
 
 
 # Slots of several types, so that ctypes refuses one in the place of another.
 class _VectorSlot(_Slot):
-    pass
+    sort = 0
 
 
 class _JobSlot(_Slot):
-    pass
+    sort = 1
 
 
 class _OutcomeSlot(_Slot):
-    pass
+    sort = 2
 
 
 class _BoardSlot(_Slot):
-    pass
+    sort = 4
 
 
 class _SeatSlot(_Slot):
-    pass
+    sort = 5
 
 
 class _Table(ctypes.Structure):

@@ -6,7 +6,7 @@ from array import array
 from typing import TYPE_CHECKING, Any, Iterable, Optional, Sequence, TypeVar, Union
 
 from ._automaton import _table_of
-from ._calls import _free, _new, _new_of, _new_with_table, _save, _saved_length
+from ._calls import _new, _new_of, _new_with_table, _save, _saved_length
 from ._claims import _Claims
 from ._edits import _Edits
 from ._elements import _counted
@@ -45,7 +45,6 @@ class Vector(_Edits, _Questions, _Scans, _Claims, _Saved):
     """
 
     __slots__ = ("_limits",)
-    _freed = _free
 
     def __init__(self, elements: Iterable[int] = (), *, most_buckets: int = MOST_BUCKETS, most_edits: int = MOST_EDITS,
                  table: Optional[Sequence[Sequence[int]]] = None, kind: Union[Kind, str, None] = None) -> None:

@@ -38,18 +38,18 @@ macro_rules! is_searched {
             /// # }
             /// ```
             pub fn where_least(&self, range: impl Indices) -> Result<Option<Placed>, crate::Refusal> {
-                self.placed(crate::raw::Sought::Least, range)
+                self.placed(crate::raw::Wanted::Least, range)
             }
 
             /// The first of the greatest elements, and its index; none of an empty range. It asks the kind of the greatest. Refused as `where_least`.
             pub fn where_greatest(&self, range: impl Indices) -> Result<Option<Placed>, crate::Refusal> {
-                self.placed(crate::raw::Sought::Greatest, range)
+                self.placed(crate::raw::Wanted::Greatest, range)
             }
 
             /// The indices of the best run: of several the one that ends first, and of those the shortest. There is none of an empty range. It asks the kind
             /// of best runs. Refused as `where_least`.
             pub fn where_best(&self, range: impl Indices) -> Result<Option<BestRun>, crate::Refusal> {
-                let told = self.found(crate::raw::Sought::Best, range)?;
+                let told = self.found(crate::raw::Wanted::Best, range, 0)?;
                 Ok(told.map(|found| BestRun { range: found.lo..found.hi, sum: crate::places::total(found.sum_high, found.sum_low) }))
             }
 
@@ -64,12 +64,12 @@ macro_rules! is_searched {
             /// # }
             /// ```
             pub fn where_reaches(&self, range: impl Indices, sum: i64) -> Result<Option<$index>, crate::Refusal> {
-                Ok(self.found(crate::raw::Sought::Reaches(sum), range)?.map(|found| found.hi))
+                Ok(self.found(crate::raw::Wanted::Reaches, range, sum)?.map(|found| found.hi))
             }
 
             /// The greatest start from which on the elements of a range, up to its end, do; none if they do from no start. Else as `where_reaches`.
             pub fn where_reaches_back(&self, range: impl Indices, sum: i64) -> Result<Option<$index>, crate::Refusal> {
-                self.index_of(crate::raw::Sought::ReachesBack(sum), range)
+                self.index_of(crate::raw::Wanted::ReachesBack, range, sum)
             }
 
             /// The index of the first element of a range that is at least `bound`; none if no element is. It asks the kind of the greatest. Refused as
@@ -83,36 +83,42 @@ macro_rules! is_searched {
             /// # }
             /// ```
             pub fn where_first_at_least(&self, range: impl Indices, bound: i64) -> Result<Option<$index>, crate::Refusal> {
-                self.index_of(crate::raw::Sought::FirstAtLeast(bound), range)
+                self.index_of(crate::raw::Wanted::FirstAtLeast, range, bound)
             }
 
             /// The same of the first element that is at most `bound`. It asks the kind of the least.
             pub fn where_first_at_most(&self, range: impl Indices, bound: i64) -> Result<Option<$index>, crate::Refusal> {
-                self.index_of(crate::raw::Sought::FirstAtMost(bound), range)
+                self.index_of(crate::raw::Wanted::FirstAtMost, range, bound)
             }
 
             /// The same of the last element that is at least `bound`.
             pub fn where_last_at_least(&self, range: impl Indices, bound: i64) -> Result<Option<$index>, crate::Refusal> {
-                self.index_of(crate::raw::Sought::LastAtLeast(bound), range)
+                self.index_of(crate::raw::Wanted::LastAtLeast, range, bound)
             }
 
             /// The same of the last element that is at most `bound`. It asks the kind of the least.
             pub fn where_last_at_most(&self, range: impl Indices, bound: i64) -> Result<Option<$index>, crate::Refusal> {
-                self.index_of(crate::raw::Sought::LastAtMost(bound), range)
+                self.index_of(crate::raw::Wanted::LastAtMost, range, bound)
             }
 
-            fn found(&self, what: crate::raw::Sought, $range: impl Indices) -> Result<Option<crate::raw::Found<$index>>, crate::Refusal> {
+            fn found(
+                &self,
+                wanted: crate::raw::Wanted,
+                $range: impl Indices,
+                x: i64,
+            ) -> Result<Option<crate::raw::Found<$index>>, crate::Refusal> {
                 let $it = self;
                 let (lo, hi) = $ends;
-                self.raw.find(what, lo, hi)
+                let told = self.raw.find(wanted, lo, hi, x)?;
+                Ok(told.found.then_some(told))
             }
 
-            fn placed(&self, what: crate::raw::Sought, range: impl Indices) -> Result<Option<Placed>, crate::Refusal> {
-                Ok(self.found(what, range)?.map(|found| Placed { index: found.lo, value: found.value }))
+            fn placed(&self, wanted: crate::raw::Wanted, range: impl Indices) -> Result<Option<Placed>, crate::Refusal> {
+                Ok(self.found(wanted, range, 0)?.map(|found| Placed { index: found.lo, value: found.value }))
             }
 
-            fn index_of(&self, what: crate::raw::Sought, range: impl Indices) -> Result<Option<$index>, crate::Refusal> {
-                Ok(self.found(what, range)?.map(|found| found.lo))
+            fn index_of(&self, wanted: crate::raw::Wanted, range: impl Indices, x: i64) -> Result<Option<$index>, crate::Refusal> {
+                Ok(self.found(wanted, range, x)?.map(|found| found.lo))
             }
         }
     };

@@ -30,8 +30,8 @@ use std::ptr;
 use answers::{Count, Element, Many, Number, PushedMany, Short, Summed, says};
 pub(crate) use answers::{Edited, Ends, Found, Reduced, Says, Scanned, SeriesReduced, SixValues};
 pub(crate) use board::{Board, Seat};
-pub(crate) use calls::Sought;
-use calls::{array_calls, buffer_calls, calls, cells, columns, counts, searches};
+use calls::{ALL_SIX, array_calls, buffer_calls, calls, cells, counts};
+pub(crate) use calls::{EditKind, Wanted};
 pub(crate) use jobs::{Job, Outcome};
 pub use queries::Target;
 pub(crate) use queries::{MOST_QUERIES, NAME_BYTES, Note, Queries, Query};
@@ -63,6 +63,23 @@ impl Slot {
         let told = call(slot.get()).answered()?;
         Ok((slot, told))
     }
+}
+
+unsafe extern "C" {
+    fn livevec_free_slot(slot: *mut Slot, sort: Sort) -> u32;
+}
+
+/// What a slot holds that is freed: a `livevec_sort` of C.
+#[repr(u32)]
+enum Sort {
+    Vector = 0,
+    Job = 1,
+    Outcome = 2,
+    Batch = 3,
+    Board = 4,
+    Seat = 5,
+    Series = 6,
+    Queries = 7,
 }
 
 /// A value in a box of its own; refused with `NoMemory` where there is none, for `Box::new` would end the process.

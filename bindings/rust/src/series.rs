@@ -18,6 +18,7 @@ pub type IntoElements = Through<Series>;
 
 use crate::elements::Through;
 use crate::indices::wide;
+use crate::raw::EditKind;
 use crate::{AsIndex, Indices, Kind, Refusal, RefusedAt, Value, Values, raw};
 
 /// A vector of `i64` that goes on: its elements and edits are bounded by memory alone, and elements at its front may expire.
@@ -83,7 +84,7 @@ impl Series {
 
     /// Puts an element at the end. O(1) amortised, and as much again for each tree. Refused with `Worn`, `Full`, `NoMemory`, in this order.
     pub fn push(&mut self, value: i64) -> Result<Pushed, Refusal> {
-        self.raw.push(value).map(|did| Pushed { edit: did.edit, index: did.place })
+        self.raw.edit(EditKind::Push, 0, 0, value).map(|did| Pushed { edit: did.edit, index: did.place })
     }
 
     /// Pushes each element in order, by one call: all are pushed, or none. Linear. Tells the number of the last edit.
@@ -95,28 +96,28 @@ impl Series {
 
     /// Drops the last element. O(log n). Refused with `Worn`, `Empty`, in this order.
     pub fn pop(&mut self) -> Result<Popped, Refusal> {
-        self.raw.pop().map(|did| Popped { edit: did.edit, value: did.value })
+        self.raw.edit(EditKind::Pop, 0, 0, 0).map(|did| Popped { edit: did.edit, value: did.value })
     }
 
     /// Overwrites an element. O(log n) for each tree. Refused with `Worn`, `NotKept`, in this order.
     pub fn write(&mut self, index: impl AsIndex, value: i64) -> Result<Written, Refusal> {
-        self.raw.write(wide(index), value).map(|did| Written { edit: did.edit, before: did.value })
+        self.raw.edit(EditKind::Write, wide(index), 0, value).map(|did| Written { edit: did.edit, before: did.value })
     }
 
     /// Exchanges the elements under two indices, which may be one. O(log n) for each tree. Refused with `Worn`, `NotKept`, in this order.
     pub fn swap(&mut self, first: impl AsIndex, second: impl AsIndex) -> Result<Swapped, Refusal> {
-        self.raw.swap(wide(first), wide(second)).map(|did| Swapped { edit: did.edit, first: did.value })
+        self.raw.edit(EditKind::Swap, wide(first), wide(second), 0).map(|did| Swapped { edit: did.edit, first: did.value })
     }
 
     /// Drops the elements from an index on, which is [`size`](Series::size) then. O(log n). Refused with `Worn`, `NotKept`, in this order.
     pub fn truncate(&mut self, size: impl AsIndex) -> Result<Dropped, Refusal> {
-        self.raw.truncate(wide(size)).map(|did| Dropped { edit: did.edit, dropped: did.place })
+        self.raw.edit(EditKind::Truncate, wide(size), 0, 0).map(|did| Dropped { edit: did.edit, dropped: did.place })
     }
 
     /// Drops the elements before an index, which is [`first`](Series::first) then. The others keep their indices. O(1) amortised. It gives memory back,
     /// and is never refused for memory. Refused with `Worn`, `NotKept`, in this order.
     pub fn expire(&mut self, index: impl AsIndex) -> Result<Dropped, Refusal> {
-        self.raw.expire(wide(index)).map(|did| Dropped { edit: did.edit, dropped: did.place })
+        self.raw.edit(EditKind::Expire, wide(index), 0, 0).map(|did| Dropped { edit: did.edit, dropped: did.place })
     }
 
     /// The element under an index. O(1). Refused with `NotKept` alone.
@@ -242,7 +243,7 @@ impl Series {
 
     fn running(&self, inclusive: bool, range: impl Indices) -> Result<Running<'_>, Refusal> {
         let (lo, hi) = self.ends(range);
-        self.raw.scan_inclusive(lo, lo, hi, &mut [])?;
+        self.raw.scan_six(inclusive, lo, lo, hi, &mut [])?;
         Running::new(self, inclusive, lo, hi)
     }
 

@@ -35,11 +35,7 @@ impl<'a> Running<'a> {
     }
 
     fn fill(&mut self) {
-        let (raw, room) = (&self.series.raw, &mut self.room);
-        let did = match self.inclusive {
-            true => raw.scan_inclusive(self.lo, self.at, self.hi, room),
-            false => raw.scan_exclusive(self.lo, self.at, self.hi, room),
-        };
+        let did = self.series.raw.scan_six(self.inclusive, self.lo, self.at, self.hi, &mut self.room);
         self.filled = did.expect("the range is kept").length as usize;
         self.given = 0;
         self.at += self.filled as u64;

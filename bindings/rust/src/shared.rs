@@ -274,6 +274,17 @@ impl<T: Sharing> Drop for Shared<T> {
     }
 }
 
+/// As `==` of what is shared: by elements, and of samples by times too. What the other shares is copied under its lock, and then compared under this one's,
+/// so that no thread waits for both. Linear. Panics within a `with` of its own thread, and where there is no memory for the copy.
+impl<T: Sharing + PartialEq> PartialEq for Shared<T> {
+    fn eq(&self, other: &Shared<T>) -> bool {
+        let same = |theirs| self.lock.read(|of, _| *of == theirs);
+        Arc::ptr_eq(&self.lock, &other.lock) || other.try_clone().and_then(same).expect("both can be read, and there is memory for a copy")
+    }
+}
+
+impl<T: Sharing + Eq> Eq for Shared<T> {}
+
 impl<T: Sharing> fmt::Debug for Shared<T> {
     fn fmt(&self, f: &mut fmt::Formatter<'_>) -> fmt::Result {
         f.debug_struct("Shared").finish_non_exhaustive()

@@ -111,34 +111,35 @@ impl Vector {
 
     /// Puts an element at the end. O(log n) amortised. Refused with `Worn`, `Full`, `NoMemory`, in this order.
     pub fn push(&mut self, value: i64) -> Result<Pushed, Refusal> {
-        self.raw.push(value).map(|did| Pushed { edit: did.edit, index: did.place })
+        self.raw.edit(Edit::Push(value)).map(|did| Pushed { edit: did.edit, index: did.place })
     }
 
     /// Drops the last element. O(log n). Refused with `Worn`, `Empty`, `NoMemory`, in this order.
     pub fn pop(&mut self) -> Result<Popped, Refusal> {
-        self.raw.pop().map(|did| Popped { edit: did.edit, value: did.value })
+        self.raw.edit(Edit::Pop).map(|did| Popped { edit: did.edit, value: did.value })
     }
 
     /// Overwrites an element. O(log n) amortised. Refused with `Worn`, `OutOfRange`, `NoMemory`, in this order.
     pub fn write(&mut self, index: impl AsIndex, value: i64) -> Result<Written, Refusal> {
-        self.raw.write(narrow(index), value).map(|did| Written { edit: did.edit, before: did.value })
+        self.raw.edit(Edit::Write { index: narrow(index), value }).map(|did| Written { edit: did.edit, before: did.value })
     }
 
     /// Makes room for so many elements in all: linear in the room. Refused with `Worn`, `TooLarge`, `NoMemory`, in this order. It is an edit
     /// like any other.
     pub fn reserve(&mut self, elements: impl AsIndex) -> Result<Reserved, Refusal> {
-        self.raw.reserve(narrow(elements)).map(|did| Reserved { edit: did.edit, capacity: did.place })
+        self.raw.edit(Edit::Reserve(narrow(elements))).map(|did| Reserved { edit: did.edit, capacity: did.place })
     }
 
     /// Exchanges the elements at two indices, which may be one. O(log n) amortised. Refused with `Worn`, `OutOfRange`, `NoMemory`, in this order.
     pub fn swap(&mut self, first: impl AsIndex, second: impl AsIndex) -> Result<Swapped, Refusal> {
-        self.raw.swap(narrow(first), narrow(second)).map(|did| Swapped { edit: did.edit, first: did.value })
+        let edit = Edit::Swap { first: narrow(first), second: narrow(second) };
+        self.raw.edit(edit).map(|did| Swapped { edit: did.edit, first: did.value })
     }
 
     /// Keeps so many elements, the first ones, and drops the others. O(log n) amortised. Refused with `Worn`, `OutOfRange`, `NoMemory`, in this order. It gives
     /// no memory back.
     pub fn truncate(&mut self, elements: impl AsIndex) -> Result<Truncated, Refusal> {
-        self.raw.truncate(narrow(elements)).map(|did| Truncated { edit: did.edit, dropped: did.place })
+        self.raw.edit(Edit::Truncate(narrow(elements))).map(|did| Truncated { edit: did.edit, dropped: did.place })
     }
 
     /// Why an edit would be refused, want of memory apart, or `Ok` where it would be accepted. O(1), and changes nothing.

@@ -223,6 +223,43 @@ fn threads_share_a_series() {
     assert!(heard.is_sorted_by(|a, b| a.1 < b.1) && heard.last().unwrap().1 == 8000);
 }
 
+/// The elements count, and not where they stand or after which edit; samples have times too.
+#[test]
+fn they_are_compared() {
+    let vectors = [[1, 2], [1, 2], [1, 3]].map(|of| Shared::new(Vector::try_from(of).unwrap()));
+    assert!(vectors[0] == vectors[1] && vectors[0] != vectors[2] && vectors[0] == vectors[0].clone());
+    vectors[2].write(1, 2).unwrap();
+    assert!(vectors[1] == vectors[2]);
+    let series = [[1, 2, 3], [9, 2, 3]].map(|of| Shared::new(Series::try_from(of).unwrap()));
+    assert!(series[0] != series[1]);
+    for it in &series {
+        it.expire(1).unwrap();
+    }
+    assert!(series[0] == series[1]);
+    let samples = [5, 6].map(|time| {
+        let shared = Shared::new(Samples::new().unwrap());
+        shared.push(time, 7).unwrap();
+        shared
+    });
+    assert!(samples[0] != samples[1] && samples[0] == samples[0].clone());
+}
+
+/// Each of two threads compares the other way round, and a third edits meanwhile: none waits for ever.
+#[test]
+fn they_are_compared_both_ways_at_once() {
+    let (a, b) = (Shared::new(Vector::try_from([1; 64]).unwrap()), Shared::new(Vector::try_from([1; 64]).unwrap()));
+    let compare = |a: &Shared, b: &Shared| (0..500).filter(|_| a == b).count();
+    thread::scope(|scope| {
+        let both = [scope.spawn(|| compare(&a, &b)), scope.spawn(|| compare(&b, &a))];
+        for round in 0..100 {
+            a.write(0, round % 2).unwrap();
+        }
+        assert!(both.into_iter().all(|it| it.join().unwrap() <= 500));
+    });
+    a.write(0, 1).unwrap();
+    assert!(a == b);
+}
+
 #[test]
 fn a_vector_of_few_edits_goes_on() {
     let shared = Shared::new(Vector::of_kind(Kind::Sum, Limits::new(1, 6).unwrap()).unwrap());

@@ -173,7 +173,7 @@ pub(crate) struct Found<N: Number> {
     pub(crate) value: i64,
     pub(crate) sum_low: u64,
     pub(crate) sum_high: i64,
-    pub(super) found: bool,
+    pub(crate) found: bool,
 }
 
 /// A number of 128 bits: `livevec_total`.

@@ -1,6 +1,6 @@
 //! The C calls of jobs of many blocks and of subtrees, and a handle over them. What C asks of who calls is kept as `raw.rs` says.
 
-use super::{Boxed, Count, Says, Slot, Vector, says};
+use super::{Boxed, Count, Says, Slot, Sort, Vector, livevec_free_slot, says};
 use crate::Refusal;
 
 #[repr(C)]
@@ -20,7 +20,6 @@ unsafe extern "C" {
     fn livevec_accept_blocks(slot: *mut Slot, batch: *mut Slot) -> Taken;
     fn livevec_subtree(slot: *mut Slot, batch: *mut Slot, number: u32) -> Count<u32>;
     fn livevec_accept_subtree(slot: *mut Slot, batch: *mut Slot) -> Count<u32>;
-    fn livevec_free_batch(batch: *mut Slot) -> u32;
 }
 
 impl Vector {
@@ -71,6 +70,6 @@ impl Batch {
 impl Drop for Batch {
     fn drop(&mut self) {
         // SAFETY: nothing calls the slot any more. An empty one is left as it is.
-        unsafe { livevec_free_batch(self.slot.get()) };
+        unsafe { livevec_free_slot(self.slot.get(), Sort::Batch) };
     }
 }

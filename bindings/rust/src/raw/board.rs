@@ -3,7 +3,7 @@
 use std::mem::ManuallyDrop;
 use std::sync::{Arc, Mutex, MutexGuard, PoisonError};
 
-use super::{Boxed, Count, Edited, Element, Reduced, Says, Short, Slot, calls, counts, says};
+use super::{Boxed, Count, Edited, Element, Reduced, Says, Short, Slot, Sort, calls, counts, livevec_free_slot, says};
 use crate::Refusal;
 
 #[repr(C)]
@@ -21,8 +21,6 @@ unsafe extern "C" {
     fn livevec_board_take_back(board: *mut Slot, seat: *mut Slot) -> u32;
     fn livevec_board_close(board: *mut Slot) -> Count<u32>;
     fn livevec_closed_read(board: *mut Slot, buffer: *mut i64, room: usize, count: *mut u32) -> u32;
-    fn livevec_free_board(board: *mut Slot) -> u32;
-    fn livevec_free_seat(seat: *mut Slot) -> u32;
 }
 
 /// The slots of the seats of a board that were dropped. Each goes back before the board's next call: a drop may be on any thread, and the
@@ -99,7 +97,7 @@ calls! { Board:
 impl Drop for Board {
     fn drop(&mut self) {
         // SAFETY: the slot is full, and nothing calls it any more. Seats that are out stay good, says the header.
-        unsafe { livevec_free_board(self.slot.get()) };
+        unsafe { livevec_free_slot(self.slot.get(), Sort::Board) };
     }
 }
 
@@ -117,7 +115,7 @@ unsafe impl Send for SeatSlot {}
 impl Drop for SeatSlot {
     fn drop(&mut self) {
         // SAFETY: nothing calls the slot any more; where it is empty, C refuses.
-        unsafe { livevec_free_seat(self.0.get()) };
+        unsafe { livevec_free_slot(self.0.get(), Sort::Seat) };
     }
 }
 

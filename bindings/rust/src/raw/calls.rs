@@ -86,73 +86,36 @@ macro_rules! buffer_calls {
 }
 pub(super) use buffer_calls;
 
-/// What a search looks for, with the number that it compares with.
+/// What an edit is: a `livevec_edit_kind` of C.
+#[repr(u32)]
 #[derive(Clone, Copy)]
-pub(crate) enum Sought {
-    Least,
-    Greatest,
-    Best,
-    Reaches(i64),
-    ReachesBack(i64),
-    FirstAtLeast(i64),
-    FirstAtMost(i64),
-    LastAtLeast(i64),
-    LastAtMost(i64),
+pub(crate) enum EditKind {
+    Push = 1,
+    Pop = 2,
+    Write = 3,
+    Reserve = 4,
+    Swap = 5,
+    Truncate = 6,
+    Expire = 7,
 }
 
-/// Searches, which compare with nothing, or with a number.
-macro_rules! searches {
-    ($of:ident, $number:ty: [$($what:ident = $call:ident;)*] [$($by:ident = $call_by:ident;)*]) => {
-        unsafe extern "C" {
-            $(fn $call(slot: *mut crate::raw::Slot, lo: $number, hi: $number) -> crate::raw::Found<$number>;)*
-            $(fn $call_by(slot: *mut crate::raw::Slot, lo: $number, hi: $number, x: i64) -> crate::raw::Found<$number>;)*
-        }
-
-        impl $of {
-            /// Where something stands in a range, if it does.
-            pub(crate) fn find(
-                &self,
-                what: crate::raw::Sought,
-                lo: $number,
-                hi: $number,
-            ) -> Result<Option<crate::raw::Found<$number>>, crate::Refusal> {
-                let slot = self.at();
-                // SAFETY: see the head of this file.
-                let told = unsafe {
-                    match what {
-                        $(crate::raw::Sought::$what => $call(slot, lo, hi),)*
-                        $(crate::raw::Sought::$by(x) => $call_by(slot, lo, hi, x),)*
-                    }
-                };
-                let told = crate::raw::Says::answered(told)?;
-                Ok(told.found.then_some(told))
-            }
-        }
-    };
+/// What a search looks for: a `livevec_wanted` of C.
+#[repr(u32)]
+#[derive(Clone, Copy)]
+pub(crate) enum Wanted {
+    Least = 0,
+    Greatest = 1,
+    Best = 2,
+    Reaches = 3,
+    ReachesBack = 4,
+    FirstAtLeast = 5,
+    FirstAtMost = 6,
+    LastAtLeast = 7,
+    LastAtMost = 8,
 }
-pub(super) use searches;
 
-/// Scans by one kind: of each the call with an element itself, and the one without, of these parameters, which `call_of` gives as such a pointer.
-macro_rules! columns {
-    ($call:ident = $parameters:tt -> $answer:ty: $($kind:ident = $with_own:ident, $without:ident;)*) => {
-        unsafe extern "C" {
-            $(
-                fn $with_own $parameters -> $answer;
-                fn $without $parameters -> $answer;
-            )*
-        }
-
-        fn call_of(kind: crate::Kind, inclusive: bool) -> $call {
-            match (kind, inclusive) {
-                $(
-                    (crate::Kind::$kind, true) => $with_own,
-                    (crate::Kind::$kind, false) => $without,
-                )*
-            }
-        }
-    };
-}
-pub(super) use columns;
+/// In place of a kind's number, where a scan is by all six: `LIVEVEC_ALL_SIX`.
+pub(super) const ALL_SIX: u32 = 6;
 
 /// The cells of a column as C takes them. They are plain numbers of the size of C's, and are laid out like them: a total is one number of 128 bits whose
 /// low half comes first.

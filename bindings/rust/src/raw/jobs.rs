@@ -3,7 +3,7 @@
 
 use std::cell::UnsafeCell;
 
-use super::{Count, Says, Slot, Vector, boxed, calls, says};
+use super::{Count, Says, Slot, Sort, Vector, boxed, calls, livevec_free_slot, says};
 use crate::Refusal;
 
 #[repr(C)]
@@ -36,8 +36,6 @@ unsafe extern "C" {
     fn livevec_vet(slot: *mut Slot, outcome: *mut Slot) -> Vetted;
     fn livevec_accept(slot: *mut Slot, outcome: *mut Slot) -> Became;
     fn livevec_forget(slot: *mut Slot) -> u32;
-    fn livevec_free_job(job: *mut Slot) -> u32;
-    fn livevec_free_outcome(outcome: *mut Slot) -> u32;
 }
 
 calls! { Vector:
@@ -79,8 +77,8 @@ impl Drop for Work {
     fn drop(&mut self) {
         // SAFETY: nothing calls these slots any more. An empty slot is left as it is.
         unsafe {
-            livevec_free_job(self.job.get());
-            livevec_free_outcome(self.outcome.get());
+            livevec_free_slot(self.job.get(), Sort::Job);
+            livevec_free_slot(self.outcome.get(), Sort::Outcome);
         }
     }
 }

@@ -4,7 +4,7 @@ use std::cell::UnsafeCell;
 
 use super::answers::SeriesReduced;
 use super::series::Series;
-use super::{Boxed, Number, Reduced, Says, Short, SixValues, Slot, Vector, roomy, says};
+use super::{Boxed, Number, Reduced, Says, Short, SixValues, Slot, Sort, Vector, livevec_free_slot, roomy, says};
 use crate::{Kind, Refusal};
 
 /// How many bytes the name of a standing query has at most, and how many queries a set has.
@@ -74,7 +74,6 @@ unsafe extern "C" {
     fn livevec_notes(slot: *mut Slot, vector: *mut Slot, notes: *mut Note, room: usize) -> Noted<u32>;
     fn livevec_series_answer(slot: *mut Slot, series: *mut Slot, name: *const u8, name_length: usize) -> SeriesReduced;
     fn livevec_series_notes(slot: *mut Slot, series: *mut Slot, notes: *mut Note, room: usize) -> Noted<u64>;
-    fn livevec_free_queries(slot: *mut Slot) -> u32;
 }
 
 /// A set of standing queries of C. Its slot is full from `new` to the drop.
@@ -140,6 +139,6 @@ impl Queries {
 impl Drop for Queries {
     fn drop(&mut self) {
         // SAFETY: the slot is full, and nothing calls it any more.
-        unsafe { livevec_free_queries(self.slot.get()) };
+        unsafe { livevec_free_slot(self.slot.get(), Sort::Queries) };
     }
 }

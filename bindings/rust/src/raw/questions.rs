@@ -1,7 +1,7 @@
 //! The C calls that ask a vector: reductions, where something stands, and its summary.
 
 use super::summary::Summarised;
-use super::{Ends, Many, Reduced, SixValues, Slot, Summed, Vector, calls, roomy, searches};
+use super::{Ends, Found, Many, Reduced, SixValues, Slot, Summed, Vector, Wanted, calls, roomy};
 use crate::RefusedAt;
 
 unsafe extern "C" {
@@ -13,21 +13,9 @@ calls! { Vector:
     ask(lo: u32, hi: u32) -> Reduced = livevec_ask;
     value(kind: u32, lo: u32, hi: u32) -> Reduced = livevec_value;
     exact_sum(lo: u32, hi: u32) -> Summed<u32> = livevec_exact_sum;
+    find(wanted: Wanted, lo: u32, hi: u32, x: i64) -> Found<u32> = livevec_find;
     summary(lo: u32, hi: u32) -> Summarised = livevec_summary_of;
 }
-
-searches! { Vector, u32: [
-    Least = livevec_where_least;
-    Greatest = livevec_where_greatest;
-    Best = livevec_where_best;
-] [
-    Reaches = livevec_where_reaches;
-    ReachesBack = livevec_where_reaches_back;
-    FirstAtLeast = livevec_where_first_at_least;
-    FirstAtMost = livevec_where_first_at_most;
-    LastAtLeast = livevec_where_last_at_least;
-    LastAtMost = livevec_where_last_at_most;
-] }
 
 impl Vector {
     /// The values of each range by a kind.

@@ -1,21 +1,15 @@
 //! The C calls at a vector that edit it and read its elements, and the handle over it.
 
-use super::{Boxed, Edited, Element, Many, PushedMany, Short, Slot, array_calls, buffer_calls, calls, counts};
-use crate::raw::Says;
+use super::{
+    Boxed, EditKind, Edited, Element, Many, PushedMany, Short, Slot, Sort, array_calls, buffer_calls, calls, counts, livevec_free_slot,
+};
 use crate::{Edit, Refusal, RefusedAt};
 
 unsafe extern "C" {
     fn livevec_new(slot: *mut Slot, buckets: u32, edits: u32) -> u32;
     fn livevec_new_of(slot: *mut Slot, kind: u32, buckets: u32, edits: u32) -> u32;
     fn livevec_new_with_table(slot: *mut Slot, buckets: u32, edits: u32, table: *const [[u8; 4]; 8]) -> u32;
-    fn livevec_free(slot: *mut Slot) -> u32;
     fn livevec_write_many(slot: *mut Slot, indices: *const u32, values: *const i64, length: usize) -> Many<u32>;
-    fn livevec_verdict_push(slot: *mut Slot, value: i64) -> Short;
-    fn livevec_verdict_pop(slot: *mut Slot) -> Short;
-    fn livevec_verdict_write(slot: *mut Slot, index: u32, value: i64) -> Short;
-    fn livevec_verdict_reserve(slot: *mut Slot, elements: u32) -> Short;
-    fn livevec_verdict_swap(slot: *mut Slot, first: u32, second: u32) -> Short;
-    fn livevec_verdict_truncate(slot: *mut Slot, elements: u32) -> Short;
 }
 
 /// A vector of C. Its slot is full from `new` to the drop.
@@ -50,21 +44,16 @@ impl Vector {
         self.slot.get()
     }
 
+    /// Makes an edit.
+    pub(crate) fn edit(&self, edit: Edit) -> Result<Edited<u32>, Refusal> {
+        let (kind, index, second, value) = parts(edit);
+        self.make(kind, index, second, value)
+    }
+
     /// Why an edit would be refused, out of memory apart.
     pub(crate) fn verdict(&self, edit: Edit) -> Result<(), Refusal> {
-        let slot = self.at();
-        // SAFETY: as for each call of `calls.rs`.
-        let told = unsafe {
-            match edit {
-                Edit::Push(value) => livevec_verdict_push(slot, value),
-                Edit::Pop => livevec_verdict_pop(slot),
-                Edit::Write { index, value } => livevec_verdict_write(slot, index, value),
-                Edit::Reserve(elements) => livevec_verdict_reserve(slot, elements),
-                Edit::Swap { first, second } => livevec_verdict_swap(slot, first, second),
-                Edit::Truncate(elements) => livevec_verdict_truncate(slot, elements),
-            }
-        };
-        told.answered().map(drop)
+        let (kind, index, second, value) = parts(edit);
+        self.judge(kind, index, second, value).map(drop)
     }
 
     /// The last edit, where all were written; as many values as indices are given.
@@ -75,13 +64,21 @@ impl Vector {
     }
 }
 
+/// An edit as C takes it: what it is, its indices, and its element; 0 where it has none.
+fn parts(edit: Edit) -> (EditKind, u32, u32, i64) {
+    match edit {
+        Edit::Push(value) => (EditKind::Push, 0, 0, value),
+        Edit::Pop => (EditKind::Pop, 0, 0, 0),
+        Edit::Write { index, value } => (EditKind::Write, index, 0, value),
+        Edit::Reserve(elements) => (EditKind::Reserve, elements, 0, 0),
+        Edit::Swap { first, second } => (EditKind::Swap, first, second, 0),
+        Edit::Truncate(elements) => (EditKind::Truncate, elements, 0, 0),
+    }
+}
+
 calls! { Vector:
-    push(value: i64) -> Edited<u32> = livevec_push;
-    pop() -> Edited<u32> = livevec_pop;
-    write(index: u32, value: i64) -> Edited<u32> = livevec_write;
-    reserve(elements: u32) -> Edited<u32> = livevec_reserve;
-    swap(first: u32, second: u32) -> Edited<u32> = livevec_swap;
-    truncate(elements: u32) -> Edited<u32> = livevec_truncate;
+    make(kind: EditKind, index: u32, second: u32, value: i64) -> Edited<u32> = livevec_make_edit;
+    judge(kind: EditKind, index: u32, second: u32, value: i64) -> Short = livevec_judge_edit;
     get(index: u32) -> Element<u32> = livevec_get;
 }
 array_calls! { Vector:
@@ -106,6 +103,6 @@ counts! { Vector, u32:
 impl Drop for Vector {
     fn drop(&mut self) {
         // SAFETY: the slot is full, and nothing calls it any more.
-        unsafe { livevec_free(self.at()) };
+        unsafe { livevec_free_slot(self.at(), Sort::Vector) };
     }
 }

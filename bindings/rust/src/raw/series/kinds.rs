@@ -4,31 +4,29 @@ use std::ffi::c_void;
 
 use super::{Series, Slot};
 use crate::raw::answers::SeriesReduced;
-use crate::raw::{Ends, Many, Says, Scanned, SixValues, Summed, calls, cells, columns, roomy};
+use crate::raw::{ALL_SIX, Ends, Many, Says, Scanned, SixValues, Summed, calls, cells, roomy};
 use crate::{Column, Refusal, RefusedAt};
 
 unsafe extern "C" {
     fn livevec_series_write_many(slot: *mut Slot, indices: *const u64, values: *const i64, length: usize) -> Many<u64>;
     fn livevec_series_value_many(slot: *mut Slot, kind: u32, ranges: *const Ends<u64>, answers: *mut SixValues, length: usize)
     -> Many<u64>;
+    fn livevec_series_scan(
+        slot: *mut Slot,
+        kind: u32,
+        inclusive: bool,
+        lo: u64,
+        at: u64,
+        hi: u64,
+        column: *mut c_void,
+        length: usize,
+    ) -> Scanned<u64>;
 }
 
 calls! { Series:
     prepare(kind: u32) -> u32 = livevec_series_prepare;
     value(kind: u32, lo: u64, hi: u64) -> SeriesReduced = livevec_series_value;
     exact_sum(lo: u64, hi: u64) -> Summed<u64> = livevec_series_exact_sum;
-}
-
-/// A call of C that fills a column, whatever its cells are.
-type ScanCall = unsafe extern "C" fn(*mut Slot, u64, u64, u64, *mut c_void, usize) -> Scanned<u64>;
-
-columns! { ScanCall = (slot: *mut Slot, lo: u64, at: u64, hi: u64, column: *mut c_void, length: usize) -> Scanned<u64>:
-    Sum = livevec_series_scan_inclusive_sum, livevec_series_scan_exclusive_sum;
-    Least = livevec_series_scan_inclusive_least, livevec_series_scan_exclusive_least;
-    Greatest = livevec_series_scan_inclusive_greatest, livevec_series_scan_exclusive_greatest;
-    Best = livevec_series_scan_inclusive_best, livevec_series_scan_exclusive_best;
-    Affine = livevec_series_scan_inclusive_affine, livevec_series_scan_exclusive_affine;
-    Automaton = livevec_series_scan_inclusive_automaton, livevec_series_scan_exclusive_automaton;
 }
 
 impl Series {
@@ -43,7 +41,13 @@ impl Series {
     ) -> Result<Scanned<u64>, Refusal> {
         let length = column.len();
         // SAFETY: as for each call of `calls.rs`; at most so many cells are written as the column has.
-        unsafe { call_of(K::KIND, inclusive)(self.at(), lo, at, hi, cells::<K>(column), length) }.answered()
+        unsafe { livevec_series_scan(self.at(), K::KIND as u32, inclusive, lo, at, hi, cells::<K>(column), length) }.answered()
+    }
+
+    /// The same by all six kinds.
+    pub(crate) fn scan_six(&self, inclusive: bool, lo: u64, at: u64, hi: u64, buffer: &mut [SixValues]) -> Result<Scanned<u64>, Refusal> {
+        // SAFETY: as for each call of `calls.rs`; at most so many values are written as the buffer has.
+        unsafe { livevec_series_scan(self.at(), ALL_SIX, inclusive, lo, at, hi, buffer.as_mut_ptr().cast(), buffer.len()) }.answered()
     }
 
     /// Writes so many values under as many indices.
