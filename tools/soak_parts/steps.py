@@ -9,6 +9,7 @@ from concurrent.futures import ProcessPoolExecutor
 from soak_parts.failing import KILLED, library
 from soak_parts.logs import Log, check_log
 from soak_parts.program import PROGRAM, stop
+from soak_parts.swapped import swapped
 
 LOG = "livevec 2 40 2\n" + "".join(f"j {edit}\n" for edit in ("push 5", "push -6", "push 7", "swap 0 2", "write 1 9", "pop", "push 8"))
 # what may lie beside a log: an older one, what a killed compaction left, and an end that isn't whole
@@ -69,7 +70,8 @@ def step_each(room, place, words, how):
 
 
 def steps(room):
-    """A compaction and a server's start are killed before each of their calls, or each call fails: the log is the old one or the new one, and is gone on with."""
+    """A compaction and a server's start are killed before each of their calls, or each call fails: the log is the old one or the new one, and is gone on with.
+    Then files are exchanged meanwhile."""
     library(room)
     runs = [(place, words, how) for place in PLACES for words in COMMANDS for how in (KILLED, errno.EIO)]
     with ProcessPoolExecutor(4) as lanes:
@@ -78,3 +80,4 @@ def steps(room):
         stop(f"no more than {min(counts)} calls were counted: {runs[counts.index(min(counts))]}")
     kills = sum(count for count, run in zip(counts, runs) if run[2] == KILLED)
     print(f"steps: {kills} kills before a call and {sum(counts) - kills} calls that failed, of compact and of a server on {len(PLACES)} logs: each had its elements and numbers, and was gone on with")
+    print(f"steps: in {swapped(room)} other runs files were exchanged, or could not be flushed, while a log was made anew or begun: no other file was replaced or removed, and it was told")

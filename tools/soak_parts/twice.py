@@ -85,9 +85,35 @@ def at_once(folder, dice, turn):
     return served, away
 
 
+def beside_its_log(folder, name, tries):
+    """A server has the file that another log's old or new file would take: that log isn't made anew, neither by its own server nor otherwise, and each update
+    of the first is there. Says how long others took until they were turned away."""
+    os.makedirs(f"{folder}/deep")
+    for place, text in (("x", "livevec 2 0 0\n"), (f"x.{name}", "livevec 2 0 0\n"), ("third", "push 3\n")):
+        open(f"{folder}/{place}", "w").write(text)
+    log, beside, told = f"{folder}/x", f"{folder}/x.{name}", 0
+    own = Paced([PROGRAM, "serve", "--compact-at", "60", "--log", log, f"{folder}/first"], folder, [f"{folder}/first"])
+    # it has looked beside its log before another server comes
+    if not own.turn([["push 1"]]):
+        stop(f"the server beside whose log x.{name} is to be served said {open(own.said).read()!r}")
+    other = Paced([PROGRAM, "serve", "--log", beside, f"{folder}/deep/second"], f"{folder}/deep", [f"{folder}/deep/second"])
+    while other.turn([["push 2"]]) and own.turn([["push 1"]]) and told < 99:
+        told += 1
+    said = f"livevec: the log isn't made anew: '{log}.{name}' is locked, as by a server that writes it".encode()
+    status, text = own.end()
+    if status or said not in text:
+        stop(f"a server beside whose log x.{name} is served: status {status}, {text!r}")
+    took = [turned_away(folder, words) for words in tries]
+    if not other.turn([["push 2"]]) or other.end() != (0, b"") or Log(beside).list() != [2] * (told + 2) or not set(Log(log).list()) <= {1}:
+        stop(f"the server of x.{name} said {open(other.said).read()!r}, and there are {Log(beside).list()} after {told + 2} updates")
+    return took
+
+
 def twice(room):
     """Several programs on one log: one at a time has it, and any other is told at once, before a file is touched."""
     dice, took, had, away = random.Random(SEED), [], 0, 0
+    took += beside_its_log(f"{room}/kept", "1", (["compact", "x"], ["serve", "--log", "x", "third"]))
+    took += beside_its_log(f"{room}/made", "compacting", (["compact", "x"], ["compact", "--drop-old", "x"], ["serve", "--drop-old", "--log", "x", "third"]))
     for turn in range(ROUNDS // 10):
         took += beside_one(room, dice, turn)
         served, others = at_once(room, dice, turn)

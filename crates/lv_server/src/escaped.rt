@@ -2,6 +2,18 @@
 
 use std::fmt;
 
+// Letters that stand by themselves and show nothing: fillers of Hangul, a pattern of Braille without a dot, a note without a head, and blanks of hieroglyphs.
+const BLANKS: [char; 8] = [
+    '\u{115f}',
+    '\u{1160}',
+    '\u{2800}',
+    '\u{3164}',
+    '\u{ffa0}',
+    '\u{1d159}',
+    '\u{13441}',
+    '\u{13442}',
+];
+
 /// A name from the command line. What would end a line, speak to a terminal, or turn the order of what stands beside it is shown by its code, so that no name forges a message.
 #[derive(Clone, Copy)]
 pub struct Escaped<'a>(pub &'a str);
@@ -20,6 +32,9 @@ fn put<W: fmt::Write>(f: &mut fmt::Formatter<W>, letter: char) -> fmt::Result {
     if is_shown(letter) {
         return f.write_char(letter);
     }
+    if BLANKS.contains(&letter) {
+        return write!(f, "\\u{{{:x}}}", u32::from(letter));
+    }
     for shown in letter.escape_debug() {
         f.write_char(shown)?;
     }
@@ -32,7 +47,7 @@ pub fn is_shown(letter: char) -> bool {
     if letter.is_ascii() {
         return letter == ' ' || letter.is_ascii_graphic();
     }
-    letter.escape_debug().count() == 1
+    letter.escape_debug().count() == 1 && !BLANKS.contains(&letter)
 }
 
 /// Bytes from the command line that are no text: those of ASCII that can be seen stand for themselves, any other by its code.

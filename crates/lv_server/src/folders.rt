@@ -19,16 +19,24 @@ pub enum Found {
     Nothing,
     /// A regular file.
     Regular(Identity),
-    /// Something else, or nobody knows what.
+    /// Something else.
     Else,
+    /// Nothing can be there, since the name is too long.
+    TooLong,
+    /// Nobody knows what.
+    Unknown,
 }
 
 /// What lies under a name. No link is followed.
 pub fn found_at<R: Files>(rt: &R, name: &str) -> Found {
     match symlink_metadata(rt, name) {
         Ok(found) if found.is_file() => Found::Regular(Identity::of(&found)),
-        Err(error) if error.kind() == ErrorKind::NotFound => Found::Nothing,
-        _ => Found::Else,
+        Ok(_) => Found::Else,
+        Err(error) => match error.kind() {
+            ErrorKind::NotFound => Found::Nothing,
+            ErrorKind::InvalidFilename => Found::TooLong,
+            _ => Found::Unknown,
+        },
     }
 }
 

@@ -37,7 +37,7 @@ pub use log_server::serve_log;
 pub use names::Names;
 pub use opened_client::OpenedClient;
 pub use piped::Piped;
-pub use program_error::{ErrorText, ProgramError, Reason};
+pub use program_error::{ErrorText, Left, ProgramError, Reason};
 pub use server::{Plan, serve};
 pub use store_compaction::{Compacted, compact_file};
 pub use stored_log::LogPlan;

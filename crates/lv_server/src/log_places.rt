@@ -2,11 +2,13 @@
 
 use crate::folders::{COMPACTING, Found, KEPT, beside, found_at, sync_folder};
 use crate::identity::Identity;
-use crate::output_file::{Access, OutputFile};
+use crate::log_file::open_locked;
+use crate::output_file::{Access, OutputFile, Use};
 use crate::program_error::{ProgramError, Reason};
 use lv_script::Fault;
 use std::alloc::Global;
-use std::fs::{File, Files, OpenFile, hard_link, remove_file, rename};
+use std::fs::{File, Files, OpenFile, hard_link, rename};
+use std::os::unix::fs::{MetadataExt, fchown};
 
 /// The name of a log, and those beside it that are used when another log comes in its place.
 #[derive(Drop)]
@@ -48,27 +50,70 @@ impl<'a> LogPlaces<'a> {
         [kept, found_at(rt, self.made.as_str())]
     }
 
-    /// Sees that nothing but regular files are there, and none of them is the log itself, but for FILE.1: a replacement that was killed may have
-    /// left it that name.
-    pub fn see<R: Files>(&self, rt: &R, log: Identity) -> Result<(), ProgramError> {
+    /// Sees that nothing but regular files are there, which nobody has locked, and none of them is the log itself, but for FILE.1: a replacement that was
+    /// killed may have left it that name.
+    pub fn see<R: Files<File = File>>(&self, rt: &R, log: Identity) -> Result<(), ProgramError> {
         let [kept, made] = self.found(rt);
-        if kept == Found::Else {
-            return Err(self.fault(Reason::KeptTaken));
+        if let Some(reason) = self.kept_clash(rt, kept, log) {
+            return Err(self.fault(reason));
         }
-        if made == Found::Else || made == Found::Regular(log) {
-            return Err(self.fault(Reason::CompactingTaken));
+        match self.made_clash(rt, made, log) {
+            Some(reason) => Err(self.fault(reason)),
+            None => Ok(()),
         }
-        Ok(())
+    }
+
+    // Why the old file can't be kept where this was found, if it can't.
+    fn kept_clash<R: Files<File = File>>(
+        &self,
+        rt: &R,
+        found: Found,
+        log: Identity,
+    ) -> Option<Reason> {
+        match found {
+            Found::Nothing => None,
+            Found::Regular(identity) => {
+                if identity != log && is_locked(rt, self.kept.as_str()) {
+                    return Some(Reason::KeptLocked);
+                }
+                None
+            }
+            Found::Else => Some(Reason::KeptTaken),
+            Found::TooLong => Some(Reason::KeptLong),
+            Found::Unknown => Some(Reason::KeptUnseen),
+        }
+    }
+
+    // Why the new file can't be made where this was found, if it can't.
+    fn made_clash<R: Files<File = File>>(
+        &self,
+        rt: &R,
+        found: Found,
+        log: Identity,
+    ) -> Option<Reason> {
+        match found {
+            Found::Nothing => None,
+            Found::Regular(identity) => {
+                if identity == log {
+                    return Some(Reason::CompactingSame);
+                }
+                if is_locked(rt, self.made.as_str()) {
+                    return Some(Reason::CompactingLocked);
+                }
+                None
+            }
+            Found::Else => Some(Reason::CompactingTaken),
+            Found::TooLong => Some(Reason::CompactingLong),
+            Found::Unknown => Some(Reason::CompactingUnseen),
+        }
     }
 
     /// Makes the new file and locks it, in place of one that was left by a replacement which was killed.
     pub fn make<R: Files<File = File>>(&self, rt: &R) -> Result<(File, OutputFile), ProgramError> {
         let made = self.made.as_str();
-        if found_at(rt, made) != Found::Nothing && remove_file(rt, made).is_err() {
-            return Err(self.fault(Reason::Uncompacted));
-        }
+        self.clear(rt, made, Reason::CompactingLocked, Reason::Uncompacted)?;
         let how = Access {
-            is_store: true,
+            purpose: Use::Store,
             makes: true,
         };
         let Ok((file, output)) = OutputFile::make(rt, how, made) else {
@@ -81,25 +126,52 @@ impl<'a> LogPlaces<'a> {
         Ok((file, output))
     }
 
+    // Takes away what is in the way under a name beside the log, if something is, while it is locked. Why that can't be is one of two reasons: another has
+    // locked it, or it stays.
+    fn clear<R: Files<File = File>>(
+        &self,
+        rt: &R,
+        name: &str,
+        locked: Reason,
+        stays: Reason,
+    ) -> Result<(), ProgramError> {
+        match open_beside(rt, name) {
+            Ok((file, output)) => {
+                let is_gone = output.is_taken_away(rt, name);
+                drop(file);
+                if is_gone {
+                    return Ok(());
+                }
+                Err(self.fault(stays))
+            }
+            Err(Reason::Unopened) => Ok(()),
+            Err(Reason::RecordLocked) => Err(self.fault(locked)),
+            Err(_) => Err(self.fault(stays)),
+        }
+    }
+
     /// Takes the new file away again.
     pub fn unmake<R: Files>(&self, rt: &R, output: OutputFile) {
         let _ = output.is_removed(rt, self.made.as_str());
     }
 
     /// Puts the new file, which is whole, in place of the old one, which is kept if that is wanted. All bytes of the new one are on the disk then,
-    /// but its name may not be there yet.
-    pub fn replace<R: Files>(
+    /// but its name may not be there yet. Nothing is replaced where a name leads to another file than the one that was opened: that is seen last of all.
+    pub fn replace<R: Files<File = File>>(
         &self,
         rt: &R,
         old: &File,
-        log: Identity,
+        log: OutputFile,
         new: &File,
+        made: OutputFile,
     ) -> Result<(), ProgramError> {
         if !is_allowed(old, new) {
             return Err(self.fault(Reason::Uncompacted));
         }
-        if !self.drops_old && !self.is_kept(rt, log) {
-            return Err(self.fault(Reason::Unkept));
+        self.see_names(rt, log, made)?;
+        if !self.drops_old {
+            self.keep(rt, log)?;
+            self.see_names(rt, log, made)?;
         }
         match rename(rt, self.made.as_str(), self.name) {
             Ok(()) => Ok(()),
@@ -107,16 +179,46 @@ impl<'a> LogPlaces<'a> {
         }
     }
 
-    // Gives the old file a second name, in place of another file, unless it has that already. Says whether it could.
-    fn is_kept<R: Files>(&self, rt: &R, log: Identity) -> bool {
+    // Sees that the log's name leads to it, and that of the new file to that.
+    fn see_names<R: Files>(
+        &self,
+        rt: &R,
+        log: OutputFile,
+        made: OutputFile,
+    ) -> Result<(), ProgramError> {
+        if !log.is_named(rt, self.name) {
+            return Err(self.fault(Reason::Moved));
+        }
+        if !made.is_named(rt, self.made.as_str()) {
+            return Err(self.fault(Reason::MadeMoved));
+        }
+        Ok(())
+    }
+
+    // Gives the old file a second name, in place of another file that nobody has locked, unless it has that already.
+    fn keep<R: Files<File = File>>(&self, rt: &R, log: OutputFile) -> Result<(), ProgramError> {
         let kept = self.kept.as_str();
-        let is_free = match found_at(rt, kept) {
-            Found::Nothing => true,
-            Found::Regular(identity) if identity == log => return true,
-            Found::Regular(_) => remove_file(rt, kept).is_ok(),
-            Found::Else => false,
-        };
-        is_free && hard_link(rt, self.name, kept).is_ok()
+        if log.is_named(rt, kept) {
+            return Ok(());
+        }
+        self.clear(rt, kept, Reason::KeptLocked, Reason::Unkept)?;
+        if hard_link(rt, self.name, kept).is_err() {
+            return Err(self.fault(Reason::Unkept));
+        }
+        // what has the log's name may have changed in between
+        if log.is_named(rt, kept) {
+            Ok(())
+        } else {
+            Err(self.fault(Reason::Moved))
+        }
+    }
+
+    /// Flushes the folder to the disk, so that the new file has its name there too.
+    pub fn sync<R: Files>(&self, rt: &R) -> Result<(), ProgramError> {
+        match sync_folder(rt, self.name, self.number) {
+            Ok(()) => Ok(()),
+            Err(_) => Err(self.fault(Reason::Unflushed)),
+        }
     }
 
     /// That the new file can't be made, or can't be put in the old one's place.
@@ -138,13 +240,14 @@ pub trait LogFolder {
     /// Takes the new file away again.
     fn unmake(&self, places: &LogPlaces<'_>, output: OutputFile);
 
-    /// Puts the new file in place of the old one, to which the log's name leads.
+    /// Puts the new file in place of the old one, where the names lead to these two.
     fn replace(
         &self,
         places: &LogPlaces<'_>,
         old: &File,
         log: OutputFile,
         new: &File,
+        made: OutputFile,
     ) -> Result<(), ProgramError>;
 
     /// Flushes the folder to the disk, so that the new file has its name there too.
@@ -171,22 +274,54 @@ impl<R: Files<File = File>> LogFolder for R {
         old: &File,
         log: OutputFile,
         new: &File,
+        made: OutputFile,
     ) -> Result<(), ProgramError> {
-        if !log.is_named(self, places.name) {
-            return Err(places.fault(Reason::Unreplaced));
-        }
-        places.replace(self, old, log.identity, new)
+        places.replace(self, old, log, new, made)
     }
 
     fn sync_name(&self, places: &LogPlaces<'_>) -> Result<(), ProgramError> {
-        sync_folder(self, places.name, places.number)
+        places.sync(self)
     }
 }
 
-// Allows of the new file what was allowed of the old one, and flushes it to the disk. Says whether it could.
+// Opens a file beside a log and locks it, as a log is opened, or only to be read where no more is allowed.
+fn open_beside<R: Files<File = File>>(rt: &R, name: &str) -> Result<(File, OutputFile), Reason> {
+    let how = Access {
+        purpose: Use::Store,
+        makes: false,
+    };
+    match open_locked(rt, how, name) {
+        Err(Reason::Transcript) => {
+            let how = Access {
+                purpose: Use::Locked,
+                makes: false,
+            };
+            open_locked(rt, how, name)
+        }
+        opened => opened,
+    }
+}
+
+// Whether another has locked a file beside a log.
+fn is_locked<R: Files<File = File>>(rt: &R, name: &str) -> bool {
+    match open_beside(rt, name) {
+        Ok(opened) => {
+            drop(opened);
+            false
+        }
+        Err(Reason::RecordLocked) => true,
+        Err(_) => false,
+    }
+}
+
+// Allows of the new file what was allowed of the old one, and flushes it to the disk. Says whether it could. The new one gets the old one's owner and group,
+// where who runs this may give a file away; else it belongs to that user.
 fn is_allowed(old: &File, new: &File) -> bool {
     let is_allowed = match old.metadata() {
-        Ok(found) => new.set_permissions(found.permissions()).is_ok(),
+        Ok(found) => {
+            let _ = fchown(new, Some(found.uid()), Some(found.gid()));
+            new.set_permissions(found.permissions()).is_ok()
+        }
         Err(_) => false,
     };
     is_allowed && new.sync_all().is_ok()

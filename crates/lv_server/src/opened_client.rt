@@ -1,17 +1,17 @@
 //! The files of clients, and of the transcript or of the log, and how they are opened: none is changed before all are found fit.
 
 ghost use Rattle.std.specs.Prelude.{◌≡◌, IfOk};
-ghost use Rattle.lv_server.specs.Stores.{IsRightStore, MayStart};
+ghost use Rattle.lv_server.specs.Stores.{IsFit, IsRightStore, MayStart};
 
 use crate::clients::Clients;
-use crate::folders::Found;
+use crate::folders::{Found, sync_folder};
 use crate::identity::{Identity, is_written, standard_files};
 use crate::log_file::{LogFile, names_of, open_locked};
 use crate::log_places::{LogFolder, LogPlaces};
 use crate::log_server::lasts;
 use crate::names::{Names, REPLIES, first_clash};
-use crate::output_file::{Access, OutputFile};
-use crate::program_error::{ProgramError, Reason};
+use crate::output_file::{Access, OutputFile, Use};
+use crate::program_error::{Left, ProgramError, Reason};
 use crate::store_file::{StartedLog, StoreFile};
 use crate::stored_log::{LogPlan, StoredLog};
 use crate::waited::Waited;
@@ -158,15 +158,15 @@ fn open_and_ask<R: Files<File = File>>(
     open_each(rt, alloc, names.of_clients(), all)?;
     ask_each(alloc, all.as_mut_slice(), names.sessions)?;
     match names.of_record() {
-        Some(name) => match open_unshared(rt, name, all) {
+        Some(name) => match open_unshared(rt, names, name, all) {
             Ok(opened) => Ok(Some(opened)),
-            Err(reason) => Err(ProgramError::new(Fault::WriteFault, reason, names.clients)),
+            Err(error) => Err(error),
         },
         None => Ok(None),
     }
 }
 
-// Opens them, reads what subscribers ask, and opens and begins the log. One that was made here and can't begin is taken away.
+// Opens them, reads what subscribers ask, and opens and begins the log. One that was made here and can't begin is taken away, before it is unlocked.
 fn open_and_start<'a, C: Clock + Copy, R: Eprint + Files<File = File> + LogFolder>(
     clock: C,
     rt: &'a R,
@@ -182,14 +182,7 @@ fn open_and_start<'a, C: Clock + Copy, R: Eprint + Files<File = File> + LogFolde
     ask_each(alloc, all.as_mut_slice(), names.sessions)?;
     let name = names.of_record().unwrap_or("");
     let store = StoreFile::open(clock, rt, alloc, name, names.clients, true)?;
-    let output = store.output;
-    match start(clock, rt, alloc, limits, kept, names, store, all) {
-        Ok(log) => Ok(log),
-        Err(error) => {
-            let _ = output.is_removed(rt, name);
-            Err(error)
-        }
-    }
+    start(clock, rt, alloc, limits, kept, names, store, all)
 }
 
 // Begins the log, once it is seen that no client reads or writes it, and that it is fit.
@@ -207,6 +200,29 @@ fn start<'a, C: Clock + Copy, R: Eprint + Files<File = File> + LogFolder>(
     ensures { IfOk result (λ log. MayStart log.heading log.edits.journal) }
 {
     let mut store = store;
+    let name = names.of_record().unwrap_or("");
+    match see_log(rt, alloc, limits, kept, names, &mut store, all) {
+        Ok(places) => {
+            let started = store.start(clock, rt, alloc, name, names.syncs)?;
+            Ok(stored(clock, rt, places, kept, names, started))
+        }
+        Err(error) => Err(store.without(rt, name, error)),
+    }
+}
+
+// Sees that no client reads or writes the log, that it is fit, and that nothing is in the way beside it.
+fn see_log<'a, R: Files<File = File>>(
+    rt: &R,
+    alloc: Global,
+    limits: Limits,
+    kept: LogPlan,
+    names: Names<'a>,
+    store: &mut StoreFile,
+    all: &[OpenedClient<File>],
+) -> Result<LogPlaces<'a>, ProgramError>
+    ensures same { store.new.found ≡ store.old.found }
+    ensures fit { IfOk result (λ _. IsFit store.old.found) }
+{
     if is_taken(rt, all, store.output) {
         return Err(ProgramError::new(Fault::WriteFault, Reason::RecordTaken, names.clients));
     }
@@ -216,8 +232,7 @@ fn start<'a, C: Clock + Copy, R: Eprint + Files<File = File> + LogFolder>(
     if lasts(limits) {
         see_places(rt, &places, store.output.identity, all)?;
     }
-    let started = store.start(clock, rt, alloc, name, names.syncs)?;
-    Ok(stored(clock, rt, places, kept, names, started))
+    Ok(places)
 }
 
 // Sees that nothing is in the way beside a log when it is made anew, and that no client reads or writes it.
@@ -242,7 +257,7 @@ fn see_places<R: Files<File = File>>(
 fn is_at(all: &[OpenedClient<File>], found: Found) -> bool {
     match found {
         Found::Regular(identity) => is_used(all, usize::MAX, identity),
-        Found::Nothing | Found::Else => false,
+        Found::Nothing | Found::Else | Found::TooLong | Found::Unknown => false,
     }
 }
 
@@ -354,28 +369,56 @@ fn is_used<F: Drop>(all: &[OpenedClient<F>], number: usize, output: Identity) ->
     false
 }
 
-// Opens the file of a transcript. No client reads or writes it, no standard stream leads there, nobody else has locked it, and it has one name.
+// Opens the file of a transcript. No client reads or writes it, no standard stream leads there, nobody else has locked it, and it has one name, which is on the
+// disk where that is wanted. A file that was made here is removed otherwise, before it is unlocked.
 fn open_unshared<R: Files<File = File>>(
     rt: &R,
+    names: Names<'_>,
     name: &str,
     all: &[OpenedClient<File>],
-) -> Result<(File, OutputFile), Reason> {
+) -> Result<(File, OutputFile), ProgramError> {
     let how = Access {
-        is_store: false,
+        purpose: Use::Written,
         makes: true,
     };
-    let (file, output) = open_locked(rt, how, name)?;
-    if is_taken(rt, all, output) {
-        return Err(Reason::RecordTaken);
-    }
-    match names_of(&file) {
-        Ok(names) if names <= 1 => Ok((file, output)),
-        Ok(_) => Err(Reason::RecordNames),
+    let (file, output) = match open_locked(rt, how, name) {
+        Ok(opened) => opened,
         Err(reason) => {
-            let _ = output.is_removed(rt, name);
-            Err(reason)
+            return Err(ProgramError::new(Fault::WriteFault, reason, names.clients));
+        }
+    };
+    match see_transcript(rt, names, name, all, &file, output) {
+        Ok(()) => Ok((file, output)),
+        Err(error) => {
+            let error = output.without(rt, name, Left::Record(names.clients), error);
+            drop(file);
+            Err(error)
         }
     }
+}
+
+// Sees so of a file that is open and locked, and flushes its folder.
+fn see_transcript<R: Files<File = File>>(
+    rt: &R,
+    names: Names<'_>,
+    name: &str,
+    all: &[OpenedClient<File>],
+    file: &File,
+    output: OutputFile,
+) -> Result<(), ProgramError> {
+    let number = names.clients;
+    if is_taken(rt, all, output) {
+        return Err(ProgramError::new(Fault::WriteFault, Reason::RecordTaken, number));
+    }
+    match names_of(file) {
+        Ok(count) if count <= 1 => {}
+        Ok(_) => return Err(ProgramError::new(Fault::WriteFault, Reason::RecordNames, number)),
+        Err(reason) => return Err(ProgramError::new(Fault::WriteFault, reason, number)),
+    }
+    if names.syncs {
+        return sync_folder(rt, name, number);
+    }
+    Ok(())
 }
 
 // Whether a client reads or writes a file, or a standard stream leads there.
@@ -461,9 +504,8 @@ fn without_new<R: Files, F: Drop>(
 ) -> ProgramError {
     let mut error = error;
     for opened in all {
-        if !opened.output.is_removed(rt, opened.name.as_str()) && error.left.is_none() {
-            error.left = Some(opened.number);
-        }
+        let left = Left::Replies(opened.number);
+        error = opened.output.without(rt, opened.name.as_str(), left, error);
     }
     error
 }

@@ -1,15 +1,26 @@
 //! Files that are written: how one is opened, emptied, and taken away.
 
+use crate::folders::{Found, found_at};
 use crate::identity::Identity;
-use crate::program_error::Reason;
+use crate::program_error::{Left, ProgramError, Reason};
 use std::fs::{Files, Metadata, OpenFile, OpenOptions, remove_file, symlink_metadata};
 use std::io::ErrorKind;
 
-/// How a file is opened that is written.
+/// What a file is opened for.
+#[derive(Clone, Copy)]
+pub enum Use {
+    /// It is written.
+    Written,
+    /// It is read, and written at its end only.
+    Store,
+    /// Nothing is read or written there: it is locked, and taken away.
+    Locked,
+}
+
+/// How a file is opened.
 #[derive(Clone, Copy)]
 pub struct Access {
-    /// Whether it is also read, and written at its end only.
-    pub is_store: bool,
+    pub purpose: Use,
     /// Whether it is made where it isn't there.
     pub makes: bool,
 }
@@ -18,10 +29,16 @@ impl Access {
     // The same, as options.
     fn options(self) -> OpenOptions {
         let mut how = OpenOptions::new();
-        if self.is_store {
-            how.read(true).append(true);
-        } else {
-            how.write(true);
+        match self.purpose {
+            Use::Written => {
+                how.write(true);
+            }
+            Use::Store => {
+                how.read(true).append(true);
+            }
+            Use::Locked => {
+                how.read(true);
+            }
         }
         how
     }
@@ -39,7 +56,7 @@ impl OutputFile {
     /// reason is `Link`, or `Unmade`.
     pub fn open<R: Files>(rt: &R, name: &str) -> Result<(R::File, OutputFile), Reason> {
         let how = Access {
-            is_store: false,
+            purpose: Use::Written,
             makes: true,
         };
         OutputFile::open_by(rt, how, name)
@@ -85,12 +102,9 @@ impl OutputFile {
         }
     }
 
-    /// Whether its name leads to it.
+    /// Whether its name leads to it, and not by a link.
     pub fn is_named<R: Files>(self, rt: &R, name: &str) -> bool {
-        match symlink_metadata(rt, name) {
-            Ok(found) => Identity::of(&found) == self.identity,
-            Err(_) => false,
-        }
+        found_at(rt, name) == Found::Regular(self.identity)
     }
 
     /// Empties it, where it was there before. Says whether it could.
@@ -98,16 +112,30 @@ impl OutputFile {
         self.is_new || file.set_len(0).is_ok()
     }
 
-    /// Takes it away, where it was made here and its name still leads to it. Says whether no file that was made here is left by this name:
-    /// where the name leads elsewhere by now, or nobody knows where, nothing is taken away.
+    /// Takes it away, where its name still leads to it. Says whether it could.
+    pub fn is_taken_away<R: Files>(self, rt: &R, name: &str) -> bool {
+        self.is_named(rt, name) && remove_file(rt, name).is_ok()
+    }
+
+    /// Takes it away so, where it was made here. Says whether no file that was made here is left by this name: where the name leads elsewhere by
+    /// now, or nobody knows where, nothing is taken away.
     pub fn is_removed<R: Files>(self, rt: &R, name: &str) -> bool {
-        if !self.is_new {
-            return true;
+        !self.is_new || self.is_taken_away(rt, name) || found_at(rt, name) == Found::Nothing
+    }
+
+    /// An error, once the file is removed so. Where it is left, the error tells it, unless it tells of another already.
+    pub fn without<R: Files>(
+        self,
+        rt: &R,
+        name: &str,
+        left: Left,
+        error: ProgramError,
+    ) -> ProgramError {
+        let mut error = error;
+        if !self.is_removed(rt, name) && error.left.is_none() {
+            error.left = Some(left);
         }
-        match symlink_metadata(rt, name) {
-            Ok(found) => Identity::of(&found) == self.identity && remove_file(rt, name).is_ok(),
-            Err(error) => error.kind() == ErrorKind::NotFound,
-        }
+        error
     }
 }
 

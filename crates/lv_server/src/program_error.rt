@@ -63,12 +63,19 @@ pub enum Reason {
     FullLog,
     #[error("' can't be replaced by what was made of it")]
     Unreplaced,
-    #[error("' is there, and its folder can't be flushed to the disk")]
+    #[error("' can't be served: its folder can't be flushed to the disk")]
     Unsynced,
+    /// Another log is in its place already.
+    #[error("' was made anew, but its folder can't be flushed to the disk: after a crash of the machine the old file may have this name again")]
+    Unflushed,
+    #[error("' is no longer the file that was opened here: it wasn't replaced")]
+    Moved,
     #[error(".1' can't be made of the old file: give --drop-old if it needn't be kept")]
     Unkept,
     #[error(".compacting' can't be made or written")]
     Uncompacted,
+    #[error(".compacting' is no longer the file that was made here: nothing was replaced by it")]
+    MadeMoved,
     /// A line of a subscriber's file, by its number, whose question is refused.
     #[error("' can't be watched: {1}")]
     Refused(u32, Refusal),
@@ -95,8 +102,22 @@ pub enum Reason {
     RecordLocked,
     #[error(".1' is there and no regular file, and would have what was there before: remove it, or give --drop-old")]
     KeptTaken,
+    #[error(".1' is too long a name, and would have what was there before: give a shorter name, or --drop-old")]
+    KeptLong,
+    #[error(".1' can't be looked at, and would have what was there before: name another file, or give --drop-old")]
+    KeptUnseen,
+    #[error(".1' is locked, as by a server that writes it, and would have what was there before: name another file, or give --drop-old")]
+    KeptLocked,
     #[error(".compacting' is there and no regular file: remove it")]
     CompactingTaken,
+    #[error(".compacting' is a second name (a hard link) of the log: remove it")]
+    CompactingSame,
+    #[error(".compacting' is too long a name, and a new log would be made there: give a shorter name")]
+    CompactingLong,
+    #[error(".compacting' can't be looked at, and a new log would be made there: name another file")]
+    CompactingUnseen,
+    #[error(".compacting' is locked, as by a server that writes it, and a new log would be made there: name another file")]
+    CompactingLocked,
     #[error(".1' is read or written here, and would have what was there before: name another file, or give --drop-old")]
     KeptUsed,
     #[error(".compacting' is read or written here, and a new log would be made there: name another file")]
@@ -112,11 +133,23 @@ impl Reason {
             }
             Reason::RecordTaken | Reason::RecordLink => true,
             Reason::RecordNames | Reason::RecordLocked => true,
-            Reason::KeptTaken | Reason::CompactingTaken => true,
-            Reason::KeptUsed | Reason::CompactingUsed => true,
+            Reason::KeptTaken | Reason::KeptLong | Reason::KeptUnseen => true,
+            Reason::KeptLocked | Reason::KeptUsed => true,
+            Reason::CompactingTaken | Reason::CompactingSame => true,
+            Reason::CompactingLong | Reason::CompactingUnseen => true,
+            Reason::CompactingLocked | Reason::CompactingUsed => true,
             _ => false,
         }
     }
+}
+
+/// A file that was made here and couldn't be taken away.
+#[derive(Clone, Copy, Debug)]
+pub enum Left {
+    /// That of the replies to the file of a number.
+    Replies(usize),
+    /// That of the transcript or of the log, by its number.
+    Record(usize),
 }
 
 /// Why the program fails. Files are counted from 0: those of sessions, those of subscribers, and that of the transcript or of the log.
@@ -127,8 +160,8 @@ pub struct ProgramError {
     pub reason: Reason,
     /// The number of the file that it is about, if it is about one.
     pub file: usize,
-    /// The number of a file whose replies were to be written: their file was made for it, and couldn't be taken away.
-    pub left: Option<usize>,
+    /// A file that was made for nothing and couldn't be taken away.
+    pub left: Option<Left>,
 }
 
 impl ProgramError {
@@ -253,13 +286,15 @@ impl fmt::Display for ErrorText<'_> {
             _ => write!(f, "'{name}")?,
         }
         write!(f, "{reason}")?;
-        match left {
-            Some(number) => write!(
-                f,
-                "\n'{}.out' was made here and isn't taken away: another file may have its name by now",
-                self.name(number)
-            ),
-            None => Ok(()),
-        }
+        let (number, ending) = match left {
+            Some(Left::Replies(number)) => (number, ".out"),
+            Some(Left::Record(number)) => (number, ""),
+            None => return Ok(()),
+        };
+        write!(
+            f,
+            "\n'{}{ending}' was made here and isn't taken away: another file may have its name by now",
+            self.name(number)
+        )
     }
 }

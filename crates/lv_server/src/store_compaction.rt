@@ -3,10 +3,10 @@
 ghost use Rattle.std.specs.Prelude.{◌≤◌, ◌^◌};
 ghost use Rattle.lv_transcript.specs.Logs.{base_of};
 
-use crate::folders::sync_folder;
 use crate::identity::{is_written, standard_files};
 use crate::log_file::LogFile;
 use crate::log_places::LogPlaces;
+use crate::output_file::OutputFile;
 use crate::program_error::{ProgramError, Reason};
 use crate::store_file::StoreFile;
 use crate::waited::Waited;
@@ -32,8 +32,8 @@ pub struct Compacted {
 /// The new log is written and flushed to the disk under another name, FILE.compacting, and takes the name when it is whole. So a kill leaves the old file or the new
 /// one under the name, each with everything. One between the two leaves the old one under FILE.1 too, and one before that leaves FILE.compacting: the next compaction takes either over.
 ///
-/// A file that can't be read is `ReadFault`, as is one that is no front, by its first wrong line; what can't be made or written is `WriteFault`. Then the
-/// file is as it was.
+/// A file that can't be read is `ReadFault`, as is one that is no front, by its first wrong line; what can't be made or written is `WriteFault`, and so it is where another file
+/// has the name by then. Then the file is as it was, but where its folder can't be flushed to the disk: then the new log has the name, and the reason is `Unflushed`.
 pub fn compact_file<C: Clock + Copy, R: Files<File = File>>(
     clock: C,
     rt: &R,
@@ -41,7 +41,7 @@ pub fn compact_file<C: Clock + Copy, R: Files<File = File>>(
     name: &str,
     drops_old: bool,
 ) -> Result<Compacted, ProgramError> {
-    let store = StoreFile::open(clock, rt, alloc, name, 0, false)?;
+    let mut store = StoreFile::open(clock, rt, alloc, name, 0, false)?;
     if is_written(&standard_files(rt), store.output.identity) {
         return Err(clash(Reason::Standard));
     }
@@ -49,10 +49,11 @@ pub fn compact_file<C: Clock + Copy, R: Files<File = File>>(
     let places = LogPlaces::of(alloc, name, 0, drops_old)?;
     places.see(rt, store.output.identity)?;
     let (file, output) = places.make(rt)?;
-    match fill_and_replace(clock, rt, alloc, &store, &places, file) {
+    match fill_and_replace(clock, rt, alloc, &store, &places, file, output) {
         Ok(heading) => Ok(Compacted {
             heading,
-            is_kept: !drops_old,
+            // a compaction that was killed has left it the name, which it keeps
+            is_kept: !drops_old || store.is_kept,
         }),
         Err(error) => {
             places.unmake(rt, output);
@@ -74,6 +75,7 @@ fn fill_and_replace<C: Clock + Copy, R: Files<File = File>>(
     store: &StoreFile,
     places: &LogPlaces<'_>,
     file: File,
+    made: OutputFile,
 ) -> Result<LogHeading, ProgramError>
     requires { base_of store.now.found.heading ≤ 2 ^ 62 }
 {
@@ -88,8 +90,8 @@ fn fill_and_replace<C: Clock + Copy, R: Files<File = File>>(
         Err(Fault::NoMemory) => return Err(ProgramError::memory()),
         Err(_) => return Err(clash(Reason::Uncompacted)),
     }
-    places.replace(rt, &store.file, store.output.identity, &log.stream().file)?;
-    sync_folder(rt, places.name, 0)?;
+    places.replace(rt, &store.file, store.output, &log.stream().file, made)?;
+    places.sync(rt)?;
     drop(log);
     Ok(compacted_heading(store.found.heading, &store.found.edits))
 }

@@ -10,8 +10,8 @@ use crate::identity::Identity;
 use crate::log_file::{LogFile, names_of, open_locked};
 use crate::log_lines::line_of;
 use crate::log_server::lasts;
-use crate::output_file::{Access, OutputFile};
-use crate::program_error::{ProgramError, Reason};
+use crate::output_file::{Access, OutputFile, Use};
+use crate::program_error::{Left, ProgramError, Reason};
 use crate::waited::Waited;
 use lv_edits::{Edit, Edits};
 use lv_geometry::{Limits, Refusal};
@@ -19,7 +19,7 @@ use lv_lines::MOST_NUMBERED;
 use lv_script::Fault;
 use lv_transcript::{FoundFront, FrontVerdict, LogHeading, read_front, write_log};
 use std::alloc::Global;
-use std::fs::{File, Files, OpenFile, remove_file};
+use std::fs::{File, Files, OpenFile};
 use std::io::{Read, Seek, SeekFrom, Write};
 use std::time::Clock;
 
@@ -55,6 +55,14 @@ pub struct StoreFile {
     number: usize,
 }
 
+// What was found in a file that is open and locked, how many bytes it has, and whether a compaction has left it a second name.
+#[derive(Drop)]
+struct ReadStore {
+    found: FoundFront,
+    length: u64,
+    is_kept: bool,
+}
+
 /// A log that a server goes on from: its file is at its end and has whole lines, those of its heading and of these edits, and answers.
 #[derive(Drop)]
 pub struct StartedLog<F: Drop> {
@@ -69,7 +77,7 @@ impl StoreFile {
     /// Opens the file of this name and number, which is made where it isn't there, if that is wanted, and locks it before it is read. Nothing of it changes.
     ///
     /// It is a clash where it is a link, has a second name, or is locked, and `WriteFault` where it can't be opened otherwise. What can't be read is `ReadFault`, as is a file that is no front; but
-    /// what is found there is for the caller to judge.
+    /// what is found there is for the caller to judge. A file that was made here is removed then, before it is unlocked.
     pub fn open<C: Clock + Copy, R: Files<File = File>>(
         clock: C,
         rt: &R,
@@ -81,20 +89,41 @@ impl StoreFile {
         ensures { IfOk result (λ store. IsRightStore store.found) }
     {
         let how = Access {
-            is_store: true,
+            purpose: Use::Store,
             makes,
         };
         let (file, output) = match open_locked(rt, how, name) {
             Ok(opened) => opened,
             Err(reason) => return Err(unopened(reason, number)),
         };
-        match read_store(clock, rt, alloc, name, number, file, output) {
-            Ok(store) => Ok(store),
+        match read_store(clock, rt, alloc, name, number, &file, output.identity) {
+            Ok(read) => {
+                let ReadStore {
+                    found,
+                    length,
+                    is_kept,
+                } = read;
+                Ok(StoreFile {
+                    file,
+                    output,
+                    found,
+                    length,
+                    is_kept,
+                    number,
+                })
+            }
             Err(error) => {
-                let _ = output.is_removed(rt, name);
+                let error = output.without(rt, name, Left::Record(number), error);
+                drop(file);
                 Err(error)
             }
         }
+    }
+
+    /// An error, once the file is removed where it was made here: it is locked until then.
+    pub fn without<R: Files>(self, rt: &R, name: &str, error: ProgramError) -> ProgramError {
+        let left = Left::Record(self.number);
+        self.output.without(rt, name, left, error)
     }
 
     /// Whether nothing but a part of a first line is there.
@@ -102,8 +131,8 @@ impl StoreFile {
         self.found.whole == 0 && self.found.heading.is_none()
     }
 
-    /// Sees that a front was found there, and that its next updates can be numbered. The first wrong line is the fault, `ReadFault`.
-    pub fn check_front(&self) -> Result<(), ProgramError>
+    // Sees that a front was found there, and that its next updates can be numbered. The first wrong line is the fault, `ReadFault`.
+    fn check_lines(&self) -> Result<(), ProgramError>
         ensures { OnOk result (IsFit self.now.found) }
     {
         let reason = match self.found.verdict {
@@ -119,6 +148,19 @@ impl StoreFile {
         Err(ProgramError::new(Fault::ReadFault, reason, self.number))
     }
 
+    /// Sees so, and that it has a whole line, or nothing but a part of the first line of a new log: any other file without a line is none that was made
+    /// here, and its first line is the wrong one.
+    pub fn check_front(&mut self) -> Result<(), ProgramError>
+        ensures same { self.new.found ≡ self.old.found }
+        ensures fit { OnOk result (IsFit self.old.found) }
+    {
+        self.check_lines()?;
+        if self.is_blank() && !self.is_first_line_torn() {
+            return Err(ProgramError::new(Fault::ReadFault, Reason::MisspeltLog(1), self.number));
+        }
+        Ok(())
+    }
+
     /// Sees that it is a log, or nothing but a part of the first line of a new one, whose updates keep to these limits. What it is otherwise is the
     /// fault, `ReadFault`.
     pub fn check_log(&mut self, alloc: Global, limits: Limits) -> Result<(), ProgramError>
@@ -126,9 +168,6 @@ impl StoreFile {
         ensures fit { OnOk result (IsFit self.old.found) }
     {
         self.check_front()?;
-        if self.is_blank() && !self.is_first_line_torn() {
-            return Err(ProgramError::new(Fault::ReadFault, Reason::MisspeltLog(1), self.number));
-        }
         if self.found.heading.is_none() && !self.is_blank() {
             return Err(ProgramError::new(Fault::ReadFault, Reason::NoLog, self.number));
         }
@@ -177,7 +216,8 @@ impl StoreFile {
     }
 
     /// Begins the log where nothing is there, cuts a torn line off, which is told, and takes the second name away that a compaction has left. With `syncs`
-    /// what is flushed is on the disk, and so is the name of the file. What can't be written is the fault, `WriteFault`.
+    /// what is flushed is on the disk, and so is the name of the file. What can't be written is the fault, `WriteFault`. A file that was made here is removed then,
+    /// before it is unlocked.
     pub fn start<C: Clock + Copy, R: Eprint + Files<File = File>>(
         self,
         clock: C,
@@ -190,27 +230,47 @@ impl StoreFile {
         requires fit { IsFit self.found }
         ensures { IfOk result (λ log. MayStart log.heading log.edits.journal) }
     {
+        if let Err(error) = self.cut(rt, alloc, name) {
+            return Err(self.without(rt, name, error));
+        }
+        let number = self.number;
+        let started = self.with_heading(clock, rt, alloc, name, syncs)?;
+        if syncs {
+            if let Err(error) = sync_folder(rt, name, number) {
+                let left = Left::Record(number);
+                let error = started.output.without(rt, name, left, error);
+                drop(started);
+                return Err(error);
+            }
+        }
+        Ok(started)
+    }
+
+    // Takes the second name away that a compaction has left, and cuts a torn line off.
+    fn cut<R: Eprint + Files>(
+        &self,
+        rt: &R,
+        alloc: Global,
+        name: &str,
+    ) -> Result<(), ProgramError> {
         let unwritten = ProgramError::new(Fault::WriteFault, Reason::Log, self.number);
-        if self.is_kept && !is_single(rt, alloc, name)? {
+        if self.is_kept && !is_single(rt, alloc, name, self.output)? {
             return Err(unwritten);
         }
         if self.length > self.found.whole && self.file.set_len(self.found.whole).is_err() {
             return Err(unwritten);
         }
         tell_of_cut(rt, name, self.length, self.found.whole);
-        let number = self.number;
-        let started = self.with_heading(clock, alloc, syncs)?;
-        if syncs {
-            sync_folder(rt, name, number)?;
-        }
-        Ok(started)
+        Ok(())
     }
 
-    // Writes the first line where there is none.
-    fn with_heading<C: Clock + Copy>(
+    // Writes the first line where there is none. Where that fails, a file that was made here is removed.
+    fn with_heading<C: Clock + Copy, R: Files>(
         self,
         clock: C,
+        rt: &R,
         alloc: Global,
+        name: &str,
         syncs: bool,
     ) -> Result<StartedLog<Waited<C, LogFile<File>>>, ProgramError>
         requires right { IsRightStore self.found }
@@ -238,7 +298,7 @@ impl StoreFile {
         let mut file = Waited::new(clock, file);
         let Some(heading) = heading else {
             drop(edits);
-            write_new(alloc, number, &mut file)?;
+            write_new(rt, alloc, name, number, output, &mut file)?;
             return Ok(StartedLog {
                 file,
                 output,
@@ -276,13 +336,21 @@ fn has_low_base(heading: Option<LogHeading>) -> bool
     }
 }
 
-// Writes the first line of a log before which nothing came.
-fn write_new<W: Write>(alloc: Global, number: usize, file: &mut W) -> Result<(), ProgramError> {
-    match write_log(alloc, NEW, &[], file) {
-        Ok(()) => Ok(()),
-        Err(Fault::NoMemory) => Err(ProgramError::memory()),
-        Err(fault) => Err(ProgramError::new(fault, Reason::Log, number)),
-    }
+// Writes the first line of a log before which nothing came. Where that fails, a file that was made here is removed while it is locked.
+fn write_new<R: Files, W: Write>(
+    rt: &R,
+    alloc: Global,
+    name: &str,
+    number: usize,
+    output: OutputFile,
+    file: &mut W,
+) -> Result<(), ProgramError> {
+    let error = match write_log(alloc, NEW, &[], file) {
+        Ok(()) => return Ok(()),
+        Err(Fault::NoMemory) => ProgramError::memory(),
+        Err(fault) => ProgramError::new(fault, Reason::Log, number),
+    };
+    Err(output.without(rt, name, Left::Record(number), error))
 }
 
 // Why a log can't be opened.
@@ -301,13 +369,13 @@ fn read_store<C: Clock + Copy, R: Files>(
     alloc: Global,
     name: &str,
     number: usize,
-    file: File,
-    output: OutputFile,
-) -> Result<StoreFile, ProgramError>
-    ensures { IfOk result (λ store. IsRightStore store.found) }
+    file: &File,
+    identity: Identity,
+) -> Result<ReadStore, ProgramError>
+    ensures { IfOk result (λ read. IsRightStore read.found) }
 {
-    let is_kept = has_kept_name(rt, alloc, name, number, &file, output.identity)?;
-    let found = match read_front(alloc, MOST_NUMBERED, Waited::new(clock, &file)) {
+    let is_kept = has_kept_name(rt, alloc, name, number, file, identity)?;
+    let found = match read_front(alloc, MOST_NUMBERED, Waited::new(clock, file)) {
         Ok(found) => found,
         Err(fault) => return Err(ProgramError::front(number, fault)),
     };
@@ -315,13 +383,10 @@ fn read_store<C: Clock + Copy, R: Files>(
         Ok(metadata) => metadata.len(),
         Err(_) => return Err(ProgramError::new(Fault::ReadFault, Reason::Unread, number)),
     };
-    Ok(StoreFile {
-        file,
-        output,
+    Ok(ReadStore {
         found,
         length,
         is_kept,
-        number,
     })
 }
 
@@ -344,9 +409,14 @@ fn has_kept_name<R: Files>(
     }
 }
 
-// Takes the second name away that a compaction has left. Says whether it could.
-fn is_single<R: Files>(rt: &R, alloc: Global, name: &str) -> Result<bool, ProgramError> {
-    Ok(remove_file(rt, beside(alloc, name, KEPT)?.as_str()).is_ok())
+// Takes the second name away that a compaction has left a file, while it leads there. Says whether it could.
+fn is_single<R: Files>(
+    rt: &R,
+    alloc: Global,
+    name: &str,
+    output: OutputFile,
+) -> Result<bool, ProgramError> {
+    Ok(output.is_taken_away(rt, beside(alloc, name, KEPT)?.as_str()))
 }
 
 // Tells of a line that was cut off.

@@ -83,7 +83,7 @@ impl<'a, C: Clock + Copy, R: Eprint + LogFolder> StoredLog<'a, C, &'a R> {
         requires few { length elements.now ≤ 1048568 }
     {
         let (file, output) = self.rt.make(&self.places, self.output)?;
-        match self.fill_and_replace(alloc, heading, elements, file) {
+        match self.fill_and_replace(alloc, heading, elements, file, output) {
             Ok(file) => {
                 drop(mem::replace(&mut self.file, file));
                 self.output = output;
@@ -104,6 +104,7 @@ impl<'a, C: Clock + Copy, R: Eprint + LogFolder> StoredLog<'a, C, &'a R> {
         heading: LogHeading,
         elements: &[i64],
         file: File,
+        made: OutputFile,
     ) -> Result<Waited<C, LogFile<File>>, ProgramError>
         requires count { heading.elements ≡ length elements.now }
         requires few { length elements.now ≤ 1048568 }
@@ -121,7 +122,7 @@ impl<'a, C: Clock + Copy, R: Eprint + LogFolder> StoredLog<'a, C, &'a R> {
         }
         let old = &self.file.stream().file;
         self.rt
-            .replace(&self.places, old, self.output, &log.stream().file)?;
+            .replace(&self.places, old, self.output, &log.stream().file, made)?;
         Ok(log)
     }
 
@@ -136,14 +137,15 @@ impl<'a, C: Clock + Copy, R: Eprint + LogFolder> StoredLog<'a, C, &'a R> {
         }
     }
 
-    // Tells why it can't be made anew.
+    // Tells why it can't be made anew, or that it was, and that its name may not be on the disk.
     fn tell(&self, error: ProgramError) {
         let files = [self.places.name];
         let error = ProgramError::new(error.fault, error.reason, 0);
-        let _ = eprintln!(self.rt;
-            "livevec: the log isn't made anew: {}",
-            error.in_words(&files)
-        );
+        let before = match error.reason {
+            Reason::Unflushed => "",
+            _ => "the log isn't made anew: ",
+        };
+        let _ = eprintln!(self.rt; "livevec: {before}{}", error.in_words(&files));
     }
 }
 

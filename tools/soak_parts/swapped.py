@@ -1,0 +1,145 @@
+"""Cases of the part `steps`: what lies in the folder of a log is exchanged, locked or served by another program right while a log is made anew or begun."""
+import errno
+import os
+import shutil
+import subprocess
+
+from soak_parts.program import PROGRAM, stop
+
+# a library that is loaded before the program: at one call it runs a command, and lets the call fail or go on
+MEANWHILE = r"""
+#define _GNU_SOURCE
+#include <dlfcn.h>
+#include <errno.h>
+#include <stdatomic.h>
+#include <stdlib.h>
+#include <string.h>
+#include <unistd.h>
+
+static atomic_int calls;
+
+/* Whether this call is to fail, once the command has run. */
+static int meets(const char *call)
+{
+    const char *which = getenv("MEANWHILE_CALL"), *at = getenv("MEANWHILE_AT"), *runs = getenv("MEANWHILE_RUNS"), *fails = getenv("MEANWHILE_FAILS");
+    if (!which || strcmp(which, call) != 0 || atomic_fetch_add(&calls, 1) + 1 != atoi(at))
+        return 0;
+    unsetenv("LD_PRELOAD");
+    if (system(runs) != 0)
+        _exit(77);
+    errno = fails ? atoi(fails) : 0;
+    return fails != NULL;
+}
+
+int fsync(int fd)
+{
+    return meets("fsync") ? -1 : ((int (*)(int))dlsym(RTLD_NEXT, "fsync"))(fd);
+}
+
+int unlink(const char *name)
+{
+    return meets("unlink") ? -1 : ((int (*)(const char *))dlsym(RTLD_NEXT, "unlink"))(name);
+}
+
+ssize_t write(int fd, const void *bytes, size_t count)
+{
+    return fd > 2 && meets("write") ? -1 : ((ssize_t (*)(int, const void *, size_t))dlsym(RTLD_NEXT, "write"))(fd, bytes, count);
+}
+"""
+LOG = "livevec 2 0 0\nj push 5\nj push 6\nj pop\n"
+OTHER = "livevec 2 7 1\nj push 777\n"
+COMPACT, DROP = ["compact", "log"], ["compact", "--drop-old", "log"]
+SERVE, SERVE_DROP = (["serve", *more, "--compact-at", "1", "--log", "log", "session"] for more in ([], ["--drop-old"]))
+# what is done at the first flush of the new log, which name it takes, and what has that name then: a file's text, or none
+SWAPS = (("mv other log", "log", OTHER), ("ln -sf other log", "log", OTHER), ("rm log", "log", None), ("mv other log.compacting", "log.compacting", OTHER), ("rm log.compacting", "log.compacting", None))
+
+
+def text_at(path):
+    return open(path).read() if os.path.exists(path) else None
+
+
+def folder_of(room, name):
+    """A folder with a log, another one, and the lines of a session."""
+    folder = f"{room}/{name}"
+    os.mkdir(folder)
+    for name, text in (("log", LOG), ("other", OTHER), ("session", "push 1\n")):
+        open(f"{folder}/{name}", "w").write(text)
+    return folder
+
+
+def meanwhile(room, folder, words, call, at, runs, fails=None):
+    """A command, at one call of which another runs."""
+    told = {"LD_PRELOAD": f"{room}/meanwhile.so", "MEANWHILE_CALL": call, "MEANWHILE_AT": str(at), "MEANWHILE_RUNS": f"{runs} && : > {room}/came"}
+    if fails:
+        told["MEANWHILE_FAILS"] = str(fails)
+    ran = subprocess.run([PROGRAM, *words], cwd=folder, env={**os.environ, **told}, stdin=subprocess.DEVNULL, capture_output=True, timeout=600)
+    if not os.path.exists(f"{room}/came"):
+        stop(f"{words} didn't come to {call} {at}, where `{runs}` was to run: status {ran.returncode}, {ran.stderr!r}")
+    os.remove(f"{room}/came")
+    return ran
+
+
+def swap(room, words, runs, name, wanted):
+    """A name leads elsewhere once the new log is whole: nothing is replaced, which is told, and what was made is removed."""
+    folder = folder_of(room, "swap")
+    ran = meanwhile(room, folder, words, "fsync", 1, runs)
+    served = words[0] == "serve"
+    said = f"'{name}' is no longer the file that was {'opened' if name == 'log' else 'made'} here".encode()
+    if ran.returncode != (0 if served else 1) or said not in ran.stderr or (b"livevec: the log isn't made anew: " if served else b"livevec: fault 14\n") not in ran.stderr:
+        stop(f"{words}, meanwhile `{runs}`: status {ran.returncode}, {ran.stdout!r}, {ran.stderr!r}")
+    if text_at(f"{folder}/{name}") != wanted or name == "log" and os.path.lexists(f"{folder}/log.compacting") or os.path.islink(f"{folder}/log") != runs.startswith("ln"):
+        stop(f"{words}, meanwhile `{runs}`: {name} has {text_at(f'{folder}/{name}')!r}, beside {os.listdir(folder)}")
+    if name != "log" and text_at(f"{folder}/log") != LOG + "j push 1\n" * served:
+        stop(f"{words}, meanwhile `{runs}`: the log has {text_at(f'{folder}/log')!r}")
+    shutil.rmtree(folder)
+
+
+def begun_by_another(room):
+    """A server makes a log and fails, and another tries that log right before it is removed: it is turned away, or has a log that stays."""
+    folder = folder_of(room, "begun")
+    os.remove(f"{folder}/log")
+    os.mkdir(f"{folder}/log.1")
+    shutil.copy(f"{folder}/session", f"{folder}/second")
+    ran = meanwhile(room, folder, ["serve", "--log", "log", "session"], "unlink", 1, f"{{ {PROGRAM} serve --drop-old --log log second; echo $? > status; }}")
+    status = text_at(f"{folder}/status")
+    if ran.returncode != 2 or status == "0\n" and text_at(f"{folder}/log") != "livevec 2 0 0\nj push 1\n" or status == "2\n" and os.path.exists(f"{folder}/log"):
+        stop(f"a log that is removed was served meanwhile: status {ran.returncode} and {status!r}, {ran.stderr!r}, {os.listdir(folder)}")
+    shutil.rmtree(folder)
+
+
+def left_behind(room):
+    """A log that was made has another name when its first line can't be written: it is left, and that is told."""
+    folder = folder_of(room, "left")
+    os.remove(f"{folder}/log")
+    ran = meanwhile(room, folder, ["serve", "--log", "log", "session"], "write", 1, "mv log made && cp other log", errno.ENOSPC)
+    if ran.returncode != 1 or b"\n'log' was made here and isn't taken away: another file may have its name by now\n" not in ran.stderr or text_at(f"{folder}/log") != OTHER:
+        stop(f"a log that was made and moved: status {ran.returncode}, {ran.stderr!r}, {os.listdir(folder)}")
+    shutil.rmtree(folder)
+
+
+def unflushed(room):
+    """The folder can't be flushed once the new log has its name: that it has is told."""
+    folder = folder_of(room, "unflushed")
+    ran = meanwhile(room, folder, COMPACT, "fsync", 2, ":", errno.EIO)
+    if ran.returncode != 1 or b"'log' was made anew, but its folder can't be flushed to the disk" not in ran.stderr or text_at(f"{folder}/log") != "livevec 2 3 1\nj push 5\n":
+        stop(f"a folder that can't be flushed: status {ran.returncode}, {ran.stderr!r}, {text_at(f'{folder}/log')!r}")
+    shutil.rmtree(folder)
+    # with --sync a transcript's name is on the disk too: its folder is what is flushed by this call
+    folder = folder_of(room, "synced")
+    ran = meanwhile(room, folder, ["serve", "--sync", "--transcript", "kept", "session"], "fsync", 1, ":", errno.EIO)
+    if ran.returncode != 1 or b"'kept' can't be served: its folder can't be flushed to the disk" not in ran.stderr or os.path.exists(f"{folder}/kept"):
+        stop(f"a transcript's folder that can't be flushed: status {ran.returncode}, {ran.stderr!r}, {os.listdir(folder)}")
+    shutil.rmtree(folder)
+
+
+def swapped(room):
+    """Each of these. Says how many."""
+    open(f"{room}/meanwhile.c", "w").write(MEANWHILE)
+    subprocess.run(["cc", "-shared", "-fPIC", "-O2", "-Wall", "-o", f"{room}/meanwhile.so", f"{room}/meanwhile.c", "-ldl"], check=True)
+    cases = [(words, *case) for words in (COMPACT, DROP, SERVE, SERVE_DROP) for case in SWAPS]
+    for case in cases:
+        swap(room, *case)
+    others = (begun_by_another, left_behind, unflushed)
+    for case in others:
+        case(room)
+    return len(cases) + len(others)
