@@ -168,7 +168,7 @@ static void a_refusal_travels(void)
         CHECK(!told.error && told.refusal == (rank >= wrong ? LIVEVEC_OUT_OF_RANGE : LIVEVEC_OK));
         CHECK(rank >= wrong ? is_none(&told.summary) : is_of(&told.summary, 0, start_of(rank)));
     }
-    livevec_vector none[1] = {{0}};
+    livevec_vector none[1] = {0};
     livevec_mpi_answer told = livevec_mpi_range(&mpi, rank == ranks - 1 ? none : vectors, rank == ranks - 1 ? 1 : VECTORS, 0, 1, MPI_COMM_WORLD);
     CHECK(told.refusal == LIVEVEC_NO_HANDLE && told.rank == ranks - 1);
 }
