@@ -160,7 +160,8 @@ pub const COMPACT: &str =
 pub const COMPACTED: &str = "\
 FILE is a log that nobody serves, or a transcript, or a prefix of one. It is replaced by a log of the
 elements that there are after all its updates. The next update has the number that it would have had,
-and `livevec serve --log FILE` continues from it. One line on standard output says what was done.
+and `livevec serve --log FILE` continues from it. One line on standard output says what was done. If the
+last line of FILE isn't whole, it is left out, and standard error says so.
 
 What was there is kept as FILE.1, in place of a regular file with that name, unless --drop-old is given.
 The new log is written to FILE.compacting, and gets the name FILE when it is whole and on the disk. So if

@@ -27,14 +27,14 @@ pub struct Compacted {
 
 /// Makes a log of the elements that there are after all updates of the log of this name, or of the front of a transcript, in its place; the
 /// next update has the number that it would have had. What was there is kept as FILE.1, in place of another regular file there, unless it is dropped. Nobody
-/// serves it meanwhile: it is locked.
+/// serves it meanwhile: it is locked. Standard error says how many bytes behind its last whole line are left out.
 ///
 /// The new log is written and flushed to the disk under another name, FILE.compacting, and takes the name when it is whole. So a kill leaves the old file or the new
 /// one under the name, each with everything. One between the two leaves the old one under FILE.1 too, and one before that leaves FILE.compacting: the next compaction takes either over.
 ///
 /// A file that can't be read is `ReadFault`, as is one that is no front, by its first wrong line; what can't be made or written is `WriteFault`, and so it is where another file
 /// has the name by then. Then the file is as it was, but where its folder can't be flushed to the disk: then the new log has the name, and the reason is `Unflushed`.
-pub fn compact_file<C: Clock + Copy, R: Files<File = File>>(
+pub fn compact_file<C: Clock + Copy, R: Eprint + Files<File = File>>(
     clock: C,
     rt: &R,
     alloc: Global,
@@ -50,11 +50,14 @@ pub fn compact_file<C: Clock + Copy, R: Files<File = File>>(
     places.see(rt, store.output.identity)?;
     let (file, output) = places.make(rt)?;
     match fill_and_replace(clock, rt, alloc, &store, &places, file, output) {
-        Ok(heading) => Ok(Compacted {
-            heading,
-            // a compaction that was killed has left it the name, which it keeps
-            is_kept: !drops_old || store.is_kept,
-        }),
+        Ok(heading) => {
+            store.tell_of_cut(rt, name);
+            Ok(Compacted {
+                heading,
+                // a compaction that was killed has left it the name, which it keeps
+                is_kept: !drops_old || store.is_kept,
+            })
+        }
         Err(error) => {
             places.unmake(rt, output);
             Err(error)

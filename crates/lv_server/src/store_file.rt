@@ -260,8 +260,19 @@ impl StoreFile {
         if self.length > self.found.whole && self.file.set_len(self.found.whole).is_err() {
             return Err(unwritten);
         }
-        tell_of_cut(rt, name, self.length, self.found.whole);
+        self.tell_of_cut(rt, name);
         Ok(())
+    }
+
+    /// Says on standard error how many bytes behind the last whole line are left out, if there are any.
+    pub fn tell_of_cut<R: Eprint>(&self, rt: &R, name: &str) {
+        if self.length > self.found.whole {
+            let _ = eprintln!(rt;
+                "livevec: the last line of '{}' isn't whole: {} bytes are cut off",
+                Escaped(name),
+                self.length - self.found.whole
+            );
+        }
     }
 
     // Writes the first line where there is none. Where that fails, a file that was made here is removed.
@@ -417,15 +428,4 @@ fn is_single<R: Files>(
     output: OutputFile,
 ) -> Result<bool, ProgramError> {
     Ok(output.is_taken_away(rt, beside(alloc, name, KEPT)?.as_str()))
-}
-
-// Tells of a line that was cut off.
-fn tell_of_cut<R: Eprint>(rt: &R, name: &str, length: u64, whole: u64) {
-    if length > whole {
-        let _ = eprintln!(rt;
-            "livevec: the last line of '{}' isn't whole: {} bytes are cut off",
-            Escaped(name),
-            length - whole
-        );
-    }
 }
