@@ -51,7 +51,7 @@ pub fn compact_file<C: Clock + Copy, R: Eprint + Files<File = File>>(
     let (file, output) = places.make(rt)?;
     match fill_and_replace(clock, rt, alloc, &store, &places, file, output) {
         Ok(heading) => {
-            store.tell_of_cut(rt, name);
+            store.tell_of_torn_end(rt, name);
             Ok(Compacted {
                 heading,
                 // a compaction that was killed has left it the name, which it keeps

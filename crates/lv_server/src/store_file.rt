@@ -35,6 +35,9 @@ const NEW: LogHeading = LogHeading {
 // The first line of a log before which nothing came, without its LF.
 const FIRST_LINE: [u8; 13] = *b"livevec 2 0 0";
 
+// The last line of a whole transcript.
+const LAST_LINE: [u8; 4] = *b"end\n";
+
 // How many updates a vector has at most that is to be made anew.
 const MOST_SERVED: u32 = 16_777_214;
 
@@ -260,19 +263,27 @@ impl StoreFile {
         if self.length > self.found.whole && self.file.set_len(self.found.whole).is_err() {
             return Err(unwritten);
         }
-        self.tell_of_cut(rt, name);
+        tell_of_cut(rt, name, self.length, self.found.whole);
         Ok(())
     }
 
-    /// Says on standard error how many bytes behind the last whole line are left out, if there are any.
-    pub fn tell_of_cut<R: Eprint>(&self, rt: &R, name: &str) {
-        if self.length > self.found.whole {
-            let _ = eprintln!(rt;
-                "livevec: the last line of '{}' isn't whole: {} bytes are cut off",
-                Escaped(name),
-                self.length - self.found.whole
-            );
-        }
+    /// Says on standard error how many bytes stand behind the last whole line, if there are any: they are left out of what is made of the file.
+    pub fn tell_of_torn_end<R: Eprint>(&mut self, rt: &R, name: &str) {
+        let ended = if self.is_ended() { 4 } else { 0 };
+        tell_of_cut(
+            rt,
+            name,
+            self.length,
+            self.found.whole.saturating_add(ended),
+        );
+    }
+
+    // Whether the last line of a whole transcript stands behind its updates and answers.
+    fn is_ended(&mut self) -> bool {
+        let mut bytes = [0u8; 4];
+        self.file.seek(SeekFrom::Start(self.found.whole)).is_ok()
+            && self.file.read_exact(&mut bytes).is_ok()
+            && bytes == LAST_LINE
     }
 
     // Writes the first line where there is none. Where that fails, a file that was made here is removed.
@@ -428,4 +439,15 @@ fn is_single<R: Files>(
     output: OutputFile,
 ) -> Result<bool, ProgramError> {
     Ok(output.is_taken_away(rt, beside(alloc, name, KEPT)?.as_str()))
+}
+
+// Tells of a line that was cut off.
+fn tell_of_cut<R: Eprint>(rt: &R, name: &str, length: u64, whole: u64) {
+    if length > whole {
+        let _ = eprintln!(rt;
+            "livevec: the last line of '{}' isn't whole: {} bytes are cut off",
+            Escaped(name),
+            length - whole
+        );
+    }
 }
