@@ -1,6 +1,7 @@
 """Cases of the part `steps`: what lies in the folder of a log is exchanged, locked or served by another program right while a log is made anew or begun."""
 import errno
 import os
+import resource
 import shutil
 import subprocess
 
@@ -67,12 +68,12 @@ def folder_of(room, name):
     return folder
 
 
-def meanwhile(room, folder, words, call, at, runs, fails=None):
+def meanwhile(room, folder, words, call, at, runs, fails=None, **more):
     """A command, at one call of which another runs."""
     told = {"LD_PRELOAD": f"{room}/meanwhile.so", "MEANWHILE_CALL": call, "MEANWHILE_AT": str(at), "MEANWHILE_RUNS": f"{runs} && : > {room}/came"}
     if fails:
         told["MEANWHILE_FAILS"] = str(fails)
-    ran = subprocess.run([PROGRAM, *words], cwd=folder, env={**os.environ, **told}, stdin=subprocess.DEVNULL, capture_output=True, timeout=600)
+    ran = subprocess.run([PROGRAM, *words], cwd=folder, env={**os.environ, **told}, stdin=subprocess.DEVNULL, capture_output=True, timeout=600, **more)
     if not os.path.exists(f"{room}/came"):
         stop(f"{words} didn't come to {call} {at}, where `{runs}` was to run: status {ran.returncode}, {ran.stderr!r}")
     os.remove(f"{room}/came")
@@ -132,6 +133,26 @@ def unflushed(room):
     shutil.rmtree(folder)
 
 
+def private(room):
+    """Nobody but its owner may open the new log while it is filled; once it is in place, whoever might open the old one may open it."""
+    folder = folder_of(room, "private")
+    os.chmod(f"{folder}/log", 0o640)
+    ran = meanwhile(room, folder, COMPACT, "write", 1, "test $(stat -c %a log.compacting) = 600")
+    if ran.returncode != 0 or os.stat(f"{folder}/log").st_mode & 0o777 != 0o640:
+        stop(f"a log that some may read: status {ran.returncode}, {ran.stderr!r}, {os.stat(f'{folder}/log')}")
+    shutil.rmtree(folder)
+
+
+def removed_while_locked(room):
+    """A new log that can't be filled is locked until it is removed."""
+    folder = folder_of(room, "locked")
+    few = {"preexec_fn": lambda: resource.setrlimit(resource.RLIMIT_FSIZE, (0, 0)), "restore_signals": False}
+    ran = meanwhile(room, folder, COMPACT, "unlink", 1, "{ flock -n log.compacting true; test $? = 1; }", **few)
+    if ran.returncode != 1 or text_at(f"{folder}/log") != LOG or os.path.exists(f"{folder}/log.compacting"):
+        stop(f"a new log that can't be filled: status {ran.returncode}, {ran.stderr!r}, {os.listdir(folder)}")
+    shutil.rmtree(folder)
+
+
 def swapped(room):
     """Each of these. Says how many."""
     open(f"{room}/meanwhile.c", "w").write(MEANWHILE)
@@ -139,7 +160,7 @@ def swapped(room):
     cases = [(words, *case) for words in (COMPACT, DROP, SERVE, SERVE_DROP) for case in SWAPS]
     for case in cases:
         swap(room, *case)
-    others = (begun_by_another, left_behind, unflushed)
+    others = (begun_by_another, left_behind, unflushed, private, removed_while_locked)
     for case in others:
         case(room)
     return len(cases) + len(others)

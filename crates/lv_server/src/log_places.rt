@@ -1,14 +1,14 @@
 //! A log in whose place another comes: where the new one is made, and where the old one is kept.
 
 use crate::folders::{COMPACTING, Found, KEPT, beside, found_at, sync_folder};
-use crate::identity::Identity;
+use crate::identity::{Identity, standard_files};
 use crate::log_file::open_locked;
 use crate::output_file::{Access, OutputFile, Use};
 use crate::program_error::{ProgramError, Reason};
 use lv_script::Fault;
 use std::alloc::Global;
-use std::fs::{File, Files, OpenFile, hard_link, rename};
-use std::os::unix::fs::{MetadataExt, fchown};
+use std::fs::{File, Files, OpenFile, Permissions, TryLockError, hard_link, rename};
+use std::os::unix::fs::{MetadataExt, PermissionsExt, fchown};
 
 /// The name of a log, and those beside it that are used when another log comes in its place.
 #[derive(Drop)]
@@ -50,8 +50,8 @@ impl<'a> LogPlaces<'a> {
         [kept, found_at(rt, self.made.as_str())]
     }
 
-    /// Sees that nothing but regular files are there, which nobody has locked, and none of them is the log itself, but for FILE.1: a replacement that was
-    /// killed may have left it that name.
+    /// Sees that nothing but regular files are there, which nobody has locked and no standard stream reads or writes, and none of them is the log itself,
+    /// but for FILE.1: a replacement that was killed may have left it that name.
     pub fn see<R: Files<File = File>>(&self, rt: &R, log: Identity) -> Result<(), ProgramError> {
         let [kept, made] = self.found(rt);
         if let Some(reason) = self.kept_clash(rt, kept, log) {
@@ -72,8 +72,12 @@ impl<'a> LogPlaces<'a> {
     ) -> Option<Reason> {
         match found {
             Found::Nothing => None,
+            Found::Regular(identity) if identity == log => None,
             Found::Regular(identity) => {
-                if identity != log && is_locked(rt, self.kept.as_str()) {
+                if standard_files(rt).contains(&Some(identity)) {
+                    return Some(Reason::KeptUsed);
+                }
+                if is_locked(rt, self.kept.as_str()) {
                     return Some(Reason::KeptLocked);
                 }
                 None
@@ -97,6 +101,9 @@ impl<'a> LogPlaces<'a> {
                 if identity == log {
                     return Some(Reason::CompactingSame);
                 }
+                if standard_files(rt).contains(&Some(identity)) {
+                    return Some(Reason::CompactingUsed);
+                }
                 if is_locked(rt, self.made.as_str()) {
                     return Some(Reason::CompactingLocked);
                 }
@@ -108,22 +115,29 @@ impl<'a> LogPlaces<'a> {
         }
     }
 
-    /// Makes the new file and locks it, in place of one that was left by a replacement which was killed.
-    pub fn make<R: Files<File = File>>(&self, rt: &R) -> Result<(File, OutputFile), ProgramError> {
+    /// Makes the new file and locks it, in place of one that was left by a replacement which was killed. Nothing is made, and nothing taken away, where
+    /// the log's name no longer leads to it. Until the new file is in its place, nobody but its owner may open it.
+    pub fn make<R: Files<File = File>>(
+        &self,
+        rt: &R,
+        log: OutputFile,
+    ) -> Result<(File, OutputFile), ProgramError> {
+        if !log.is_named(rt, self.name) {
+            return Err(self.fault(Reason::Moved));
+        }
         let made = self.made.as_str();
         self.clear(rt, made, Reason::CompactingLocked, Reason::Uncompacted)?;
         let how = Access {
-            purpose: Use::Store,
+            purpose: Use::Private,
             makes: true,
         };
         let Ok((file, output)) = OutputFile::make(rt, how, made) else {
             return Err(self.fault(Reason::Uncompacted));
         };
-        if file.try_lock().is_err() {
-            let _ = output.is_removed(rt, made);
-            return Err(self.fault(Reason::Uncompacted));
+        match lock_made(rt, made, &file, output) {
+            Ok(()) => Ok((file, output)),
+            Err(reason) => Err(self.fault(reason)),
         }
-        Ok((file, output))
     }
 
     // Takes away what is in the way under a name beside the log, if something is, while it is locked. Why that can't be is one of two reasons: another has
@@ -150,7 +164,7 @@ impl<'a> LogPlaces<'a> {
         }
     }
 
-    /// Takes the new file away again.
+    /// Takes the new file away again. It is locked until then.
     pub fn unmake<R: Files>(&self, rt: &R, output: OutputFile) {
         let _ = output.is_removed(rt, self.made.as_str());
     }
@@ -169,10 +183,26 @@ impl<'a> LogPlaces<'a> {
             return Err(self.fault(Reason::Uncompacted));
         }
         self.see_names(rt, log, made)?;
-        if !self.drops_old {
-            self.keep(rt, log)?;
-            self.see_names(rt, log, made)?;
+        let has_second = !self.drops_old && self.keep(rt, log)?;
+        match self.rename(rt, log, made) {
+            Ok(()) => Ok(()),
+            Err(error) => {
+                if has_second && log.is_named(rt, self.name) {
+                    let _ = log.is_taken_away(rt, self.kept.as_str());
+                }
+                Err(error)
+            }
         }
+    }
+
+    // Gives the new file the log's name, where both names still lead to these two.
+    fn rename<R: Files>(
+        &self,
+        rt: &R,
+        log: OutputFile,
+        made: OutputFile,
+    ) -> Result<(), ProgramError> {
+        self.see_names(rt, log, made)?;
         match rename(rt, self.made.as_str(), self.name) {
             Ok(()) => Ok(()),
             Err(_) => Err(self.fault(Reason::Unreplaced)),
@@ -195,19 +225,23 @@ impl<'a> LogPlaces<'a> {
         Ok(())
     }
 
-    // Gives the old file a second name, in place of another file that nobody has locked, unless it has that already.
-    fn keep<R: Files<File = File>>(&self, rt: &R, log: OutputFile) -> Result<(), ProgramError> {
+    // Gives the old file a second name, in place of another file that nobody has locked, unless it has that already. Says whether it gave it.
+    fn keep<R: Files<File = File>>(&self, rt: &R, log: OutputFile) -> Result<bool, ProgramError> {
         let kept = self.kept.as_str();
         if log.is_named(rt, kept) {
-            return Ok(());
+            return Ok(false);
         }
+        let unkept = match found_at(rt, kept) {
+            Found::Nothing => Reason::Unkept,
+            _ => Reason::UnkeptAndGone,
+        };
         self.clear(rt, kept, Reason::KeptLocked, Reason::Unkept)?;
         if hard_link(rt, self.name, kept).is_err() {
-            return Err(self.fault(Reason::Unkept));
+            return Err(self.fault(unkept));
         }
         // what has the log's name may have changed in between
         if log.is_named(rt, kept) {
-            Ok(())
+            Ok(true)
         } else {
             Err(self.fault(Reason::Moved))
         }
@@ -261,7 +295,7 @@ impl<R: Files<File = File>> LogFolder for R {
         log: OutputFile,
     ) -> Result<(File, OutputFile), ProgramError> {
         places.see(self, log.identity)?;
-        places.make(self)
+        places.make(self, log)
     }
 
     fn unmake(&self, places: &LogPlaces<'_>, output: OutputFile) {
@@ -314,15 +348,41 @@ fn is_locked<R: Files<File = File>>(rt: &R, name: &str) -> bool {
     }
 }
 
-// Allows of the new file what was allowed of the old one, and flushes it to the disk. Says whether it could. The new one gets the old one's owner and group,
-// where who runs this may give a file away; else it belongs to that user.
-fn is_allowed(old: &File, new: &File) -> bool {
-    let is_allowed = match old.metadata() {
-        Ok(found) => {
-            let _ = fchown(new, Some(found.uid()), Some(found.gid()));
-            new.set_permissions(found.permissions()).is_ok()
+// Locks a file that was made here. Whoever has locked it first keeps it, and so does who has written it meanwhile.
+fn lock_made<R: Files>(rt: &R, name: &str, file: &File, output: OutputFile) -> Result<(), Reason> {
+    match file.try_lock() {
+        Ok(()) => {}
+        Err(TryLockError::WouldBlock) => return Err(Reason::CompactingLocked),
+        Err(TryLockError::Error(_)) => {
+            let _ = output.is_removed(rt, name);
+            return Err(Reason::Uncompacted);
         }
-        Err(_) => false,
+    }
+    match file.metadata() {
+        Ok(found) if found.len() == 0 && output.is_named(rt, name) => Ok(()),
+        _ => Err(Reason::Uncompacted),
+    }
+}
+
+// Allows of the new file what was allowed of the old one, and flushes it to the disk. Says whether it could. The new one gets the old one's owner and group,
+// where who runs this may give them; else it belongs to that user, and another group may do what others may.
+fn is_allowed(old: &File, new: &File) -> bool {
+    let Ok(found) = old.metadata() else {
+        return false;
     };
-    is_allowed && new.sync_all().is_ok()
+    let group = Some(found.gid());
+    let has_group = fchown(new, Some(found.uid()), group).is_ok()
+        || fchown(new, None, group).is_ok();
+    let mode = found.permissions().mode();
+    let allowed = if has_group {
+        mode
+    } else {
+        with_group_like_others(mode)
+    };
+    new.set_permissions(Permissions::from_mode(allowed)).is_ok() && new.sync_all().is_ok()
+}
+
+// What is allowed of a file whose group may do what others may.
+fn with_group_like_others(mode: u32) -> u32 {
+    (mode & !0o070) | ((mode & 0o007) << 3)
 }

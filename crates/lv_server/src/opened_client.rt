@@ -19,7 +19,7 @@ use lv_geometry::Limits;
 use lv_hub::{Query, Unasked, read_questions};
 use lv_script::Fault;
 use std::alloc::Global;
-use std::fs::{File, Files, OpenFile};
+use std::fs::{File, Files, OpenFile, TryLockError};
 use std::io::Read;
 use std::mem;
 use std::time::Clock;
@@ -162,7 +162,10 @@ fn open_and_ask<R: Files<File = File>>(
             Ok(opened) => Ok(Some(opened)),
             Err(error) => Err(error),
         },
-        None => Ok(None),
+        None => {
+            see_replies(all)?;
+            Ok(None)
+        }
     }
 }
 
@@ -226,6 +229,7 @@ fn see_log<'a, R: Files<File = File>>(
     if is_taken(rt, all, store.output) {
         return Err(ProgramError::new(Fault::WriteFault, Reason::RecordTaken, names.clients));
     }
+    see_replies(all)?;
     store.check_log(alloc, limits)?;
     let name = names.of_record().unwrap_or("");
     let places = LogPlaces::of(alloc, name, names.clients, kept.drops_old)?;
@@ -410,6 +414,7 @@ fn see_transcript<R: Files<File = File>>(
     if is_taken(rt, all, output) {
         return Err(ProgramError::new(Fault::WriteFault, Reason::RecordTaken, number));
     }
+    see_replies(all)?;
     match names_of(file) {
         Ok(count) if count <= 1 => {}
         Ok(_) => return Err(ProgramError::new(Fault::WriteFault, Reason::RecordNames, number)),
@@ -419,6 +424,25 @@ fn see_transcript<R: Files<File = File>>(
         return sync_folder(rt, name, number);
     }
     Ok(())
+}
+
+// Sees that nobody has locked a file of replies, as a server has its log or its transcript.
+fn see_replies(all: &[OpenedClient<File>]) -> Result<(), ProgramError> {
+    for opened in all {
+        if is_locked(&opened.replies) {
+            return Err(ProgramError::new(Fault::WriteFault, Reason::Locked, opened.number));
+        }
+    }
+    Ok(())
+}
+
+// Whether another has locked a file. Where locks aren't to be had, nobody has.
+fn is_locked(file: &File) -> bool {
+    match file.try_lock() {
+        Ok(()) => file.unlock().is_err(),
+        Err(TryLockError::WouldBlock) => true,
+        Err(TryLockError::Error(_)) => false,
+    }
 }
 
 // Whether a client reads or writes a file, or a standard stream leads there.

@@ -5,6 +5,13 @@ use crate::identity::Identity;
 use crate::program_error::{Left, ProgramError, Reason};
 use std::fs::{Files, Metadata, OpenFile, OpenOptions, remove_file, symlink_metadata};
 use std::io::ErrorKind;
+use std::os::unix::fs::OpenOptionsExt;
+
+// How often a file is looked at anew because another came under its name.
+const TRIES: u32 = 100;
+
+// What a file's owner alone may read and write.
+const PRIVATE: u32 = 0o600;
 
 /// What a file is opened for.
 #[derive(Clone, Copy)]
@@ -13,6 +20,8 @@ pub enum Use {
     Written,
     /// It is read, and written at its end only.
     Store,
+    /// The same, and if it is made, nobody but its owner may open it.
+    Private,
     /// Nothing is read or written there: it is locked, and taken away.
     Locked,
 }
@@ -35,6 +44,9 @@ impl Access {
             }
             Use::Store => {
                 how.read(true).append(true);
+            }
+            Use::Private => {
+                how.read(true).append(true).mode(PRIVATE);
             }
             Use::Locked => {
                 how.read(true);
@@ -62,23 +74,18 @@ impl OutputFile {
         OutputFile::open_by(rt, how, name)
     }
 
-    /// Opens it so, likewise. One that isn't there and isn't to be made is `Unopened`.
+    /// Opens it so, likewise. One that isn't there and isn't to be made is `Unopened`. Where another file comes under its name meanwhile, that one is opened.
     pub fn open_by<R: Files>(
         rt: &R,
         how: Access,
         name: &str,
     ) -> Result<(R::File, OutputFile), Reason> {
-        match symlink_metadata(rt, name) {
-            Ok(found) => open_regular(rt, how, name, &found),
-            Err(error) if error.kind() == ErrorKind::NotFound => {
-                if how.makes {
-                    OutputFile::make(rt, how, name)
-                } else {
-                    Err(Reason::Unopened)
-                }
+        for _ in 0..TRIES {
+            if let Some(opened) = open_once(rt, how, name) {
+                return opened;
             }
-            Err(_) => Err(Reason::Unmade),
         }
+        Err(Reason::Unmade)
     }
 
     /// Makes the file of this name, which isn't there, so. One of which it can't be said which it is stays, and is empty.
@@ -139,29 +146,53 @@ impl OutputFile {
     }
 }
 
-// Opens a file to write that is there. What is opened must be what was found: a link may have come in between.
-fn open_regular<R: Files>(
+// Opens it so, or says why it can't be; neither if another file came under its name meanwhile.
+fn open_once<R: Files>(
+    rt: &R,
+    how: Access,
+    name: &str,
+) -> Option<Result<(R::File, OutputFile), Reason>> {
+    match symlink_metadata(rt, name) {
+        Ok(found) => open_found(rt, how, name, &found),
+        Err(error) if error.kind() == ErrorKind::NotFound => {
+            if !how.makes {
+                return Some(Err(Reason::Unopened));
+            }
+            match OutputFile::make(rt, how, name) {
+                Err(_) if found_at(rt, name) != Found::Nothing => None,
+                made => Some(made),
+            }
+        }
+        Err(_) => Some(Err(Reason::Unmade)),
+    }
+}
+
+// Opens a file to write that was found. What is opened must be that one.
+fn open_found<R: Files>(
     rt: &R,
     how: Access,
     name: &str,
     found: &Metadata,
-) -> Result<(R::File, OutputFile), Reason> {
+) -> Option<Result<(R::File, OutputFile), Reason>> {
     if found.is_symlink() {
-        return Err(Reason::Link);
+        return Some(Err(Reason::Link));
     }
     if !found.is_file() {
-        return Err(Reason::Unmade);
+        return Some(Err(Reason::Unmade));
     }
-    let Ok(file) = how.options().open(rt, name) else {
-        return Err(Reason::Unmade);
-    };
     let output = OutputFile {
         identity: Identity::of(found),
         is_new: false,
     };
+    let Ok(file) = how.options().open(rt, name) else {
+        if output.is_named(rt, name) {
+            return Some(Err(Reason::Unmade));
+        }
+        return None;
+    };
     match file.metadata() {
-        Ok(opened) if Identity::of(&opened) == output.identity => Ok((file, output)),
-        Ok(_) => Err(Reason::Link),
-        Err(_) => Err(Reason::Unmade),
+        Ok(opened) if Identity::of(&opened) == output.identity => Some(Ok((file, output))),
+        Ok(_) => None,
+        Err(_) => Some(Err(Reason::Unmade)),
     }
 }

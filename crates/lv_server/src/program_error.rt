@@ -72,6 +72,8 @@ pub enum Reason {
     Moved,
     #[error(".1' can't be made of the old file: give --drop-old if it needn't be kept")]
     Unkept,
+    #[error(".1' can't be made of the old file, and what had this name is removed: give --drop-old if the old file needn't be kept")]
+    UnkeptAndGone,
     #[error(".compacting' can't be made or written")]
     Uncompacted,
     #[error(".compacting' is no longer the file that was made here: nothing was replaced by it")]
@@ -92,6 +94,8 @@ pub enum Reason {
     Standard,
     #[error(".out' is a link, and replies don't go through one: remove it")]
     Link,
+    #[error(".out' is locked, as by a server that writes it: rename one of the two")]
+    Locked,
     #[error("' is read or written here otherwise, perhaps under another name: name another file")]
     RecordTaken,
     #[error("' is a link, and neither a transcript nor a log goes through one: name the file itself, or remove the link")]
@@ -110,7 +114,7 @@ pub enum Reason {
     KeptLocked,
     #[error(".compacting' is there and no regular file: remove it")]
     CompactingTaken,
-    #[error(".compacting' is a second name (a hard link) of the log: remove it")]
+    #[error(".compacting' is the log itself, and a new log would be made there: give the log its name again, or remove this one if it has two")]
     CompactingSame,
     #[error(".compacting' is too long a name, and a new log would be made there: give a shorter name")]
     CompactingLong,
@@ -128,9 +132,8 @@ impl Reason {
     /// Whether the files that a command line names can't be served together: that is a wrong use of the command.
     pub fn is_clash(self) -> bool {
         match self {
-            Reason::Twice | Reason::Replies | Reason::Shared | Reason::Standard | Reason::Link => {
-                true
-            }
+            Reason::Twice | Reason::Replies | Reason::Shared | Reason::Standard => true,
+            Reason::Link | Reason::Locked => true,
             Reason::RecordTaken | Reason::RecordLink => true,
             Reason::RecordNames | Reason::RecordLocked => true,
             Reason::KeptTaken | Reason::KeptLong | Reason::KeptUnseen => true,

@@ -48,9 +48,16 @@ pub fn compact_file<C: Clock + Copy, R: Eprint + Files<File = File>>(
     store.check_front()?;
     let places = LogPlaces::of(alloc, name, 0, drops_old)?;
     places.see(rt, store.output.identity)?;
-    let (file, output) = places.make(rt)?;
-    match fill_and_replace(clock, rt, alloc, &store, &places, file, output) {
+    let (file, output) = places.make(rt, store.output)?;
+    let file = LogFile {
+        file,
+        syncs: true,
+        length: 0,
+    };
+    let mut log = Waited::new(clock, file);
+    match fill_and_replace(rt, alloc, &store, &places, &mut log, output) {
         Ok(heading) => {
+            drop(log);
             store.tell_of_torn_end(rt, name);
             Ok(Compacted {
                 heading,
@@ -60,6 +67,7 @@ pub fn compact_file<C: Clock + Copy, R: Eprint + Files<File = File>>(
         }
         Err(error) => {
             places.unmake(rt, output);
+            drop(log);
             Err(error)
         }
     }
@@ -70,31 +78,23 @@ fn clash(reason: Reason) -> ProgramError {
     ProgramError::new(Fault::WriteFault, reason, 0)
 }
 
-// Fills the new file, and puts it in place of the old one, which is kept if that is wanted. The new one is locked until both are done.
+// Fills the new file, and puts it in place of the old one, which is kept if that is wanted.
 fn fill_and_replace<C: Clock + Copy, R: Files<File = File>>(
-    clock: C,
     rt: &R,
     alloc: Global,
     store: &StoreFile,
     places: &LogPlaces<'_>,
-    file: File,
+    log: &mut Waited<C, LogFile<File>>,
     made: OutputFile,
 ) -> Result<LogHeading, ProgramError>
     requires { base_of store.now.found.heading ≤ 2 ^ 62 }
 {
-    let file = LogFile {
-        file,
-        syncs: true,
-        length: 0,
-    };
-    let mut log = Waited::new(clock, file);
-    match compact_log(alloc, &store.found, &mut log) {
+    match compact_log(alloc, &store.found, log) {
         Ok(()) => {}
         Err(Fault::NoMemory) => return Err(ProgramError::memory()),
         Err(_) => return Err(clash(Reason::Uncompacted)),
     }
     places.replace(rt, &store.file, store.output, &log.stream().file, made)?;
     places.sync(rt)?;
-    drop(log);
     Ok(compacted_heading(store.found.heading, &store.found.edits))
 }

@@ -83,15 +83,22 @@ impl<'a, C: Clock + Copy, R: Eprint + LogFolder> StoredLog<'a, C, &'a R> {
         requires few { length elements.now ≤ 1048568 }
     {
         let (file, output) = self.rt.make(&self.places, self.output)?;
-        match self.fill_and_replace(alloc, heading, elements, file, output) {
-            Ok(file) => {
-                drop(mem::replace(&mut self.file, file));
+        let file = LogFile {
+            file,
+            syncs: self.syncs,
+            length: 0,
+        };
+        let mut log = Waited::new(self.clock, file);
+        match self.fill_and_replace(alloc, heading, elements, &mut log, output) {
+            Ok(()) => {
+                drop(mem::replace(&mut self.file, log));
                 self.output = output;
                 self.sync_name();
                 Ok(())
             }
             Err(error) => {
                 self.rt.unmake(&self.places, output);
+                drop(log);
                 Err(error)
             }
         }
@@ -103,27 +110,20 @@ impl<'a, C: Clock + Copy, R: Eprint + LogFolder> StoredLog<'a, C, &'a R> {
         alloc: Global,
         heading: LogHeading,
         elements: &[i64],
-        file: File,
+        log: &mut Waited<C, LogFile<File>>,
         made: OutputFile,
-    ) -> Result<Waited<C, LogFile<File>>, ProgramError>
+    ) -> Result<(), ProgramError>
         requires count { heading.elements ≡ length elements.now }
         requires few { length elements.now ≤ 1048568 }
     {
-        let file = LogFile {
-            file,
-            syncs: self.syncs,
-            length: 0,
-        };
-        let mut log = Waited::new(self.clock, file);
-        match write_log(alloc, heading, elements, &mut log) {
+        match write_log(alloc, heading, elements, log) {
             Ok(()) => {}
             Err(Fault::NoMemory) => return Err(ProgramError::memory()),
             Err(_) => return Err(self.places.fault(Reason::Uncompacted)),
         }
         let old = &self.file.stream().file;
-        self.rt
-            .replace(&self.places, old, self.output, &log.stream().file, made)?;
-        Ok(log)
+        let new = &log.stream().file;
+        self.rt.replace(&self.places, old, self.output, new, made)
     }
 
     // Flushes the new file's name to the disk. Where that fails and is wanted, nothing more is written: after a crash the name might lead to the old
