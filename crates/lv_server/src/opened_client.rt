@@ -163,7 +163,7 @@ fn open_and_ask<R: Files<File = File>>(
             Err(error) => Err(error),
         },
         None => {
-            see_replies(all)?;
+            lock_replies(rt, all)?;
             Ok(None)
         }
     }
@@ -229,7 +229,7 @@ fn see_log<'a, R: Files<File = File>>(
     if is_taken(rt, all, store.output) {
         return Err(ProgramError::new(Fault::WriteFault, Reason::RecordTaken, names.clients));
     }
-    see_replies(all)?;
+    lock_replies(rt, all)?;
     store.check_log(alloc, limits)?;
     let name = names.of_record().unwrap_or("");
     let places = LogPlaces::of(alloc, name, names.clients, kept.drops_old)?;
@@ -414,7 +414,7 @@ fn see_transcript<R: Files<File = File>>(
     if is_taken(rt, all, output) {
         return Err(ProgramError::new(Fault::WriteFault, Reason::RecordTaken, number));
     }
-    see_replies(all)?;
+    lock_replies(rt, all)?;
     match names_of(file) {
         Ok(count) if count <= 1 => {}
         Ok(_) => return Err(ProgramError::new(Fault::WriteFault, Reason::RecordNames, number)),
@@ -426,22 +426,21 @@ fn see_transcript<R: Files<File = File>>(
     Ok(())
 }
 
-// Sees that nobody has locked a file of replies, as a server has its log or its transcript.
-fn see_replies(all: &[OpenedClient<File>]) -> Result<(), ProgramError> {
+// Locks each file of replies until it is closed, and sees that its name leads to it still. So none is the log or the transcript of another server, nor becomes it.
+fn lock_replies<R: Files>(rt: &R, all: &[OpenedClient<File>]) -> Result<(), ProgramError> {
     for opened in all {
-        if is_locked(&opened.replies) {
+        if is_held(&opened.replies) || !opened.output.is_named(rt, opened.name.as_str()) {
             return Err(ProgramError::new(Fault::WriteFault, Reason::Locked, opened.number));
         }
     }
     Ok(())
 }
 
-// Whether another has locked a file. Where locks aren't to be had, nobody has.
-fn is_locked(file: &File) -> bool {
+// Whether another has locked a file. If not, it is locked from now on, where locks are to be had.
+fn is_held(file: &File) -> bool {
     match file.try_lock() {
-        Ok(()) => file.unlock().is_err(),
         Err(TryLockError::WouldBlock) => true,
-        Err(TryLockError::Error(_)) => false,
+        Ok(()) | Err(TryLockError::Error(_)) => false,
     }
 }
 
@@ -520,16 +519,14 @@ fn empty_all<C: Clock + Copy, F: OpenFile + Drop>(
     Ok(clients)
 }
 
-// Takes away the files of replies that were made here, and adds to an error which is the first that is left.
-fn without_new<R: Files, F: Drop>(
-    rt: &R,
-    all: &[OpenedClient<F>],
-    error: ProgramError,
-) -> ProgramError {
+// Takes away the files of replies that were made here and that nobody else has locked, and adds to an error which is the first that is left.
+fn without_new<R: Files>(rt: &R, all: &[OpenedClient<File>], error: ProgramError) -> ProgramError {
     let mut error = error;
     for opened in all {
-        let left = Left::Replies(opened.number);
-        error = opened.output.without(rt, opened.name.as_str(), left, error);
+        if !is_held(&opened.replies) {
+            let left = Left::Replies(opened.number);
+            error = opened.output.without(rt, opened.name.as_str(), left, error);
+        }
     }
     error
 }
