@@ -94,8 +94,8 @@ session. A turn that finds no task counts too, so give workers more turns for lo
 
 Each FILE and its FILE.out are opened in order before a thread starts. The first one that can't be
 opened is the fault, and then no file has changed. No FILE.out is emptied before all are open. It is a
-usage error if a FILE.out is a link, or another name of a file that is read or written here, standard
-streams included.
+usage error if a FILE.out is a link, locked by another program, as a log is that is served, or another
+name of a file that is read or written here, standard streams included.
 
 The transcript goes to standard output: the updates, then each answered reduction in the order of
 updates. `livevec audit` accepts it. If a session ends with a fault, no transcript is written.
@@ -207,8 +207,8 @@ If you try a line again, other sessions may have changed the vector in the meant
 
 Each FILE and its FILE.out are opened in order before a thread starts. The first one that can't be
 opened is the fault, and then no file has changed. No FILE.out is emptied before all are open. It is a
-usage error if a FILE.out is a link, or another name of a file that is read or written here, standard
-streams included. If several sessions have faults, the first file's is reported.";
+usage error if a FILE.out is a link, locked by another program, as a log is that is served, or another
+name of a file that is read or written here, standard streams included. If several sessions have faults, the first file's is reported.";
 
 /// What `schedule` does.
 pub const SCHEDULE: &str =
