@@ -48,13 +48,13 @@ $(PROGRAM):
 test: ## the gate: proofs, wrong bodies, tests, rows, examples, pages; with CRATE=.. that crate and those below
 ifeq ($(CRATE),)
 	@tools/check_pages
-	@tools/timed test "proves all crates, tries the wrong bodies, runs tests and examples" "18 to 60 min at first, 5 where nothing has changed" tools/gate
+	@tools/timed test "proves all crates, tries the wrong bodies, runs tests and examples" "one to one and a half hours at first, 1 to 5 min where nothing has changed" tools/gate
 	@tools/tried gate --built
 	@tools/timed soak_memory "refuses each request for memory in turn" "under 2 min" tools/soak_memory
 	@tools/timed examples "runs rows, examples and the programs on pages" "some 2 min, 2 more at first" examples/check
 	@tools/timed fits "compiles the bench's programs, whether they fit" "some 3 min" bench/check
 else
-	@tools/timed test-$(CRATE) "proves $(CRATE) and what lies below it, tries their wrong bodies" "1 to 30 min, by how high the crate stands" tools/gate $(CRATE)
+	@tools/timed test-$(CRATE) "proves $(CRATE) and what lies below it, tries their wrong bodies" "1 to 60 min, by how high the crate stands" tools/gate $(CRATE)
 endif
 
 check: ## proves one crate, CRATE=.., and tells the time of each function
