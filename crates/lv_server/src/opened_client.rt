@@ -426,14 +426,20 @@ fn see_transcript<R: Files<File = File>>(
     Ok(())
 }
 
-// Locks each file of replies until it is closed, and sees that its name leads to it still. So none is the log or the transcript of another server, nor becomes it.
+// Locks each file of replies until it is closed, and sees that its name leads to it still and that nobody has written to one that was made here. So none is
+// the log or the transcript of another server, nor becomes it.
 fn lock_replies<R: Files>(rt: &R, all: &[OpenedClient<File>]) -> Result<(), ProgramError> {
     for opened in all {
-        if is_held(&opened.replies) || !opened.output.is_named(rt, opened.name.as_str()) {
+        if !is_own(opened) || !opened.output.is_named(rt, opened.name.as_str()) {
             return Err(ProgramError::new(Fault::WriteFault, Reason::Locked, opened.number));
         }
     }
     Ok(())
+}
+
+// Whether a client's file of replies is locked here, and nobody has written to it if it was made here.
+fn is_own(opened: &OpenedClient<File>) -> bool {
+    !is_held(&opened.replies) && opened.output.is_untouched(&opened.replies)
 }
 
 // Whether another has locked a file. If not, it is locked from now on, where locks are to be had.
@@ -519,11 +525,11 @@ fn empty_all<C: Clock + Copy, F: OpenFile + Drop>(
     Ok(clients)
 }
 
-// Takes away the files of replies that were made here and that nobody else has locked, and adds to an error which is the first that is left.
+// Takes away the files of replies that were made here and that nobody else has locked or written to, and adds to an error which is the first that is left.
 fn without_new<R: Files>(rt: &R, all: &[OpenedClient<File>], error: ProgramError) -> ProgramError {
     let mut error = error;
     for opened in all {
-        if !is_held(&opened.replies) {
+        if is_own(opened) {
             let left = Left::Replies(opened.number);
             error = opened.output.without(rt, opened.name.as_str(), left, error);
         }

@@ -119,6 +119,14 @@ impl OutputFile {
         self.is_new || file.set_len(0).is_ok()
     }
 
+    /// Whether nobody has written to it since it was made here, if it was.
+    pub fn is_untouched<F: OpenFile>(self, file: &F) -> bool {
+        match file.metadata() {
+            Ok(found) => !self.is_new || found.len() == 0,
+            Err(_) => false,
+        }
+    }
+
     /// Takes it away, where its name still leads to it. Says whether it could.
     pub fn is_taken_away<R: Files>(self, rt: &R, name: &str) -> bool {
         self.is_named(rt, name) && remove_file(rt, name).is_ok()
