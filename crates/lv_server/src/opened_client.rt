@@ -85,8 +85,9 @@ pub fn open_input<R: Files>(
 ///
 /// The first that fails is the fault: `ReadFault` where a file can't be opened or is a directory, `WriteFault` where that of its
 /// replies can't be made, or is there and no regular file. Those that were made here are taken away then. So it is with what a
-/// subscriber's file asks, which is read next, and with the file of a transcript, which comes last, and is locked. Names that clash are
-/// told before any file is opened.
+/// subscriber's file asks, which is read next, and with the file of a transcript, which comes last, and is locked. Each file of replies
+/// is locked too, until it is closed: one that another has locked, or has written to since it was made here, is refused and left as it
+/// is. Names that clash are told before any file is opened.
 pub fn open_all<C: Clock + Copy, R: Files<File = File>>(
     clock: C,
     rt: &R,
