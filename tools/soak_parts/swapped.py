@@ -4,6 +4,7 @@ import os
 import resource
 import shutil
 import subprocess
+import time
 
 from soak_parts.program import PROGRAM, stop
 
@@ -153,6 +154,24 @@ def removed_while_locked(room):
     shutil.rmtree(folder)
 
 
+def written_since(room, words):
+    """A server makes a file of replies and waits for its next client, while another serves that file as a log, and ends: the file is refused, and stays."""
+    folder = folder_of(room, "since")
+    os.mkfifo(f"{folder}/later")
+    shutil.copy(f"{folder}/session", f"{folder}/second")
+    with subprocess.Popen([PROGRAM, "serve", *words, "session", "later"], cwd=folder, stdin=subprocess.DEVNULL, stdout=subprocess.PIPE, stderr=subprocess.PIPE) as first:
+        while first.poll() is None and not os.path.exists(f"{folder}/session.out"):
+            time.sleep(0.01)
+        second = subprocess.run([PROGRAM, "serve", "--log", "session.out", "second"], cwd=folder, stdin=subprocess.DEVNULL, capture_output=True, timeout=600)
+        os.close(os.open(f"{folder}/later", os.O_RDWR))
+        told, said = first.communicate(timeout=600)
+    if second.returncode or first.returncode != 2 or told or b"error: 'session.out' was made here, and another program has written to it since: rename one of the two\n" not in said or text_at(f"{folder}/session.out") != "livevec 2 0 0\nj push 1\n":
+        stop(f"{words}, replies that another has written: status {second.returncode} and {first.returncode}, {told!r}, {said!r}, {text_at(f'{folder}/session.out')!r}")
+    if sorted(os.listdir(folder)) != ["later", "log", "other", "second", "second.out", "session", "session.out"] or text_at(f"{folder}/log") != LOG:
+        stop(f"{words}, replies that another has written: {os.listdir(folder)}, {text_at(f'{folder}/log')!r}")
+    shutil.rmtree(folder)
+
+
 def swapped(room):
     """Each of these. Says how many."""
     open(f"{room}/meanwhile.c", "w").write(MEANWHILE)
@@ -163,4 +182,7 @@ def swapped(room):
     others = (begun_by_another, left_behind, unflushed, private, removed_while_locked)
     for case in others:
         case(room)
-    return len(cases) + len(others)
+    sorts = ([], ["--transcript", "kept"], ["--log", "log"])
+    for words in sorts:
+        written_since(room, words)
+    return len(cases) + len(others) + len(sorts)

@@ -86,8 +86,8 @@ pub fn open_input<R: Files>(
 /// The first that fails is the fault: `ReadFault` where a file can't be opened or is a directory, `WriteFault` where that of its
 /// replies can't be made, or is there and no regular file. Those that were made here are taken away then. So it is with what a
 /// subscriber's file asks, which is read next, and with the file of a transcript, which comes last, and is locked. Each file of replies
-/// is locked too, until it is closed: one that another has locked, or has written to since it was made here, is refused and left as it
-/// is. Names that clash are told before any file is opened.
+/// is locked too, until it is closed: one that another has locked, or has written to since it was made here, or whose name leads elsewhere
+/// by then, is refused and left as it is. Names that clash are told before any file is opened.
 pub fn open_all<C: Clock + Copy, R: Files<File = File>>(
     clock: C,
     rt: &R,
@@ -431,16 +431,26 @@ fn see_transcript<R: Files<File = File>>(
 // the log or the transcript of another server, nor becomes it.
 fn lock_replies<R: Files>(rt: &R, all: &[OpenedClient<File>]) -> Result<(), ProgramError> {
     for opened in all {
-        if !is_own(opened) || !opened.output.is_named(rt, opened.name.as_str()) {
-            return Err(ProgramError::new(Fault::WriteFault, Reason::Locked, opened.number));
+        let reason = match lost_by(opened) {
+            None if !opened.output.is_named(rt, opened.name.as_str()) => Some(Reason::Exchanged),
+            reason => reason,
+        };
+        if let Some(reason) = reason {
+            return Err(ProgramError::new(Fault::WriteFault, reason, opened.number));
         }
     }
     Ok(())
 }
 
-// Whether a client's file of replies is locked here, and nobody has written to it if it was made here.
-fn is_own(opened: &OpenedClient<File>) -> bool {
-    !is_held(&opened.replies) && opened.output.is_untouched(&opened.replies)
+// Why a client's file of replies is another's, if it is: another has locked it, or has written to it although it was made here. If not, it is locked here.
+fn lost_by(opened: &OpenedClient<File>) -> Option<Reason> {
+    if is_held(&opened.replies) {
+        return Some(Reason::Locked);
+    }
+    if !opened.output.is_untouched(&opened.replies) {
+        return Some(Reason::Written);
+    }
+    None
 }
 
 // Whether another has locked a file. If not, it is locked from now on, where locks are to be had.
@@ -530,7 +540,7 @@ fn empty_all<C: Clock + Copy, F: OpenFile + Drop>(
 fn without_new<R: Files>(rt: &R, all: &[OpenedClient<File>], error: ProgramError) -> ProgramError {
     let mut error = error;
     for opened in all {
-        if is_own(opened) {
+        if lost_by(opened).is_none() {
             let left = Left::Replies(opened.number);
             error = opened.output.without(rt, opened.name.as_str(), left, error);
         }

@@ -96,6 +96,10 @@ pub enum Reason {
     Link,
     #[error(".out' is locked, as by a server that writes it: rename one of the two")]
     Locked,
+    #[error(".out' was made here, and another program has written to it since: rename one of the two")]
+    Written,
+    #[error(".out' is no longer the file that was opened here: rename one of the two")]
+    Exchanged,
     #[error("' is read or written here otherwise, perhaps under another name: name another file")]
     RecordTaken,
     #[error("' is a link, and neither a transcript nor a log goes through one: name the file itself, or remove the link")]
@@ -134,6 +138,7 @@ impl Reason {
         match self {
             Reason::Twice | Reason::Replies | Reason::Shared | Reason::Standard => true,
             Reason::Link | Reason::Locked => true,
+            Reason::Written | Reason::Exchanged => true,
             Reason::RecordTaken | Reason::RecordLink => true,
             Reason::RecordNames | Reason::RecordLocked => true,
             Reason::KeptTaken | Reason::KeptLong | Reason::KeptUnseen => true,
