@@ -38,6 +38,11 @@ int fsync(int fd)
     return meets("fsync") ? -1 : ((int (*)(int))dlsym(RTLD_NEXT, "fsync"))(fd);
 }
 
+int flock(int fd, int how)
+{
+    return meets("flock") ? -1 : ((int (*)(int, int))dlsym(RTLD_NEXT, "flock"))(fd, how);
+}
+
 int unlink(const char *name)
 {
     return meets("unlink") ? -1 : ((int (*)(const char *))dlsym(RTLD_NEXT, "unlink"))(name);
@@ -107,6 +112,19 @@ def begun_by_another(room):
     if ran.returncode != 2 or status == "0\n" and text_at(f"{folder}/log") != "livevec 2 0 0\nj push 1\n" or status == "2\n" and os.path.exists(f"{folder}/log"):
         stop(f"a log that is removed was served meanwhile: status {ran.returncode} and {status!r}, {ran.stderr!r}, {os.listdir(folder)}")
     shutil.rmtree(folder)
+
+
+def served_before_the_lock(room):
+    """A server makes a log, which another serves and ends before the first has locked it. The first can't begin, and the log stays; or it is to be a transcript, and is emptied."""
+    for words, status, wanted in ((["--log"], 2, "livevec 2 0 0\nj push 1\nj push 2\n"), (["--transcript"], 0, "livevec 1\nj push 1\nend\n")):
+        folder = folder_of(room, "before")
+        os.remove(f"{folder}/log")
+        os.mkdir(f"{folder}/log.1")
+        open(f"{folder}/second", "w").write("push 1\npush 2\n")
+        ran = meanwhile(room, folder, ["serve", *words, "log", "session"], "flock", 1, f"{PROGRAM} serve --drop-old --log log second")
+        if ran.returncode != status or text_at(f"{folder}/log") != wanted:
+            stop(f"{words} of a log that was served before the lock: status {ran.returncode}, {ran.stderr!r}, {text_at(f'{folder}/log')!r}")
+        shutil.rmtree(folder)
 
 
 def left_behind(room):
@@ -179,7 +197,7 @@ def swapped(room):
     cases = [(words, *case) for words in (COMPACT, DROP, SERVE, SERVE_DROP) for case in SWAPS]
     for case in cases:
         swap(room, *case)
-    others = (begun_by_another, left_behind, unflushed, private, removed_while_locked)
+    others = (begun_by_another, served_before_the_lock, left_behind, unflushed, private, removed_while_locked)
     for case in others:
         case(room)
     sorts = ([], ["--transcript", "kept"], ["--log", "log"])

@@ -30,7 +30,8 @@ pub struct LogFile<F: Drop> {
 
 /// Opens the file of a transcript or of a log, as those of replies are opened, and locks it before anything else, so that no second
 /// server writes it as long as it is open. Where another file has come in place of what was opened until the lock was there, as a compaction
-/// brings one, that one is opened. The reason tells the file, and is `Unopened` where it isn't there and isn't to be made.
+/// brings one, that one is opened. One that was made here and that another has written to until then counts as one that was there before. The
+/// reason tells the file, and is `Unopened` where it isn't there and isn't to be made.
 pub fn open_locked<R: Files<File = File>>(
     rt: &R,
     how: Access,
@@ -43,7 +44,8 @@ pub fn open_locked<R: Files<File = File>>(
             Err(reason) => return Err(without(rt, name, output, reason)),
         }
         if output.is_named(rt, name) {
-            return Ok((file, output));
+            let found = output.as_found(&file);
+            return Ok((file, found));
         }
     }
     Err(Reason::RecordLocked)

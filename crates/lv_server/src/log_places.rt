@@ -358,10 +358,10 @@ fn lock_made<R: Files>(rt: &R, name: &str, file: &File, output: OutputFile) -> R
             return Err(Reason::Uncompacted);
         }
     }
-    match file.metadata() {
-        Ok(found) if found.len() == 0 && output.is_named(rt, name) => Ok(()),
-        _ => Err(Reason::Uncompacted),
+    if output.is_untouched(file) && output.is_named(rt, name) {
+        return Ok(());
     }
+    Err(Reason::Uncompacted)
 }
 
 // Allows of the new file what was allowed of the old one, and flushes it to the disk. Says whether it could. The new one gets the old one's owner and group,

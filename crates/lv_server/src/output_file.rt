@@ -127,6 +127,14 @@ impl OutputFile {
         }
     }
 
+    /// The same, as one that was there before if another has written to it since it was made here.
+    pub fn as_found<F: OpenFile>(self, file: &F) -> OutputFile {
+        OutputFile {
+            identity: self.identity,
+            is_new: self.is_new && self.is_untouched(file),
+        }
+    }
+
     /// Takes it away, where its name still leads to it. Says whether it could.
     pub fn is_taken_away<R: Files>(self, rt: &R, name: &str) -> bool {
         self.is_named(rt, name) && remove_file(rt, name).is_ok()
