@@ -56,7 +56,7 @@ fn play(alloc: Global, events: &[Event]) -> Result<Vec<ReplyOf<AffineMap>>, Refu
 }
 
 // What a refresh event has no part in: a receipt, or an answer without its counts.
-#[derive(Clone, Copy, Debug, PartialEq, Eq)]
+#[derive(Clone, Copy, PartialEq, Eq)]
 enum Plain {
     Did(Receipt),
     Answered(u32, AffineMap),

@@ -207,7 +207,7 @@ fn a_view_of_three_fresh_blocks(rt: HostRuntime) -> Result<(), Refusal> {
 }
 
 // A reply, as a value that can be compared. Of a scan the edit, and whether the values are 1, 3 and 6.
-#[derive(Clone, Copy, Debug, PartialEq, Eq)]
+#[derive(Clone, Copy, PartialEq, Eq)]
 enum Told {
     Did(Receipt),
     Settled,

@@ -13,7 +13,7 @@ use crate::words::{edit_in, size_in};
 use lv_machine::Sized;
 
 /// What a look shows: the number of the last edit, and the size after it.
-#[derive(Clone, Copy, Debug, PartialEq, Eq)]
+#[derive(Clone, Copy, PartialEq, Eq)]
 pub struct Look {
     pub edit: u32,
     pub size: u32,

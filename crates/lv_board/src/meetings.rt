@@ -16,7 +16,7 @@ use crate::words::edit_in;
 use atomic_table::Seat as Token;
 
 /// The numbers of the last edits where the two seats looked.
-#[derive(Clone, Copy, Debug, PartialEq, Eq)]
+#[derive(Clone, Copy, PartialEq, Eq)]
 pub struct Met {
     pub first: u32,
     pub second: u32,

@@ -5,7 +5,7 @@ use lv_reduce::Values;
 pub type Elements = Values<i64>;
 
 /// What a vector was when its board was closed: the number of its last edit, and its elements.
-#[derive(Debug, Drop)]
+#[derive(Drop)]
 pub struct Closed {
     pub edit: u32,
     pub elements: Elements,

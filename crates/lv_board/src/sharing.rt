@@ -18,7 +18,7 @@ use std::alloc::Global;
 use std::sync::Arc;
 
 /// Why nobody sits down.
-#[derive(Clone, Copy, Debug, PartialEq, Eq)]
+#[derive(Clone, Copy, PartialEq, Eq)]
 pub enum Unseated {
     /// No seat is there.
     NoSeat,
@@ -27,7 +27,7 @@ pub enum Unseated {
 }
 
 /// Why a shared board stays open.
-#[derive(Clone, Copy, Debug, PartialEq, Eq)]
+#[derive(Clone, Copy, PartialEq, Eq)]
 pub enum Unclosed {
     /// Not all seats are there.
     SeatsOut,

@@ -7,7 +7,7 @@ use crate::parts::Parted;
 use crate::singles::Single;
 
 /// The map `y -> a * y + b` modulo 2^32.
-#[derive(Clone, Copy, Debug, PartialEq, Eq)]
+#[derive(Clone, Copy, PartialEq, Eq)]
 pub struct AffineMap {
     pub a: u32,
     pub b: u32,
@@ -42,7 +42,7 @@ impl AffineMap {
 
 /// The map that the elements are in turn, each as `y -> a * y + b` modulo 2^32 for `a` its number of 256s, rounded
 /// down, and `b` the rest.
-#[derive(Clone, Copy, Debug, PartialEq, Eq)]
+#[derive(Clone, Copy, PartialEq, Eq)]
 pub struct Affine;
 
 impl Body for Affine {

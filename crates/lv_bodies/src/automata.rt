@@ -12,7 +12,7 @@ use lv_geometry::Refusal;
 use std::alloc::AllocError;
 
 /// An automaton of eight states: from state `q`, an element `x` leads to `table[q][x mod 4]`.
-#[derive(Debug, PartialEq, Eq)]
+#[derive(PartialEq, Eq)]
 pub struct Automaton {
     table: [[u8; 4]; 8],
     ghost valid: { IsTrue (is_table table) },

@@ -6,7 +6,7 @@ use crate::orders::{Downward, Order, Upward};
 use std::alloc::AllocError;
 
 /// The element that comes first by an order, or the last that there can be where there are no elements.
-#[derive(Debug, PartialEq, Eq)]
+#[derive(PartialEq, Eq)]
 pub struct BareExtreme<O> {
     order: O,
 }

@@ -7,7 +7,7 @@ use crate::parts::{Parted, low_bits, with_sign};
 use crate::singles::Single;
 
 /// What is kept of some neighbours, of which there is at least one.
-#[derive(Clone, Copy, Debug, PartialEq, Eq)]
+#[derive(Clone, Copy, PartialEq, Eq)]
 pub struct RunTotals {
     /// All of them added up.
     pub total: i128,
@@ -87,7 +87,7 @@ impl RunTotals {
 const NO_RUN: i128 = -(1 << 120);
 
 /// The greatest total of at least one neighbour, if there is one.
-#[derive(Clone, Copy, Debug, PartialEq, Eq)]
+#[derive(Clone, Copy, PartialEq, Eq)]
 pub struct Best;
 
 impl Body for Best {

@@ -9,7 +9,7 @@ use crate::singles::Single;
 use std::alloc::AllocError;
 
 /// The element that comes first by an order, if there is one.
-#[derive(Debug, PartialEq, Eq)]
+#[derive(PartialEq, Eq)]
 pub struct Extreme<O> {
     order: O,
 }

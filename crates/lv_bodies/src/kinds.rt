@@ -1,5 +1,5 @@
 /// What a query asks of a range. The names in scripts are these, in small letters.
-#[derive(Clone, Copy, Debug, PartialEq, Eq)]
+#[derive(Clone, Copy, PartialEq, Eq)]
 pub enum Kind {
     Sum,
     Least,
@@ -10,7 +10,7 @@ pub enum Kind {
 }
 
 /// The value of a kind, as it is shown.
-#[derive(Clone, Copy, Debug, PartialEq, Eq)]
+#[derive(Clone, Copy, PartialEq, Eq)]
 pub enum Shown {
     /// The sum modulo 2^64.
     Sum(u64),

@@ -5,7 +5,7 @@ ghost use Rattle.lv_bodies.specs.Names.{IsName, is_name, is_name_byte};
 use std::marker::Model;
 
 /// The name of a standing query: 1 to 16 bytes of `a-z`, `0-9` and `_`.
-#[derive(Clone, Copy, Debug, Hash)]
+#[derive(Clone, Copy, Hash)]
 pub struct Name {
     // The bytes of the name, and zeros after them.
     bytes: [u8; 16],

@@ -40,11 +40,11 @@ pub trait Order: Copy {
 }
 
 /// The smaller comes first.
-#[derive(Clone, Copy, Debug, PartialEq, Eq)]
+#[derive(Clone, Copy, PartialEq, Eq)]
 pub struct Upward;
 
 /// The greater comes first.
-#[derive(Clone, Copy, Debug, PartialEq, Eq)]
+#[derive(Clone, Copy, PartialEq, Eq)]
 pub struct Downward;
 
 impl Order for Upward {

@@ -3,7 +3,7 @@ use crate::bodies::Body;
 use std::alloc::AllocError;
 
 /// Two bodies side by side: both are computed of the same elements.
-#[derive(Debug, PartialEq, Eq)]
+#[derive(PartialEq, Eq)]
 pub struct Pair<A, B> {
     pub first: A,
     pub second: B,

@@ -4,7 +4,7 @@ use crate::bodies::Body;
 use crate::long::LongBody;
 
 /// The totals of the best run, where no elements have a total of 0 and a run so low that it never counts.
-#[derive(Clone, Copy, Debug, PartialEq, Eq)]
+#[derive(Clone, Copy, PartialEq, Eq)]
 pub struct Runs;
 
 impl Body for Runs {

@@ -21,7 +21,7 @@ use std::marker::Model;
 pub type SixPairs = Pair<Sum, Pair<Least, Pair<Greatest, Pair<Best, Pair<Affine, Automaton>>>>>;
 
 /// The summaries of all six, side by side. It has a type of its own, so that what is generic over its body stays small.
-#[derive(Debug, PartialEq, Eq)]
+#[derive(PartialEq, Eq)]
 pub struct SixSummary {
     pub(crate) each: <SixPairs as Body>::S,
 }
@@ -61,11 +61,11 @@ impl SixSummary {
 }
 
 /// All six as one body, with the program's automaton. It has a type of its own, so that what is generic over it stays small.
-#[derive(Clone, Copy, Debug, PartialEq, Eq)]
+#[derive(Clone, Copy, PartialEq, Eq)]
 pub struct Six;
 
 /// All six as one body, with an automaton by any table.
-#[derive(Clone, Copy, Debug, PartialEq, Eq)]
+#[derive(Clone, Copy, PartialEq, Eq)]
 pub struct SixByTable {
     pub automaton: Automaton,
 }

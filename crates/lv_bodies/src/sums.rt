@@ -7,7 +7,7 @@ use crate::parts::Parted;
 use crate::singles::Single;
 
 /// The sum of the elements modulo 2^64.
-#[derive(Clone, Copy, Debug, PartialEq, Eq)]
+#[derive(Clone, Copy, PartialEq, Eq)]
 pub struct Sum;
 
 impl Body for Sum {

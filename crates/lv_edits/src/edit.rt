@@ -1,5 +1,5 @@
 /// One change of the vector. Accepted edits are numbered 1, 2, 3 and so on.
-#[derive(Clone, Copy, Debug, PartialEq, Eq)]
+#[derive(Clone, Copy, PartialEq, Eq)]
 pub enum Edit {
     /// Puts an element at the end.
     Push(i64),

@@ -1,5 +1,5 @@
 /// What an accepted edit answers. `edit` is its number.
-#[derive(Clone, Copy, Debug, PartialEq, Eq)]
+#[derive(Clone, Copy, PartialEq, Eq)]
 pub enum Receipt {
     /// Where the element was put.
     Pushed { edit: u32, index: u32 },

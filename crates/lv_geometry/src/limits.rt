@@ -8,7 +8,7 @@ use crate::refusals::Refusal;
 use std::marker::Model;
 
 /// The limits of one vector: at most `buckets` buckets are opened, and at most `edits` edits accepted.
-#[derive(Clone, Copy, Debug, PartialEq, Eq)]
+#[derive(Clone, Copy, PartialEq, Eq)]
 pub struct Limits {
     buckets: u32,
     edits: u32,

@@ -5,7 +5,7 @@ ghost use Rattle.lv_geometry.specs.Nodes.{child, first_index, is_below, is_node,
 
 /// The indices that one summary stands for: those from `number * 8 ^ level` on, `8 ^ level` of them, for
 /// a level from 1 to 6. A node of level 1 is also called a block.
-#[derive(Clone, Copy, Debug, PartialEq, Eq)]
+#[derive(Clone, Copy, PartialEq, Eq)]
 pub struct Node {
     pub level: u32,
     pub number: u32,

@@ -1,5 +1,5 @@
 /// Where an element lies in the two-level array: cell `cell` of bucket `bucket`, both counted from 0.
-#[derive(Clone, Copy, Debug, PartialEq, Eq)]
+#[derive(Clone, Copy, PartialEq, Eq)]
 pub struct Place {
     pub bucket: u32,
     pub cell: u32,

@@ -18,7 +18,7 @@ use std::io::{Read, Write};
 use std::marker::Model;
 
 /// What is wrong with a line of such a file.
-#[derive(Clone, Copy, Debug, PartialEq, Eq)]
+#[derive(Clone, Copy, PartialEq, Eq)]
 pub struct Damage {
     /// The line's number, from 1.
     pub line: u32,

@@ -6,7 +6,7 @@ use lv_geometry::Refusal;
 use lv_summary::Accepted;
 
 /// What a worker did: how many jobs it claimed, and what became of their outcomes.
-#[derive(Clone, Copy, Debug, Default, PartialEq, Eq)]
+#[derive(Clone, Copy, Default, PartialEq, Eq)]
 pub struct Worked {
     /// How many jobs were claimed.
     pub claimed: u64,

@@ -2,7 +2,7 @@
 use lv_edits::Edit;
 
 /// What may happen to a live vector.
-#[derive(Clone, Copy, Debug, PartialEq, Eq)]
+#[derive(Clone, Copy, PartialEq, Eq)]
 pub enum Event {
     /// An edit is asked for.
     Edit(Edit),

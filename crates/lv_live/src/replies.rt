@@ -6,7 +6,7 @@ use lv_reduce::{Answer, Scan};
 use lv_summary::Accepted;
 
 /// What an event is answered, by summaries of a type.
-#[derive(Debug, Drop)]
+#[derive(Drop)]
 pub enum ReplyOf<S> {
     /// An edit was accepted.
     Did(Receipt),

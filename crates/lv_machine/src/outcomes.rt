@@ -7,28 +7,28 @@ use lv_reduce::Answer;
 use std::alloc::AllocError;
 
 /// An element, and the number of the last edit where it was read.
-#[derive(Clone, Copy, Debug, PartialEq, Eq)]
+#[derive(Clone, Copy, PartialEq, Eq)]
 pub struct Read {
     pub edit: u32,
     pub value: i64,
 }
 
 /// How many elements there were after an edit.
-#[derive(Clone, Copy, Debug, PartialEq, Eq)]
+#[derive(Clone, Copy, PartialEq, Eq)]
 pub struct Sized {
     pub edit: u32,
     pub size: u32,
 }
 
 /// The parts of a block were made: after `edit`, the last edit that touched the block was `version`.
-#[derive(Clone, Copy, Debug, PartialEq, Eq)]
+#[derive(Clone, Copy, PartialEq, Eq)]
 pub struct Refreshed {
     pub edit: u32,
     pub version: u32,
 }
 
 /// What a call ends with.
-#[derive(Copy, Debug, PartialEq, Eq)]
+#[derive(Copy, PartialEq, Eq)]
 pub enum Said<S> {
     /// An edit was accepted.
     Did(Receipt),
@@ -45,7 +45,7 @@ pub enum Said<S> {
 }
 
 /// What an event comes to.
-#[derive(Copy, Debug, PartialEq, Eq)]
+#[derive(Copy, PartialEq, Eq)]
 pub enum Outcome<S> {
     /// The call begins, and needs a step.
     Started,

@@ -11,7 +11,7 @@ use lv_geometry::{Refusal, width};
 use lv_summary::Summaries;
 
 /// How many cells and summaries a reduction reads.
-#[derive(Clone, Copy, Debug, PartialEq, Eq)]
+#[derive(Clone, Copy, PartialEq, Eq)]
 pub struct Reads {
     pub cells: u32,
     pub summaries: u32,

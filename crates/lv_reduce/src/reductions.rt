@@ -17,7 +17,7 @@ use std::alloc::AllocError;
 
 /// The answer to a reduction: the number of the last edit, the fold of the range's elements, and how many cells and
 /// summaries were read for it.
-#[derive(Copy, Debug, PartialEq, Eq)]
+#[derive(Copy, PartialEq, Eq)]
 pub struct Answer<S> {
     pub edit: u32,
     pub value: S,

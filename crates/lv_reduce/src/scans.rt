@@ -13,7 +13,7 @@ use lv_geometry::Refusal;
 use std::alloc::Global;
 
 /// The answer to a scan: the number of the last edit, and a value for each element of the range.
-#[derive(Debug, Drop)]
+#[derive(Drop)]
 pub struct Scan<S> {
     pub edit: u32,
     pub values: Values<S>,

@@ -2,7 +2,7 @@
 use std::alloc::AllocError;
 
 /// Eight values, in order.
-#[derive(Debug, PartialEq, Eq)]
+#[derive(PartialEq, Eq)]
 pub struct Eight<S> {
     pub a: S,
     pub b: S,
@@ -29,7 +29,7 @@ impl<S: Copy> Clone for Eight<S> {
 impl<S: Copy> Copy for Eight<S> {}
 
 /// What a node's summary is computed from.
-#[derive(Debug, PartialEq, Eq)]
+#[derive(PartialEq, Eq)]
 pub enum Contents<S> {
     /// At level 1, the elements.
     Elements([i64; 8]),

@@ -12,7 +12,6 @@ use std::marker::Model;
 
 /// A node's contents, to be folded anywhere: plain values, which hold nothing of the vector. Only `Claims::claim`
 /// makes one.
-#[derive(Debug)]
 pub struct JobOf<B: Body<S = S>, S> {
     contents: Contents<S>,
     body: B,

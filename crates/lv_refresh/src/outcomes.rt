@@ -11,7 +11,6 @@ use std::alloc::AllocError;
 use std::marker::Model;
 
 /// What a job gave: all that it carried, and the fold of it. Only `Job::run` makes one.
-#[derive(Debug)]
 pub struct OutcomeOf<B: Body<S = S>, S> {
     job: JobOf<B, S>,
     summary: S,

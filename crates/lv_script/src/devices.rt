@@ -41,7 +41,7 @@ impl Read for FailingReader<'_> {
 }
 
 /// What a writer does where it works no more.
-#[derive(Clone, Copy, Debug, PartialEq, Eq)]
+#[derive(Clone, Copy, PartialEq, Eq)]
 pub enum Failure {
     /// It answers an error.
     Refuses,

@@ -12,7 +12,7 @@ use lv_standing::{Askable, Asks, Question, Span, Terms, value_in_span};
 use lv_tree::Bound;
 
 /// Which samples a query is about.
-#[derive(Clone, Copy, Debug, PartialEq, Eq)]
+#[derive(Clone, Copy, PartialEq, Eq)]
 pub enum SampleSpan {
     /// Those in a span of indices.
     Among(Span),
@@ -34,7 +34,7 @@ impl SampleSpan {
 }
 
 /// A query of samples by a name: the value of a kind over the values in a span, and the bound by which it is told of, if it has one.
-#[derive(Clone, Copy, Debug)]
+#[derive(Clone, Copy)]
 pub struct SampleQuery {
     pub name: Name,
     pub kind: Kind,

@@ -4,7 +4,7 @@ ghost use Rattle.std.specs.Prelude.{◌≡◌, ⊤};
 use std::alloc::AllocError;
 
 /// The answer to a question about a range: the number of the last edit, and the value of the range's elements after it.
-#[derive(Copy, Debug, PartialEq, Eq)]
+#[derive(Copy, PartialEq, Eq)]
 pub struct LongAnswer<S> {
     pub edit: u64,
     pub value: S,
@@ -21,7 +21,7 @@ impl<S: Copy> Clone for LongAnswer<S> {
 }
 
 /// The answer to a piece of a scan: the number of the last edit, and how many values were put into the buffer.
-#[derive(Clone, Copy, Debug, PartialEq, Eq)]
+#[derive(Clone, Copy, PartialEq, Eq)]
 pub struct LongScan {
     pub edit: u64,
     pub count: usize,

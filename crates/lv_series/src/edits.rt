@@ -1,5 +1,5 @@
 /// One change of a series. Indices count from the first element that was ever pushed.
-#[derive(Clone, Copy, Debug, PartialEq, Eq)]
+#[derive(Clone, Copy, PartialEq, Eq)]
 pub enum LongEdit {
     /// Puts an element at the end.
     Push(i64),

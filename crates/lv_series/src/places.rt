@@ -17,14 +17,14 @@ use lv_bodies::Kind;
 use lv_tree::{Bound, KindSummary, Sought, best_of, greatest_of, least_of};
 
 /// An element, and the index at which it stands.
-#[derive(Clone, Copy, Debug, PartialEq, Eq)]
+#[derive(Clone, Copy, PartialEq, Eq)]
 pub struct LongPlaced {
     pub index: u64,
     pub value: i64,
 }
 
 /// Elements side by side, from index `from` up to `to`, `to` excluded, and what they add up to.
-#[derive(Clone, Copy, Debug, PartialEq, Eq)]
+#[derive(Clone, Copy, PartialEq, Eq)]
 pub struct LongRun {
     pub from: u64,
     pub to: u64,

@@ -1,5 +1,5 @@
 /// What an accepted edit of a series answers. `edit` is its number, the first is 1.
-#[derive(Clone, Copy, Debug, PartialEq, Eq)]
+#[derive(Clone, Copy, PartialEq, Eq)]
 pub enum LongReceipt {
     /// Under which index the element was put.
     Pushed { edit: u64, index: u64 },

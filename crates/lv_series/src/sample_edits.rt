@@ -2,14 +2,14 @@
 use crate::refusals::LongRefusal;
 
 /// A value, and when it was taken. Times are numbers in a unit of the caller's.
-#[derive(Clone, Copy, Debug, PartialEq, Eq)]
+#[derive(Clone, Copy, PartialEq, Eq)]
 pub struct Sample {
     pub time: i64,
     pub value: i64,
 }
 
 /// One change of samples. Indices count from the first sample that was ever pushed.
-#[derive(Clone, Copy, Debug, PartialEq, Eq)]
+#[derive(Clone, Copy, PartialEq, Eq)]
 pub enum SampleEdit {
     /// Puts a sample at the end, whose time is at least that of the last one.
     Push { time: i64, value: i64 },
@@ -24,7 +24,7 @@ pub enum SampleEdit {
 }
 
 /// Why an edit of samples was refused. A refused call changes nothing.
-#[derive(Clone, Copy, Debug, PartialEq, Eq)]
+#[derive(Clone, Copy, PartialEq, Eq)]
 pub enum SampleRefusal {
     /// As the series of values refuses it.
     Refused(LongRefusal),

@@ -35,7 +35,7 @@ impl Model for Samples {
 }
 
 /// The indices of the samples of a window of time, side by side: from `lo` up to `hi`.
-#[derive(Clone, Copy, Debug, PartialEq, Eq)]
+#[derive(Clone, Copy, PartialEq, Eq)]
 pub struct Window {
     pub lo: u64,
     pub hi: u64,

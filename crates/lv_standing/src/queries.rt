@@ -9,7 +9,7 @@ use lv_bodies::{Body, Kind, Name, Shown, Six, face};
 use lv_tree::Bound;
 
 /// A query by a name: the value of a kind over the elements of a span, and the bound by which it is told of, if it has one.
-#[derive(Clone, Copy, Debug)]
+#[derive(Clone, Copy)]
 pub struct Query {
     pub name: Name,
     pub kind: Kind,

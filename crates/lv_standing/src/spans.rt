@@ -9,7 +9,7 @@ use crate::changes::Changed;
 use lv_live::Touched;
 
 /// Which elements a query is about.
-#[derive(Clone, Copy, Debug, PartialEq, Eq)]
+#[derive(Clone, Copy, PartialEq, Eq)]
 pub enum Span {
     /// Those from index `lo` up to `hi`, `hi` excluded. It may reach past the end: it has the elements that there are.
     Between { lo: u64, hi: u64 },

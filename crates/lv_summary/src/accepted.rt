@@ -1,5 +1,5 @@
 /// What became of a summary that was delivered.
-#[derive(Clone, Copy, Debug, PartialEq, Eq)]
+#[derive(Clone, Copy, PartialEq, Eq)]
 pub enum Accepted {
     /// It is kept from now on.
     Installed,

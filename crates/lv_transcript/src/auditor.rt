@@ -27,7 +27,7 @@ use std::io;
 use std::io::{Read, Write};
 
 /// What an audit says of a transcript.
-#[derive(Clone, Copy, Debug, PartialEq, Eq)]
+#[derive(Clone, Copy, PartialEq, Eq)]
 pub enum Verdict {
     /// It is sound.
     Yes,

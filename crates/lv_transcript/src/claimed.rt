@@ -2,7 +2,7 @@
 use lv_bodies::{Kind, Shown};
 
 /// A reduction as it was answered: at which edit, of what kind, over which elements, and by which value.
-#[derive(Clone, Copy, Debug, PartialEq, Eq)]
+#[derive(Clone, Copy, PartialEq, Eq)]
 pub struct Claimed {
     /// The number of the last edit before the answer.
     pub edit: u32,

@@ -6,7 +6,7 @@ use lv_edits::Edit;
 
 /// An edit as plain numbers, laid out as C does it. What it doesn't have is 0.
 #[repr(C)]
-#[derive(Clone, Copy, Debug, PartialEq, Eq)]
+#[derive(Clone, Copy, PartialEq, Eq)]
 pub struct FlatEdit {
     /// 1 of a push, 2 of a pop, 3 of a write, 4 of a reserve, 5 of a swap, 6 of a truncate.
     pub what: u32,

@@ -16,7 +16,7 @@ use std::io;
 use std::io::{Read, Write};
 
 /// What an audit says of a front of a transcript.
-#[derive(Clone, Copy, Debug, PartialEq, Eq)]
+#[derive(Clone, Copy, PartialEq, Eq)]
 pub enum FrontVerdict {
     /// It is one, with so many edits and answers.
     Front {

@@ -1,7 +1,7 @@
 //! How a log begins.
 
 /// What the first line of a log tells.
-#[derive(Clone, Copy, Debug, PartialEq, Eq)]
+#[derive(Clone, Copy, PartialEq, Eq)]
 pub struct LogHeading {
     /// How many edits came before this file.
     pub base: u64,

@@ -9,7 +9,7 @@ use std::alloc::Global;
 use std::io;
 
 /// Why bytes got no verdict.
-#[derive(Clone, Copy, Debug, PartialEq, Eq)]
+#[derive(Clone, Copy, PartialEq, Eq)]
 pub enum Unread {
     /// There was no memory for the edits.
     NoMemory,

@@ -9,7 +9,7 @@ use lv_edits::Edit;
 use std::alloc::Global;
 
 /// Why a text was not put into a caller's bytes: nothing was.
-#[derive(Clone, Copy, Debug, PartialEq, Eq)]
+#[derive(Clone, Copy, PartialEq, Eq)]
 pub enum Unput {
     /// There was no memory for the text.
     NoMemory,

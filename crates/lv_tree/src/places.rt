@@ -21,7 +21,7 @@ use lv_edits::{Edits, refusal_of};
 use lv_geometry::Refusal;
 
 /// An element, and the index at which it stands.
-#[derive(Clone, Copy, Debug, PartialEq, Eq)]
+#[derive(Clone, Copy, PartialEq, Eq)]
 pub struct Placed {
     pub index: u32,
     pub value: i64,
@@ -41,7 +41,7 @@ impl Placed {
 }
 
 /// Elements side by side, from index `from` up to `to`, `to` excluded, and what they add up to.
-#[derive(Clone, Copy, Debug, PartialEq, Eq)]
+#[derive(Clone, Copy, PartialEq, Eq)]
 pub struct Run {
     pub from: u32,
     pub to: u32,
@@ -49,7 +49,7 @@ pub struct Run {
 }
 
 /// A bound of elements.
-#[derive(Clone, Copy, Debug, PartialEq, Eq)]
+#[derive(Clone, Copy, PartialEq, Eq)]
 pub enum Bound {
     /// An element is at least this.
     AtLeast(i64),
