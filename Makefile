@@ -27,7 +27,7 @@ from_here = $(shell lib="$(LIBDIR)"; if [ "$${lib#"$(PREFIX)/"}" != "$$lib" ]; t
 
 # one target after the other: two would prove the same crates
 .NOTPARALLEL:
-.PHONY: help try build run test check lib so embed test-c test-bindings docs dist install install-program install-lib whole-paths uninstall wrong plant soak bench bench-board bench-bindings bench-engines dashboard fmt clean
+.PHONY: help try build run test prove check lib so embed test-c test-bindings docs dist install install-program install-lib whole-paths uninstall wrong plant soak bench bench-board bench-bindings bench-engines dashboard fmt clean
 
 help: ## lists what can be made
 	@sed -n 's/^\([a-z-]*\):.*## \(.*\)/\1|\2/p' Makefile | awk -F '|' '{ printf "make %-15s %s\n", $$1, $$2 }'
@@ -45,16 +45,16 @@ run: $(PROGRAM) ## runs the proved program on the lines that are typed
 $(PROGRAM):
 	@$(MAKE) -s build >&2
 
-test: ## the gate: proofs, wrong bodies, tests, rows, examples, pages; with CRATE=.. that crate and those below
-ifeq ($(CRATE),)
+test: prove ## proofs and all that `make prove` does, then examples and pages
 	@tools/check_pages
-	@tools/timed test "proves all crates, tries the wrong bodies, runs tests and examples" "one to one and a half hours at first, 1 to 5 min where nothing has changed" tools/gate
-	@tools/tried gate --built
-	@tools/timed soak_memory "refuses each request for memory in turn" "under 2 min" tools/soak_memory
 	@tools/timed examples "runs rows, examples and the programs on pages" "some 2 min, 2 more at first" examples/check
 	@tools/timed fits "compiles the bench's programs, whether they fit" "some 3 min" bench/check
+
+prove: ## every proof, every wrong body, memory refused in turn; with CRATE=.. proofs and wrong bodies of that crate and those below
+ifeq ($(CRATE),)
+	@CC="$(CC)" tools/timed prove "proves all crates, tries the wrong bodies, refuses memory in turn" "an hour or more at first, 5 min where nothing has changed" tools/prove
 else
-	@tools/timed test-$(CRATE) "proves $(CRATE) and what lies below it, tries their wrong bodies" "1 to 60 min, by how high the crate stands" tools/gate $(CRATE)
+	@tools/timed prove-$(CRATE) "proves $(CRATE) and what lies below it, tries their wrong bodies" "1 to 60 min, by how high the crate stands" tools/prove $(CRATE)
 endif
 
 check: ## proves one crate, CRATE=.., and tells the time of each function
