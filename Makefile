@@ -21,6 +21,14 @@ CPP_PARTS = $(addprefix include/livevec_,base.hpp blocks.hpp board.hpp by_index.
 SONAME = liblivevec.so.2
 # tells the system's loader what was installed, where that is allowed and nothing is only staged
 LDCONFIG = ldconfig
+# with UNPROVED=1 what is installed is built without its proofs, in minutes
+UNPROVED =
+ifneq ($(UNPROVED),)
+PROGRAM = build/unproved/livevec
+LIB = build/unproved/unchecked
+endif
+# whether an archive was built with its proofs: one that was not has a symbol that says so
+is_proved = $(shell grep -qaF livevec_not_proved "$(LIB)/liblivevec.a" && echo no || echo yes)
 
 # the prefix as a path from a file below LIBDIR: its folder's name there, then the folder; whole where LIBDIR isn't below the prefix
 from_here = $(shell lib="$(LIBDIR)"; if [ "$${lib#"$(PREFIX)/"}" != "$$lib" ]; then echo '$(1)/'"$$(realpath -m -s --relative-to="$$lib/$(2)" "$(PREFIX)")"; else echo "$(PREFIX)"; fi)
@@ -42,8 +50,17 @@ build: ## proves the program, then builds it
 run: $(PROGRAM) ## runs the proved program on the lines that are typed
 	@$(PROGRAM) run
 
+ifeq ($(UNPROVED),)
 $(PROGRAM):
 	@$(MAKE) -s build >&2
+else
+.PHONY: $(PROGRAM) $(LIB)/liblivevec.a
+$(PROGRAM):
+	@tools/unproved
+
+$(LIB)/liblivevec.a:
+	@CC="$(CC)" tools/unproved_library unchecked
+endif
 
 test: prove ## proofs and all that `make prove` does, then examples and pages
 	@tools/check_pages
@@ -96,7 +113,8 @@ docs: ## makes build/docs of the sources, without proofs: pages of C, C++, Rust,
 dist: build lib so ## packs what was proved and built into build/livevec-VERSION-PLATFORM.tar.gz, and the sources
 	@tools/dist
 
-install: install-program install-lib ## installs program, library and header below PREFIX, as they were built
+install: install-program install-lib ## installs program, library and headers below PREFIX, as they were built; with UNPROVED=1 without proofs
+	@echo "installed below $(DESTDIR)$(PREFIX)$(if $(findstring no,$(is_proved)),: NOT PROVED)"
 
 whole-paths:
 	@case "$(PREFIX) $(LIBDIR)" in /*\ /*) ;; *) echo "PREFIX and LIBDIR are whole paths, from / on" >&2; exit 1;; esac
@@ -113,8 +131,8 @@ install-lib: whole-paths $(LIB)/liblivevec.a $(SO)/liblivevec.so ## installs all
 	@install -m 644 $(C_PARTS) $(CPP_PARTS) "$(DESTDIR)$(PREFIX)/include"
 	@install -m 755 $(SO)/liblivevec.so "$(DESTDIR)$(LIBDIR)/$(SONAME)"
 	@ln -sf $(SONAME) "$(DESTDIR)$(LIBDIR)/liblivevec.so"
-	@sed 's|@VERSION@|$(VERSION)|; s|@PREFIX@|$(call from_here,$${pcfiledir},pkgconfig)|; s|@LIBDIR@|$${pcfiledir}/..|' bindings/c/livevec.pc.in > "$(DESTDIR)$(LIBDIR)/pkgconfig/livevec.pc"
-	@sed 's|@VERSION@|$(VERSION)|; s|@PREFIX@|$(call from_here,$${_livevec_here},cmake/livevec)|' bindings/c/livevecConfig.cmake.in > "$(DESTDIR)$(LIBDIR)/cmake/livevec/livevecConfig.cmake"
+	@sed 's|@VERSION@|$(VERSION)|; s|@PROVED@|$(is_proved)|; s|@PREFIX@|$(call from_here,$${pcfiledir},pkgconfig)|; s|@LIBDIR@|$${pcfiledir}/..|' bindings/c/livevec.pc.in > "$(DESTDIR)$(LIBDIR)/pkgconfig/livevec.pc"
+	@sed 's|@VERSION@|$(VERSION)|; s|@PROVED@|$(is_proved)|; s|@PREFIX@|$(call from_here,$${_livevec_here},cmake/livevec)|' bindings/c/livevecConfig.cmake.in > "$(DESTDIR)$(LIBDIR)/cmake/livevec/livevecConfig.cmake"
 	@sed 's|@VERSION@|$(VERSION)|' bindings/c/livevecConfigVersion.cmake.in > "$(DESTDIR)$(LIBDIR)/cmake/livevec/livevecConfigVersion.cmake"
 	@chmod 644 "$(DESTDIR)$(LIBDIR)/pkgconfig/livevec.pc" "$(DESTDIR)$(LIBDIR)/cmake/livevec/livevecConfig.cmake" "$(DESTDIR)$(LIBDIR)/cmake/livevec/livevecConfigVersion.cmake"
 	@[ -n "$(DESTDIR)" ] || $(LDCONFIG) 2> /dev/null || true

@@ -81,7 +81,8 @@ extern "C" {
 #include "livevec_refusals.h"
 #include "livevec_records.h"
 
-/** The version of the library that is linked, spelt as #LIVEVEC_VERSION spells that of this header. O(1). */
+/** The version of the library that is linked, spelt as #LIVEVEC_VERSION spells that of this header. If the library was built without its proofs,
+ * " (not proved)" follows. O(1). */
 LIVEVEC_MUST_USE const char *livevec_version(void);
 
 /** A refusal in words, for example "the limit of edits is reached". Never null: for any other number it is "unknown". O(1). */

@@ -7,9 +7,16 @@
  * proved calls answer, and a vector's bytes go by way of a series. These files are C, so no proof covers them. */
 #include "livevec_slots.h"
 
+/* what builds the library without its proofs says so here */
+#ifdef LIVEVEC_NOT_PROVED
+#define BUILT " (not proved)"
+#else
+#define BUILT ""
+#endif
+
 const char *livevec_version(void)
 {
-    return LIVEVEC_VERSION;
+    return LIVEVEC_VERSION BUILT;
 }
 
 const char *livevec_refusal_text(uint32_t refusal)

@@ -1,7 +1,7 @@
 //! Finds `liblivevec.a` and has the linker take it.
 //!
 //! Looked at in this order: the folder `LIVEVEC_LIB_DIR`; what `pkg-config` says of `livevec`; the folder `build` of the repository that
-//! this crate lies in. Where it is in none of them the build ends with a message that says so.
+//! this crate is in; `$HOME/.local/lib`; `/usr/local/lib`. If it is in none of them the build ends with a message that says so.
 
 use std::env;
 use std::path::{Path, PathBuf};
@@ -12,6 +12,7 @@ const ARCHIVE: &str = "liblivevec.a";
 fn main() {
     println!("cargo::rerun-if-env-changed=LIVEVEC_LIB_DIR");
     println!("cargo::rerun-if-env-changed=PKG_CONFIG_PATH");
+    println!("cargo::rerun-if-env-changed=HOME");
     println!("cargo::rerun-if-changed=build.rs");
     match folder() {
         Ok(folder) => {
@@ -33,22 +34,25 @@ fn folder() -> Result<PathBuf, String> {
             false => Err(format!("LIVEVEC_LIB_DIR is {}, which has no {ARCHIVE}", named.display())),
         };
     }
-    if let Some(packaged) = packaged().filter(|folder| holds(folder)) {
-        return Ok(packaged);
-    }
-    let here = PathBuf::from(env::var_os("CARGO_MANIFEST_DIR").unwrap_or_default());
-    let built = here.join("../../build");
-    match holds(&built) {
-        true => Ok(built),
-        false => Err(format!("there is no {ARCHIVE}: run `make lib` in livevec's repository, or name its folder by LIVEVEC_LIB_DIR")),
-    }
+    packaged()
+        .into_iter()
+        .chain(usual())
+        .find(|folder| holds(folder))
+        .ok_or_else(|| format!("there is no {ARCHIVE}: run `make install UNPROVED=1 PREFIX=$HOME/.local` in livevec's repository, or name its folder by LIVEVEC_LIB_DIR"))
+}
+
+/// Where the archive is if nothing says where.
+fn usual() -> impl Iterator<Item = PathBuf> {
+    let built = PathBuf::from(env::var_os("CARGO_MANIFEST_DIR").unwrap_or_default()).join("../../build");
+    let home = env::var_os("HOME").map(|home| PathBuf::from(home).join(".local/lib"));
+    [Some(built), home, Some(PathBuf::from("/usr/local/lib"))].into_iter().flatten()
 }
 
 fn holds(folder: &Path) -> bool {
     folder.join(ARCHIVE).is_file()
 }
 
-/// What `pkg-config` says, where there is one and it knows livevec.
+/// What `pkg-config` says, if there is one and it knows livevec.
 fn packaged() -> Option<PathBuf> {
     let variable = |name: &str| {
         let said = Command::new("pkg-config").arg(format!("--variable={name}")).arg("livevec").output().ok()?;

@@ -9,9 +9,10 @@
 The library is written and proved in Rattle. This module calls its C form, `liblivevec.so`, by ctypes. The library's functions are proved; the
 module over them is tested.
 
-The shared object is looked for in this order: the file that LIVEVEC_LIB names; `liblivevec.so` in the folder that LIVEVEC_LIB_DIR names; in this
-package's folder, then beside it; in the folder `build` of the repository that it lies in; where the system's loader looks (LD_LIBRARY_PATH, then its
-own folders); in `lib` of the interpreter's prefix, which is that of a virtual environment; in /usr/local/lib.
+The shared object is the file that LIVEVEC_LIB names. Else `liblivevec.so` is looked for in this order: in the folder that LIVEVEC_LIB_DIR names; in
+this package's folder, then in the one that contains it; in the folder `build` of the repository that it is in; in the folders of LD_LIBRARY_PATH; in
+`lib` of the interpreter's prefix, which is that of a virtual environment; in `lib` of the prefix below which the package is installed; in `lib` of
+the user's base, which is $HOME/.local as a rule; where the system's loader looks; where `pkg-config` says; in /usr/local/lib.
 
 Threads. A `Vector`'s calls into C keep the interpreter's lock, so it may be used by several threads, one call at a time. What takes more than
 one call (`vector[-1]`, a loop over the elements, `edits` after a push) needs a lock of your own if another thread edits meanwhile.
@@ -29,6 +30,7 @@ from ._board import Board, Finished, Refreshed, Seat, Told
 from ._by_index import LongReduced
 from ._jobs import Became, Delivered, Job, Node, Outcome
 from ._kinds import Kind
+from ._library import library_version
 from ._limits import MOST_BOARD_BUCKETS, MOST_BUCKETS, MOST_EDITS, MOST_QUERIES, MOST_SEATS, SUMMARY_BYTES
 from ._queries import Answered, Note, Queries
 from ._refusals import (
@@ -58,7 +60,7 @@ __all__ = [
     "ShortBuffer", "TooWide", "Outrun", "Contended", "Overtaken", "NoSeat", "SeatsOut", "Busy", "OtherVersion", "Damaged", "OtherTable", "TooLong",
     "Series", "LongReduced", "Lent", "NotKept", "Samples", "Sample", "Window", "Earlier", "NotSaved", "rolling",
     "BadKind", "NameTaken", "NoSuchName", "TooMany", "BadName",
-    "journal", "transcript", "audit", "audit_front", "restore", "JournalEdit", "Recorded", "Verdict", "NotInOrder", "NoFront",
+    "library_version", "journal", "transcript", "audit", "audit_front", "restore", "JournalEdit", "Recorded", "Verdict", "NotInOrder", "NoFront",
     "MOST_BUCKETS", "MOST_EDITS", "MOST_BOARD_BUCKETS", "MOST_SEATS", "SUMMARY_BYTES", "MOST_QUERIES",
 ]
 

@@ -65,8 +65,17 @@ mod transcripts;
 mod values;
 mod vector;
 
-/// The version of the library and of this crate.
+/// The version of this crate, and of the library to which it belongs.
 pub const VERSION: &str = env!("CARGO_PKG_VERSION");
+
+/// The version of the library that is linked. If it was built without its proofs, `" (not proved)"` follows.
+///
+/// ```
+/// assert!(livevec::library_version().starts_with(livevec::VERSION));
+/// ```
+pub fn library_version() -> &'static str {
+    raw::version()
+}
 
 pub use blocks::{Batch, BatchOutcome, Taken};
 pub use board::{Board, Closed, NotClosed, Refreshed, Seat, Told};

@@ -24,7 +24,7 @@ mod vector;
 
 use std::alloc::{Layout, alloc};
 use std::cell::UnsafeCell;
-use std::ffi::c_void;
+use std::ffi::{CStr, c_char, c_void};
 use std::ptr;
 
 use answers::{Count, Element, Many, Number, PushedMany, Short, Summed, says};
@@ -67,6 +67,14 @@ impl Slot {
 
 unsafe extern "C" {
     fn livevec_free_slot(slot: *mut Slot, sort: Sort) -> u32;
+    fn livevec_version() -> *const c_char;
+}
+
+/// The version that the library says it has.
+pub(crate) fn version() -> &'static str {
+    // SAFETY: the answer is never null, and a text of C that lasts as long as the program
+    let text = unsafe { CStr::from_ptr(livevec_version()) };
+    text.to_str().unwrap_or_default()
 }
 
 /// What a slot holds that is freed: a `livevec_sort` of C.
