@@ -1,0 +1,6 @@
+-- What the loop keeps in `push_all`: pushes equal elements in turn, and sees that each is accepted.
+use Rattle.std.proofs.Common.{◌≡◌}
+use Rattle.hub_tests.proofs.common.push_all.Given as goal
+
+abbrev pub invariant-loop : goal.invariant-loop
+invariant-loop g l = l.share.parts ≡ l.initial.share.parts

@@ -1,0 +1,158 @@
+//! Tests workers that sleep where nothing is wanted: an edit wakes them, and they end when they are dismissed.
+ghost use Rattle.std.specs.Prelude.{◌≡◌};
+
+use crate::common::*;
+use crate::same::assert_same;
+use lv_bodies::Sum;
+use lv_hub::*;
+use std::alloc::{AllocError, Global};
+use std::process::Abort;
+use std::sync::Wait;
+use std::sync::atomic::{AtomicU64, Ordering};
+use std::thread;
+use std::thread::Threads;
+use std::time::{Clock, Duration};
+
+// A gate that counts who passes.
+#[derive(Drop)]
+struct Turnstile {
+    passed: AtomicU64,
+}
+
+impl Turnstile {
+    fn new() -> Turnstile {
+        Turnstile {
+            passed: AtomicU64::new(0),
+        }
+    }
+
+    // Whether so many pass within 10 seconds.
+    fn is_passed_by(&self, clock: &impl Clock, count: u64) -> bool {
+        for _ in 0..10_000 {
+            if count <= self.passed.load(Ordering::SeqCst) {
+                return true;
+            }
+            thread::sleep(clock, Duration::from_millis(1));
+        }
+        false
+    }
+}
+
+impl Gate for Turnstile {
+    fn hold(&self, _turn: u64) {
+        self.passed.fetch_add(1, Ordering::SeqCst);
+    }
+}
+
+// Lets another thread come to its sleep, or use up a thousand turns where it doesn't sleep.
+fn let_it_sleep(clock: &impl Clock) {
+    thread::sleep(clock, Duration::from_millis(50));
+}
+
+// Pushes a block that a worker claims, and once it had time to fall asleep another one; then the worker is dismissed. Says whether
+// the first block was claimed, and whether both were, and hands back the share.
+fn push_then_dismiss<N: WithBody<Sum>, R: Wait + Clock + Abort>(
+    rt: &R,
+    hub: &Hub<Sum, N>,
+    share: Share<N>,
+    gate: &Turnstile,
+) -> (Share<N>, (bool, bool))
+    ensures { result.0.parts ≡ share.parts }
+{
+    let mut share = share;
+    push_all(rt, hub, &mut share, 8, 1);
+    let first = gate.is_passed_by(rt, 1);
+    let_it_sleep(rt);
+    push_all(rt, hub, &mut share, 8, 1);
+    let both = gate.is_passed_by(rt, 2);
+    hub.dismiss(rt);
+    (share, (first, both))
+}
+
+// A worker of a thousand turns attends while two blocks are pushed.
+impl AtHub<Sum> for Turnstile {
+    type Seen = (Worked, (bool, bool));
+
+    fn meet<N: WithBody<Sum> + Send + Sync, R: Threads + Wait + Clock + Abort + Sync>(
+        &self,
+        rt: &R,
+        _alloc: Global,
+        hub: &Hub<Sum, N>,
+        share: Share<N>,
+    ) -> (Share<N>, (Worked, (bool, bool))) {
+        let (worked, (share, seen)) = thread::join(
+            rt,
+            move || attend(rt, hub, self, 1000),
+            move || push_then_dismiss(rt, hub, share, self),
+        );
+        (share, (worked, seen))
+    }
+}
+
+#[test]
+fn an_edit_wakes_a_sleeping_worker(rt: HostRuntime) {
+    let (seen, counted, live) = at_hub(&rt, rt.alloc(), Sum, &Turnstile::new());
+    assert_counted(&rt, counted, live, 16);
+    assert_same(&rt, &seen, &(installed(2), (true, true)));
+}
+
+// What eight workers did that would attend for good, on a hub with nothing to do, and were dismissed.
+fn dismiss_eight<N: WithBody<Sum> + Send + Sync, R: Threads + Wait + Clock + Sync>(
+    rt: &R,
+    alloc: Global,
+    hub: &Hub<Sum, N>,
+) -> Result<Vec<Worked>, AllocError> {
+    let worker = |_: usize| attend(rt, hub, &OpenGate, u64::MAX);
+    let (worked, ()) = thread::join(
+        rt,
+        || thread::map_indices(rt, alloc, 8, &worker),
+        || {
+            let_it_sleep(rt);
+            hub.dismiss(rt);
+        },
+    );
+    worked
+}
+
+// Sees that nobody finds work, and that eight workers end when they are dismissed.
+fn assert_idle<N: WithBody<Sum> + Send + Sync, R: Threads + Wait + Clock + Abort + Sync>(
+    rt: &R,
+    alloc: Global,
+    hub: &Hub<Sum, N>,
+) -> Result<(), AllocError> {
+    assert_same(rt, &attend(rt, hub, &OpenGate, 1), &installed(0));
+    for worked in dismiss_eight(rt, alloc, hub)?.iter() {
+        assert_same(rt, &*worked, &installed(0));
+    }
+    Ok(())
+}
+
+// Eight workers end when they are dismissed, and so does one that comes later, though a job is wanted; who works by turns alone
+// still finds it.
+struct Dismissed;
+
+impl AtHub<Sum> for Dismissed {
+    type Seen = Result<(), AllocError>;
+
+    fn meet<N: WithBody<Sum> + Send + Sync, R: Threads + Wait + Clock + Abort + Sync>(
+        &self,
+        rt: &R,
+        alloc: Global,
+        hub: &Hub<Sum, N>,
+        share: Share<N>,
+    ) -> (Share<N>, Result<(), AllocError>) {
+        let mut share = share;
+        let idle = assert_idle(rt, alloc, hub);
+        push_all(rt, hub, &mut share, 8, 1);
+        assert_same(rt, &attend(rt, hub, &OpenGate, 1000), &installed(0));
+        assert_same(rt, &work(rt, hub, &OpenGate, 1000), &installed(1));
+        (share, idle)
+    }
+}
+
+#[test]
+fn dismissed_workers_end(rt: HostRuntime) -> Result<(), AllocError> {
+    let (idle, counted, live) = at_hub(&rt, rt.alloc(), Sum, &Dismissed);
+    assert_counted(&rt, counted, live, 8);
+    idle
+}

@@ -1,0 +1,213 @@
+//! Tests what a hub answers where it is given the outcome of another hub, and what both scans answer.
+ghost use Rattle.std.specs.Prelude.{◌≡◌};
+
+use crate::common::*;
+use crate::same::assert_same;
+use lv_bodies::{Automaton, Body, Sum};
+use lv_geometry::Refusal;
+use lv_hub::*;
+use lv_reduce::Scan;
+use lv_refresh::Outcome;
+use lv_summary::Accepted;
+use std::alloc::Global;
+use std::process::Abort;
+use std::sync::Wait;
+use std::test::Fail;
+use std::thread::Threads;
+use std::time::Clock;
+
+// Computes the first job of a hub of eight equal elements.
+#[derive(Drop)]
+struct FirstJob {
+    x: i64,
+}
+
+impl<B: Body> AtHub<B> for FirstJob {
+    type Seen = Result<Outcome<B>, Fail>;
+
+    fn meet<N: WithBody<B> + Send + Sync, R: Threads + Wait + Clock + Abort + Sync>(
+        &self,
+        rt: &R,
+        _alloc: Global,
+        hub: &Hub<B, N>,
+        share: Share<N>,
+    ) -> (Share<N>, Result<Outcome<B>, Fail>) {
+        let mut share = share;
+        push_all(rt, hub, &mut share, 8, self.x);
+        (share, next_outcome(rt, hub))
+    }
+}
+
+// The outcome of the first job of a hub of eight equal elements.
+fn first_outcome<B: Body, R: Threads + Wait + Clock + Abort + Sync>(
+    rt: &R,
+    alloc: Global,
+    body: B,
+    x: i64,
+) -> Result<Outcome<B>, Fail> {
+    let (outcome, counted, live) = at_hub(rt, alloc, body, &FirstJob { x });
+    assert_counted(rt, counted, live, 8);
+    outcome
+}
+
+// Gives an outcome to a hub of eight elements 1.
+#[derive(Drop)]
+struct Given<B: Body> {
+    outcome: Outcome<B>,
+}
+
+impl<B: Body> AtHub<B> for Given<B> {
+    type Seen = Result<Accepted, Refusal>;
+
+    fn meet<N: WithBody<B> + Send + Sync, R: Threads + Wait + Clock + Abort + Sync>(
+        &self,
+        rt: &R,
+        _alloc: Global,
+        hub: &Hub<B, N>,
+        share: Share<N>,
+    ) -> (Share<N>, Result<Accepted, Refusal>) {
+        let mut share = share;
+        push_all(rt, hub, &mut share, 8, 1);
+        (share, hub.give(rt, self.outcome))
+    }
+}
+
+// What a hub of eight elements 1 answers where it is given an outcome.
+fn answer_to<B: Body, R: Threads + Wait + Clock + Abort + Sync>(
+    rt: &R,
+    alloc: Global,
+    body: B,
+    outcome: Outcome<B>,
+) -> Result<Accepted, Refusal> {
+    let (answer, counted, live) = at_hub(rt, alloc, body, &Given { outcome });
+    assert_counted(rt, counted, live, 8);
+    answer
+}
+
+// Sees the edit and the values of a scan.
+fn assert_scan(rt: &impl Abort, scan: &Scan<u64>, edit: u32, values: &[u64]) {
+    assert_same(rt, &scan.edit, &edit);
+    assert_same(rt, &scan.values.as_slice(), &values);
+}
+
+// Gives a hub of eight elements 1 the outcome of another, and then its own, twice.
+fn assert_own_alone<N: WithBody<Sum>, R: Wait + Abort>(
+    rt: &R,
+    hub: &Hub<Sum, N>,
+    share: &mut Share<N>,
+    strange: Outcome<Sum>,
+) -> Result<(), Fail>
+    ensures { share.new.parts ≡ share.old.parts }
+{
+    assert_given(rt, hub, strange, Err(Refusal::Stranger));
+    assert_sum(rt, hub, share, 8, 8, 8)?;
+    let own = next_outcome(rt, hub)?;
+    assert_given(rt, hub, own, Ok(Accepted::Installed));
+    assert_given(rt, hub, own, Ok(Accepted::Held));
+    Ok(())
+}
+
+// Sees that a hub of eight elements 1 follows a write of 5, and that the other's outcome is late now.
+fn assert_follows<N: WithBody<Sum>, R: Threads + Wait + Abort + Sync>(
+    rt: &R,
+    alloc: Global,
+    hub: &Hub<Sum, N>,
+    share: &mut Share<N>,
+    strange: Outcome<Sum>,
+) -> Result<(), Fail>
+    ensures { share.new.parts ≡ share.old.parts }
+{
+    assert_given(rt, hub, strange, Ok(Accepted::Stale { now: 9 }));
+    assert_sum(rt, hub, share, 8, 9, 12)?;
+    assert_scans(rt, alloc, hub, share)
+}
+
+// Sees both scans of the elements 5 and 1 that a hub begins with at edit 9.
+fn assert_scans<N: WithBody<Sum>, R: Threads + Wait + Abort + Sync>(
+    rt: &R,
+    alloc: Global,
+    hub: &Hub<Sum, N>,
+    share: &mut Share<N>,
+) -> Result<(), Fail>
+    ensures { share.new.parts ≡ share.old.parts }
+{
+    assert_scan(rt, &hub.scan_inclusive(rt, alloc, share, 0, 2)?, 9, &[5, 6]);
+    assert_scan(rt, &hub.scan_exclusive(rt, alloc, share, 0, 2)?, 9, &[0, 5]);
+    Ok(())
+}
+
+// Makes a new hub one of eight elements 1, and gives it an outcome of another before and after a write.
+fn assert_strangers<N: WithBody<Sum>, R: Threads + Wait + Abort + Sync>(
+    rt: &R,
+    alloc: Global,
+    hub: &Hub<Sum, N>,
+    share: &mut Share<N>,
+    strange: Outcome<Sum>,
+) -> Result<(), Fail>
+    ensures { share.new.parts ≡ share.old.parts }
+{
+    push_all(rt, hub, share, 8, 1);
+    assert_own_alone(rt, hub, share, strange)?;
+    overwrite_a_one(rt, hub, share, 0, 5, 9);
+    assert_follows(rt, alloc, hub, share, strange)
+}
+
+// Gives a hub of eight elements 1 an outcome of another before and after a write.
+#[derive(Drop)]
+struct Strangers {
+    strange: Outcome<Sum>,
+}
+
+impl AtHub<Sum> for Strangers {
+    type Seen = Result<(), Fail>;
+
+    fn meet<N: WithBody<Sum> + Send + Sync, R: Threads + Wait + Clock + Abort + Sync>(
+        &self,
+        rt: &R,
+        alloc: Global,
+        hub: &Hub<Sum, N>,
+        share: Share<N>,
+    ) -> (Share<N>, Result<(), Fail>) {
+        let mut share = share;
+        let seen = assert_strangers(rt, alloc, hub, &mut share, self.strange);
+        (share, seen)
+    }
+}
+
+#[test]
+fn two_hubs(rt: HostRuntime) -> Result<(), Fail> {
+    let strange = first_outcome(&rt, rt.alloc(), Sum, 2)?;
+    let (seen, counted, live) = at_hub(&rt, rt.alloc(), Sum, &Strangers { strange });
+    assert_counted(&rt, counted, live, 9);
+    seen
+}
+
+#[test]
+fn equal_contents_are_no_stranger(rt: HostRuntime) -> Result<(), Fail> {
+    let outcome = first_outcome(&rt, rt.alloc(), Sum, 1)?;
+    let answer = answer_to(&rt, rt.alloc(), Sum, outcome);
+    assert_same(&rt, &answer, &Ok(Accepted::Installed));
+    Ok(())
+}
+
+// The automaton that an element `x` leads from state `q` to `(q + x mod 4) mod 8`.
+fn adding() -> Result<Automaton, Refusal> {
+    Automaton::new([
+        [0, 1, 2, 3],
+        [1, 2, 3, 4],
+        [2, 3, 4, 5],
+        [3, 4, 5, 6],
+        [4, 5, 6, 7],
+        [5, 6, 7, 0],
+        [6, 7, 0, 1],
+        [7, 0, 1, 2],
+    ])
+}
+
+#[test]
+fn an_outcome_by_another_table_is_a_stranger(rt: HostRuntime) -> Result<(), Fail> {
+    let outcome = first_outcome(&rt, rt.alloc(), adding()?, 1)?;
+    let answer = answer_to(&rt, rt.alloc(), Automaton::program(), outcome);
+    assert_same(&rt, &answer, &Err(Refusal::Stranger));
+    Ok(())
+}

@@ -1,0 +1,112 @@
+//! Tests that shares count all edits and no other: where two threads edit, and where memory is refused.
+ghost use Rattle.std.specs.Prelude.{◌≡◌};
+
+use crate::common::*;
+use crate::same::assert_same;
+use lv_bodies::Sum;
+use lv_edits::{Edit, Receipt};
+use lv_geometry::Refusal;
+use lv_hub::*;
+use std::alloc::Global;
+use std::process::Abort;
+use std::sync::Wait;
+use std::thread;
+use std::thread::Threads;
+use std::time::Clock;
+
+// Pushes 500 elements on a share of its own, and hands it back.
+fn push_500<N: WithBody<Sum>, R: Wait + Abort>(
+    rt: &R,
+    hub: &Hub<Sum, N>,
+    share: Share<N>,
+) -> Share<N>
+    ensures { result.parts ≡ share.parts }
+{
+    let mut share = share;
+    push_all(rt, hub, &mut share, 500, 1);
+    share
+}
+
+// Two threads push 500 elements each.
+struct TwoPushers;
+
+impl AtHub<Sum> for TwoPushers {
+    type Seen = ();
+
+    fn meet<N: WithBody<Sum> + Send + Sync, R: Threads + Wait + Clock + Abort + Sync>(
+        &self,
+        rt: &R,
+        _alloc: Global,
+        hub: &Hub<Sum, N>,
+        share: Share<N>,
+    ) -> (Share<N>, ()) {
+        let mut mine = share;
+        let theirs = mine.split();
+        let (theirs, mut all) = thread::join(
+            rt,
+            move || push_500(rt, hub, theirs),
+            move || push_500(rt, hub, mine),
+        );
+        all.join(theirs);
+        (all, ())
+    }
+}
+
+#[test]
+fn totals_over_threads(rt: HostRuntime) {
+    let ((), counted, live) = at_hub(&rt, rt.alloc(), Sum, &TwoPushers);
+    assert_counted(&rt, counted, live, 1000);
+}
+
+// Pushes a 1. Where memory is refused it sees that the share counts nothing, and pushes again.
+fn push_or_again<N: WithBody<Sum>, R: Wait + Abort>(
+    rt: &R,
+    hub: &Hub<Sum, N>,
+    share: &mut Share<N>,
+) -> Result<Receipt, Refusal>
+    ensures { share.new.parts ≡ share.old.parts }
+{
+    let before = share.count();
+    let first = hub.edit(rt, share, Edit::Push(1));
+    if first == Err(Refusal::NoMemory) {
+        assert_same(rt, &share.count(), &before);
+        return hub.edit(rt, share, Edit::Push(1));
+    }
+    first
+}
+
+fn push_nine<N: WithBody<Sum>, R: Wait + Abort>(rt: &R, hub: &Hub<Sum, N>, share: &mut Share<N>)
+    ensures { share.new.parts ≡ share.old.parts }
+{
+    for index in 0..9 {
+        let receipt = push_or_again(rt, hub, share);
+        let edit = index + 1;
+        assert_same(rt, &receipt, &Ok(Receipt::Pushed { edit, index }));
+    }
+}
+
+// Makes nine pushes.
+struct NinePushes;
+
+impl AtHub<Sum> for NinePushes {
+    type Seen = ();
+
+    fn meet<N: WithBody<Sum> + Send + Sync, R: Threads + Wait + Clock + Abort + Sync>(
+        &self,
+        rt: &R,
+        _alloc: Global,
+        hub: &Hub<Sum, N>,
+        share: Share<N>,
+    ) -> (Share<N>, ()) {
+        let mut share = share;
+        push_nine(rt, hub, &mut share);
+        (share, ())
+    }
+}
+
+// To be run with each allocation failing in turn, too.
+#[test]
+fn want_of_memory_counts_nothing(rt: HostRuntime) {
+    let ((), counted, live) = at_hub(&rt, rt.alloc(), Sum, &NinePushes);
+    assert_counted(&rt, counted, live, 9);
+}

@@ -1,6 +1,0 @@
--- What the loop keeps in `sum_400`: does so 400 times.
-use Rattle.lv_board.specs.Closing.{IsStill}
-use Rattle.livevec_tests.proofs.board_refreshes.sum_400.Given as goal
-
-abbrev pub invariant-loop : goal.invariant-loop
-invariant-loop l = IsStill l.fn.seat l.mine

@@ -1,6 +1,0 @@
--- What the loop keeps in `push_nine`: the parts of the share.
-use Rattle.std.proofs.Common.{◌≡◌}
-use Rattle.livevec_tests.proofs.hub.totals.push_nine.Given as goal
-
-abbrev pub invariant-loop-index : goal.invariant-loop-index
-invariant-loop-index g l = l.share.parts ≡ l.initial.share.parts

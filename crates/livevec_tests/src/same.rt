@@ -1,9 +1,0 @@
-//! What the tests ask of two values.
-use std::process::Abort;
-
-/// Ends the test if two values differ. It is a function, since each assertion adds branches to the body that it is in, and the
-/// proof of a body with many takes long.
-#[track_caller]
-pub(crate) fn assert_same<T: PartialEq>(rt: &impl Abort, left: &T, right: &T) {
-    assert!(rt; *left == *right);
-}

@@ -1,3 +1,0 @@
--- Names the files of lemmas of `shared_samples`.
-mod Histories
-mod Telling

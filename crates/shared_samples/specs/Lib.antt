@@ -1,2 +1,0 @@
--- Names the files of definitions of `shared_samples`.
-pub mod Reports
