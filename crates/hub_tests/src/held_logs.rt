@@ -10,6 +10,7 @@ use lv_geometry::{Limits, Refusal};
 use lv_hub::*;
 use lv_script::{Claimed, Fault};
 use lv_standing::Answered;
+use lv_transcript::LogWriter;
 use std::alloc::Global;
 use std::io::Write;
 use std::marker::Brand;

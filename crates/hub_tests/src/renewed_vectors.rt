@@ -7,7 +7,7 @@ use lv_bodies::Six;
 use lv_geometry::Limits;
 use lv_hub::*;
 use lv_script::Fault;
-use lv_transcript::write_log;
+use lv_transcript::{LogWriter, write_log};
 use std::alloc::Global;
 use std::io;
 use std::io::Write;

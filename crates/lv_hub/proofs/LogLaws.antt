@@ -1,6 +1,5 @@
 -- What a log is given is true in the order of time.
-use Rattle.std.proofs.Common.{◌≡◌, ◌⊎◌, ℕ, ℤ, zero, suc, ◌+◌, ◌-◌, ◌^◌, ◌≤◌, Bool, false, true, is_some, Option, Some, None, Result, Ok, Err, IfSome, option_map, List, [], ◌∷◌, ◌++◌, All, length, map, take, drop, refl, sym, ap, ◌∙◌, subst, inl, inr, arith, append_assoc, append-nil, take-append-drop}
-use Rattle.std.proofs.lemmas.List.Elements.{All-cons, All-head, All-nil, All-tail}
+use Rattle.std.proofs.Common.{◌≡◌, ◌⊎◌, ℕ, ℤ, ◌+◌, ◌-◌, ◌^◌, ◌≤◌, Bool, false, true, is_some, Option, Some, None, Result, Ok, Err, IfSome, option_map, List, [], ◌∷◌, ◌++◌, All, length, map, take, drop, refl, sym, ap, ◌∙◌, subst, inl, inr, arith, append_assoc, append-nil, take-append-drop}
 use Rattle.std.proofs.lemmas.List.{drop-append-le, length-append, length-drop, length-map, length_push, map-append, take-append-le, take_all}
 use Rattle.std.proofs.lemmas.Grind.{flat_map-append}
 use Rattle.std.proofs.Math.Seq.{drop-length}
@@ -20,14 +19,15 @@ use Rattle.lv_lines.proofs.OutputLemmas.{Writes-all}
 use Rattle.lv_transcript.specs.declared.log_heading.LogHeading.{LogHeading}
 use Rattle.lv_transcript.specs.Fronts.{AreTrueAfter, AreTrueOf, Entry, IsFrontOf, IsPush, IsWholeFront, edits_in, entry_line}
 use Rattle.lv_transcript.specs.Transcribing.{Adds, EndsWhole, GoesOn, GotFrontOf, IsUnused, IsUnusedOf, WasGiven, WasGivenOf, WriterState, WritingState, WroteOrHolds, all_entries, bytes_behind, front_bytes_of, state_with}
-use Rattle.lv_transcript.specs.Logs.{pushes_of_elements}
+use Rattle.lv_transcript.specs.Logs.{HasLog, LogThere, MayGoOn, edits_there, heading_of, log_of_edits, pushes_of_elements, there_of}
 use Rattle.lv_transcript.specs.Transcript.{AreAccepted, AreAcceptedAfter, IsHeading, IsTrueAnswer, ended, greatest, heading_line}
+use Rattle.lv_transcript.proofs.ContinuedLogs.{edits_of_edits, found_goes_on}
 use Rattle.lv_transcript.proofs.LogTexts.{log_is_sound}
 use Rattle.lv_transcript.proofs.ReplayLemmas.{list_of_none}
 use Rattle.lv_transcript.proofs.TranscribedFronts.{entry_lines_front, unused}
 use Rattle.lv_hub.specs.declared.log_entry.LogEntry.{LogEntry}
 use Rattle.lv_hub.specs.declared.log_entry.LogEntry.TheVariants as logged
-use Rattle.lv_hub.specs.Logging.{AreLasting, BeginsAnew, CameSince, EndsInFile, EndsText, HasFront, HasAll, HasAllOfFile, HasFrontOfFile, HasLog, IsLogInFile, IsLogOf, IsLogOfEdits, LogEnds, LogFile, LogState, LogThere, MayGoOn, TapState, Taps, WereRecorded, edits_there, entry_of, heading_after, heading_of, last_after, log_after, log_of_edits, there_of, with_entry}
+use Rattle.lv_hub.specs.Logging.{AreLasting, BeginsAnew, CameSince, EndsInFile, EndsText, HasFront, HasAll, HasAllOfFile, HasFrontOfFile, IsLogInFile, IsLogOf, LogEnds, LogFile, LogState, TapState, Taps, WereRecorded, entry_of, heading_after, last_after, log_after, with_entry}
 use Rattle.lv_hub.specs.Numbering.{told_number}
 use Rattle.lv_hub.specs.Renewing.{IsOfOneVector, lasting, renewed_after}
 use Rattle.lv_hub.proofs.PrefixLaws.{prefix_length, prefix_self, prefix_whole}
@@ -133,43 +133,6 @@ came_by (Some t) journal entries result is same taps =
     (subst (λ (es : List LogEntry). CameSince journal t.from (map entry_of es)) (sym same) taps)
 
 -- ---- what goes on behind a log
-
--- where none was there, a transcript is begun
-pub no_log_goes_on : MayGoOn None
-no_log_goes_on = record { all_true = tt; elements = omega arith }
-
--- edits, as entries
-pub edits_of_edits : (edits : List Edit) → edits_in (map inl edits) ≡ edits
-edits_of_edits [] = refl
-edits_of_edits (e ∷ edits) = ap (λ (es : List Edit). e ∷ es) (edits_of_edits edits)
-
-edits_true : (before : List Edit) (last : ℕ) (entries : List Entry) → AreTrueAfter before last entries → AreTrueAfter before 0 (map inl (edits_in entries))
-edits_true before last [] holds = tt
-edits_true before last (inl e ∷ entries) holds = (holds.0, holds.1, edits_true (before ++ e ∷ []) last entries holds.2)
-edits_true before last (inr answer ∷ entries) holds = edits_true before answer.edit entries holds.2
-
--- the first of them are pushes, where the first entries are
-record ArePushes (n : ℕ) (entries : List Entry) : Type 0 where
-  all : All IsPush (take n entries)
-  many : n ≤ length entries
-
-edits_pushed : (n : ℕ) (entries : List Entry) → ArePushes n entries → ArePushes n (map inl (edits_in entries))
-edits_pushed zero entries are = record { all = All-nil IsPush; many = omega arith }
-edits_pushed (suc n) [] are = absurd (omega (arith, are.many))
-edits_pushed (suc n) (inl e ∷ entries) are =
-    let rest = edits_pushed n entries record { all = All-tail IsPush (inl e) (take n entries) are.all; many = omega (arith, are.many) } in
-    record { all = All-cons IsPush (inl e) (take n (map inl (edits_in entries))) (All-head IsPush (inl e) (take n entries) are.all) rest.all; many = omega (arith, rest.many) }
-edits_pushed (suc n) (inr answer ∷ entries) are = absurd (All-head IsPush (inr answer) (take n entries) are.all)
-
--- the edits of a log that was read may be gone on with
-pub found_goes_on : (heading : LogHeading) (bytes : List ℕ) (entries : List Entry) (edits : List Edit) → IsWholeFront (Some heading) bytes entries → edits ≡ edits_in entries → IsLogOfEdits heading edits
-found_goes_on heading bytes entries edits found same =
-    let holds = found.front.all_true in
-    let pushed = edits_pushed heading.elements entries record { all = holds.pushes; many = found.elements } in
-    subst (IsLogOfEdits heading) (sym same) record {
-      all_true = record { numbers = holds.numbers; all_true = edits_true [] 0 entries holds.all_true; pushes = pushed.all };
-      elements = pushed.many;
-    }
 
 -- no answer among true entries is of a later edit than the last of them
 last_within : (before : List Edit) (last : ℕ) (entries : List Entry) → last ≤ length before → AreTrueAfter before last entries → last_after last entries ≤ length (before ++ edits_in entries)

@@ -12,10 +12,10 @@ use mathlib.Core.List.{IsPrefix}
 use Rattle.lv_hub.specs.declared.log_entry.LogEntry.{LogEntry}
 use Rattle.lv_hub.specs.declared.log_entry.LogEntry.TheVariants as logged
 use Rattle.lv_transcript.specs.declared.log_heading.LogHeading.{LogHeading}
-use Rattle.lv_transcript.specs.Fronts.{AreTrueAfter, AreTrueOf, Entry, HasElements, IsFrontOf, edits_in, entry_line}
+use Rattle.lv_transcript.specs.Fronts.{AreTrueAfter, AreTrueOf, Entry, IsFrontOf, edits_in, entry_line}
 use Rattle.lv_transcript.specs.Transcribing.{GotFrontOf, WasGivenOf, WritingState, all_entries, bytes_before, bytes_behind, whole_bytes}
 use Rattle.lv_transcript.specs.Transcript.{ended}
-use Rattle.lv_transcript.specs.Logs.{log_text}
+use Rattle.lv_transcript.specs.Logs.{HasLog, LogThere, MayGoOn, edits_there, entries_there, heading_of, log_of_edits, there_of}
 use Rattle.lv_hub.specs.Numbering.{told_number}
 use Rattle.lv_hub.specs.Renewing.{lasting, renewed_after}
 
@@ -56,43 +56,6 @@ with_entry entry t = record t { entries = t.entries ++ entry ∷ [] }
 -- a tap of a journal has what came since its edit
 abbrev pub Taps : List Edit → TapState → Type 0
 Taps journal t = CameSince journal t.from (map entry_of t.entries)
-
--- ---- where a log begins
-
--- a log that was there already: its first line, and its entries
-pub record LogThere : Type 0 where
-  pub heading : LogHeading
-  pub entries : List Entry
-
--- the first line of the file, and the entries that were there, where it goes on behind a log; else it begins a transcript
-abbrev pub heading_of : Option LogThere → Option LogHeading
-heading_of None = None
-heading_of (Some log) = Some log.heading
-
-abbrev pub there_of : Option LogThere → Option (List Entry)
-there_of None = None
-there_of (Some log) = Some log.entries
-
-abbrev pub entries_there : Option LogThere → List Entry
-entries_there None = []
-entries_there (Some log) = log.entries
-
--- their edits
-abbrev pub edits_there : Option LogThere → List Edit
-edits_there log = edits_in (entries_there log)
-
--- what was there is a log that may be gone on with: its entries are true, and none of its elements is missing
-pub record MayGoOn (log : Option LogThere) : Type 0 where
-  pub all_true : AreTrueOf (heading_of log) (entries_there log)
-  pub elements : HasElements (heading_of log) (entries_there log)
-
--- a log with this first line and these edits, and without the answers that may stand between them
-abbrev pub log_of_edits : LogHeading → List Edit → LogThere
-log_of_edits heading edits = record { heading = heading; entries = map inl edits }
-
--- edits are those of a log with this first line
-abbrev pub IsLogOfEdits : LogHeading → List Edit → Type 0
-IsLogOfEdits heading edits = MayGoOn (Some (log_of_edits heading edits))
 
 -- ---- what the file has
 
@@ -164,10 +127,6 @@ heading_after numbers n edits = record { base = told_number numbers n; elements 
 -- what that log has at first: the elements that there were, each as the push of it
 abbrev pub log_after : LogHeading → ℕ → List Edit → LogThere
 log_after numbers n edits = log_of_edits (heading_after numbers n edits) (map Push (list_of (take n edits)))
-
--- a writer has got a log of elements, and nothing behind them, since it had got what a file has that was just made
-abbrev pub HasLog : Option (List ℕ) → LogHeading → List ℤ → Option (List ℕ) → Type 0
-HasLog made heading elements contents = Appends made contents (log_text heading elements)
 
 -- what a file begins with that takes the place of another: the elements that there are after all edits of the hub, behind a first line that has the number of the last of these
 pub record BeginsAnew (limits : Bounds) (numbers : LogHeading) (edits : List Edit) (heading : LogHeading) (elements : List ℤ) : Type 0 where

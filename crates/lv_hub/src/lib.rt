@@ -60,7 +60,7 @@ pub use lv_transcript::LogHeading;
 pub use naming::{Naming, WithBody};
 pub use notices::Notices;
 pub use numbering::from_the_first;
-pub use operation_log::{Begun, LogWriter, OperationLog};
+pub use operation_log::{Begun, OperationLog};
 pub use questions::{Damage, Unasked, read_questions};
 pub use replying::SessionPlace;
 pub use session_logs::{NoLog, SessionLog};

@@ -1,5 +1,5 @@
 //! The operation log of a hub: its edits and its sessions' answers, written in the order of time.
-ghost use Rattle.std.specs.Prelude.{◌≡◌, ◌≤◌, ◌^◌, ◌∷◌, ℕ, [], All, Bool, IfErr, IfOk, IfSome, List, OnErr, OnOk, Option, None, Some, false, is_some, length, map, take, true};
+ghost use Rattle.std.specs.Prelude.{◌≡◌, ◌≤◌, ◌^◌, ◌∷◌, ℕ, [], All, Bool, IfErr, IfOk, IfSome, List, OnOk, Option, None, Some, false, is_some, length, map, take, true};
 ghost use mathlib.Core.List.{IsPrefix};
 ghost use Rattle.lv_geometry.specs.Bounds.{Bounds};
 ghost use Rattle.lv_geometry.specs.Elements.{IsElement};
@@ -8,7 +8,8 @@ ghost use Rattle.lv_transcript.specs.declared.log_heading.LogHeading.{LogHeading
 ghost use Rattle.lv_transcript.specs.Fronts.{Entry};
 ghost use Rattle.lv_transcript.specs.Transcribing.{Adds, IsUnusedOf, WasGivenOf, state_with};
 ghost use Rattle.lv_hub.specs.Counting.{having_seen};
-ghost use Rattle.lv_hub.specs.Logging.{AreLasting, BeginsAnew, CameSince, EndsInFile, EndsText, HasAllOfFile, HasFrontOfFile, HasLog, IsLogInFile, LogThere, MayBeginAnew, MayGoOn, edits_there, entry_of, heading_after, heading_of, there_of};
+ghost use Rattle.lv_transcript.specs.Logs.{LogThere, MayGoOn, edits_there, heading_of, there_of};
+ghost use Rattle.lv_hub.specs.Logging.{AreLasting, BeginsAnew, CameSince, EndsInFile, EndsText, HasAllOfFile, HasFrontOfFile, IsLogInFile, MayBeginAnew, entry_of, heading_after};
 ghost use Rattle.lv_hub.specs.Numbering.{told_number};
 ghost use Rattle.lv_hub.specs.Renewing.{IsMadeOf, renewed_after, vector_limits};
 
@@ -24,7 +25,7 @@ use lv_bodies::Six;
 use lv_geometry::Limits;
 use lv_live::Live;
 use lv_script::Fault;
-use lv_transcript::{LogHeading, TranscriptWriter};
+use lv_transcript::{LogHeading, LogWriter, TranscriptWriter};
 use lv_tree::Kinds;
 use std::alloc::{AllocError, Global};
 use std::io::Write;
@@ -59,33 +60,6 @@ impl Begun for Brand {
     ghost start = { None };
 
     ghost there = { None };
-}
-
-/// A writer of a log, whose file may be begun anew.
-pub trait LogWriter: Write {
-    // What a writer has got of a file that was just made.
-    ghost made: { Option (List ℕ) } = { None };
-
-    /// Whether the file is to be begun anew, as where it is long.
-    fn is_due(&self) -> bool {
-        false
-    }
-
-    /// Begins the log anew, of these elements, in another file, which takes the place of the one that was written so far. Then the writer writes there. If that fails, the
-    /// file that was written so far is still the log.
-    fn begin_anew(
-        &mut self,
-        _alloc: Global,
-        _heading: LogHeading,
-        _elements: &[i64],
-    ) -> Result<(), Fault>
-        requires count { _heading.elements ≡ length _elements.now }
-        requires few { length _elements.now ≤ 1048568 }
-        ensures begun { OnOk result (HasLog Self.made _heading _elements.now (Self.contents self.new)) }
-        ensures same { OnErr result (Self.contents self.new ≡ Self.contents self.old) }
-    {
-        Err(Fault::WriteFault)
-    }
 }
 
 /// What writes the log of a hub: whoever records takes what has come since out of the hub, and writes it with no lock of the hub's held. A

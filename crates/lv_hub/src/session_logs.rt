@@ -5,10 +5,11 @@ ghost use Rattle.lv_hub.specs.Logging.{WereRecorded};
 
 use crate::hubs::Hub;
 use crate::naming::WithBody;
-use crate::operation_log::{Begun, LogWriter, OperationLog};
+use crate::operation_log::{Begun, OperationLog};
 use crate::shares::Share;
 use lv_bodies::Six;
 use lv_script::Fault;
+use lv_transcript::LogWriter;
 use std::sync::{Mutex, Wait};
 
 /// A record of what a hub comes to, or none.

@@ -16,11 +16,11 @@ use Rattle.lv_lines.specs.declared.fault.Fault.{Fault}
 use Rattle.lv_transcript.specs.declared.claimed.Claimed.{Claimed}
 use Rattle.lv_transcript.specs.declared.log_heading.LogHeading.{LogHeading}
 use Rattle.lv_transcript.specs.Fronts.{AreTrueAfter, Entry, IsFrontOf, edits_in, entry_line}
-use Rattle.lv_transcript.specs.Logs.{log_text, pushed, pushes_of_elements}
+use Rattle.lv_transcript.specs.Logs.{HasLog, LogThere, edits_there, log_of_edits, log_text, pushed, pushes_of_elements}
 use Rattle.lv_transcript.specs.Transcribing.{front_bytes_of}
 use Rattle.lv_transcript.specs.Transcript.{ended}
 use Rattle.lv_hub.specs.Counting.{ShareState}
-use Rattle.lv_hub.specs.Logging.{EndsInFile, HasLog, LogThere, WroteWhole, edits_there, heading_after, log_after, log_of_edits}
+use Rattle.lv_hub.specs.Logging.{EndsInFile, WroteWhole, heading_after, log_after}
 use Rattle.lv_hub.specs.Noticing.{NoticesState}
 use Rattle.lv_hub.specs.PlainSession.{Seen}
 use Rattle.lv_hub.specs.Renewing.{IsClosed, IsRun, lasting, renewed_after}
@@ -33,7 +33,7 @@ use Rattle.lv_server.specs.PlainLogged.{HasAllEdits, LogBegunAnew, LogGoesOn, Lo
 use Rattle.lv_server.specs.PlainServed.{AreHeldPlainly}
 use Rattle.lv_server.specs.Served.{Sides}
 use Rattle.lv_server.specs.Tasks.{AreAllHeld}
-use Rattle.lv_hub.proofs.LogLaws.{edits_of_edits}
+use Rattle.lv_transcript.proofs.ContinuedLogs.{edits_of_edits}
 use Rattle.lv_server.proofs.PlainServedLaws.{held_plainly, made_so}
 use Rattle.lv_server.proofs.ServedLaws.{begins, if_some}
 

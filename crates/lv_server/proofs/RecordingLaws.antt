@@ -7,7 +7,8 @@ use Rattle.lv_lines.specs.declared.fault.Fault.{Fault}
 use Rattle.lv_transcript.specs.declared.claimed.Claimed.{Claimed}
 use Rattle.lv_geometry.specs.Bounds.{Bounds}
 use Rattle.lv_transcript.specs.declared.log_heading.LogHeading.{LogHeading}
-use Rattle.lv_hub.specs.Logging.{EndsInFile, LogThere, WroteWhole}
+use Rattle.lv_transcript.specs.Logs.{LogThere}
+use Rattle.lv_hub.specs.Logging.{EndsInFile, WroteWhole}
 use Rattle.lv_hub.specs.Renewing.{IsOfOneVector}
 use Rattle.lv_hub.proofs.LogLaws.{end_of_one}
 use Rattle.lv_server.specs.Starting.{Records}

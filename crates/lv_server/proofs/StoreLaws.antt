@@ -1,8 +1,8 @@
 -- What was found in the file of a log, and what a server may go on from.
 use Rattle.std.proofs.Common.{◌≡◌, ℕ, Option, Some, Ok, List, subst}
 use Rattle.lv_edits.specs.declared.edit.Edit.{Edit}
-use Rattle.lv_hub.specs.Logging.{IsLogOfEdits}
-use Rattle.lv_hub.proofs.LogLaws.{found_goes_on}
+use Rattle.lv_transcript.specs.Logs.{IsLogOfEdits}
+use Rattle.lv_transcript.proofs.ContinuedLogs.{found_goes_on}
 use Rattle.lv_transcript.specs.declared.fronts.FoundFront.{FoundFront}
 use Rattle.lv_transcript.specs.declared.fronts.FrontVerdict.{FrontVerdict}
 use Rattle.lv_transcript.specs.declared.fronts.FrontVerdict.TheVariants as fronts

@@ -5,7 +5,8 @@ use Rattle.lv_geometry.specs.Bounds.{Bounds}
 use Rattle.lv_edits.specs.declared.edit.Edit.{Edit}
 use Rattle.lv_transcript.specs.declared.log_heading.LogHeading.{LogHeading}
 use Rattle.lv_hub.specs.Counting.{ShareState}
-use Rattle.lv_hub.specs.Logging.{EndsInFile, LogThere}
+use Rattle.lv_transcript.specs.Logs.{LogThere}
+use Rattle.lv_hub.specs.Logging.{EndsInFile}
 use Rattle.lv_hub.specs.Noticing.{NoticesState}
 use Rattle.lv_hub.specs.Renewing.{IsRun}
 use Rattle.lv_hub.specs.Watchers.{AllTellLast, LeftState}

@@ -1,12 +1,11 @@
 -- The log that a server goes on from: what was found in its file, and how it is begun.
 use Rattle.std.specs.Prelude.{◌≡◌, ℕ, ◌≤◌, ◌^◌, List, Some}
 use Rattle.lv_edits.specs.declared.edit.Edit.{Edit}
-use Rattle.lv_hub.specs.Logging.{IsLogOfEdits}
 use Rattle.lv_transcript.specs.declared.fronts.FoundFront.{FoundFront}
 use Rattle.lv_transcript.specs.declared.fronts.FrontVerdict.{FrontVerdict}
 use Rattle.lv_transcript.specs.declared.fronts.FrontVerdict.TheVariants as fronts
 use Rattle.lv_transcript.specs.declared.log_heading.LogHeading.{LogHeading}
-use Rattle.lv_transcript.specs.Logs.{base_of}
+use Rattle.lv_transcript.specs.Logs.{IsLogOfEdits, base_of}
 
 -- a verdict says that a front was found
 abbrev pub IsFound : FrontVerdict → Type 0

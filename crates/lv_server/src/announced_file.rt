@@ -3,10 +3,9 @@
 ghost use Rattle.std.specs.Prelude.{◌≡◌};
 
 use crate::escaped::Escaped;
-use lv_hub::LogWriter;
 use lv_lines::{MOST_NUMBERED, MOST_READ};
 use lv_script::Fault;
-use lv_transcript::LogHeading;
+use lv_transcript::{LogHeading, LogWriter};
 use std::alloc::Global;
 use std::io;
 use std::io::{Error, Write};

@@ -1,7 +1,8 @@
 //! A server that goes on from a log of elements, whose file stays a log of all edits.
 
 ghost use Rattle.std.specs.Prelude.{◌≡◌, ◌+◌, ◌<◌, ◌≤◌, ◌^◌, IfOk, IfSome, Ok, [], Some, is_some, map, nat_eq, true, false, vec_capacity, vec_len};
-ghost use Rattle.lv_hub.specs.Logging.{AreLasting, IsLogOfEdits, log_of_edits};
+ghost use Rattle.lv_transcript.specs.Logs.{IsLogOfEdits, log_of_edits};
+ghost use Rattle.lv_hub.specs.Logging.{AreLasting};
 ghost use Rattle.lv_hub.specs.Session.{are_listed};
 ghost use Rattle.lv_server.specs.Closing.{ClosesLog};
 ghost use Rattle.lv_server.specs.PlainLogged.{LogServed, served_limits};
@@ -15,10 +16,11 @@ use lv_bodies::Six;
 use lv_edits::Edit;
 use lv_geometry::Limits;
 use lv_hub::{
-    Begun, Hub, KeptAnswers, Leaving, LogHeading, LogWriter, Opened, OperationLog, Share, Watch,
-    Watched, WithBody,
+    Begun, Hub, KeptAnswers, Leaving, LogHeading, Opened, OperationLog, Share, Watch, Watched,
+    WithBody,
 };
 use lv_script::Fault;
+use lv_transcript::LogWriter;
 use std::alloc::Global;
 use std::io::{Read, Write};
 use std::marker::Brand;

@@ -7,7 +7,8 @@ ghost use Rattle.lv_server.specs.Starting.{Records, start_of};
 ghost use Rattle.lv_transcript.specs.Transcribing.{IsUnused};
 ghost use Rattle.lv_server.specs.Served.{FailsToServe, Served};
 ghost use Rattle.lv_server.specs.Tasks.{AreAllHeld};
-ghost use Rattle.lv_hub.specs.Logging.{AreLasting, MayGoOn, edits_there};
+ghost use Rattle.lv_transcript.specs.Logs.{MayGoOn, edits_there};
+ghost use Rattle.lv_hub.specs.Logging.{AreLasting};
 ghost use Rattle.lv_hub.specs.Numbering.{from_the_first};
 ghost use Rattle.lv_hub.specs.Renewing.{IsOfOneVector};
 ghost use Rattle.lv_hub.specs.Session.{are_listed};
@@ -23,10 +24,11 @@ use lv_bodies::Six;
 use lv_edits::Edit;
 use lv_geometry::{Limits, Refusal};
 use lv_hub::{
-    Begun, Hub, KeptAnswers, Leaving, LogHeading, LogWriter, Opened, OperationLog, SessionPlace,
-    Share, Watch, Watched, WithBody, from_the_first, leave_all,
+    Begun, Hub, KeptAnswers, Leaving, LogHeading, Opened, OperationLog, SessionPlace, Share, Watch,
+    Watched, WithBody, from_the_first, leave_all,
 };
 use lv_script::Fault;
+use lv_transcript::LogWriter;
 use std::alloc::Global;
 use std::io::{Read, Write};
 use std::marker::Brand;

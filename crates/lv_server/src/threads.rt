@@ -8,11 +8,11 @@ use crate::program_error::{ProgramError, Reason};
 use crate::server::Plan;
 use lv_bodies::Six;
 use lv_hub::{
-    Begun, Hub, LogWriter, OpenGate, OperationLog, SessionLog, SessionPlace, Watcher, WithBody,
-    attend, run_session,
+    Begun, Hub, OpenGate, OperationLog, SessionLog, SessionPlace, Watcher, WithBody, attend,
+    run_session,
 };
 use lv_script::Fault;
-use lv_transcript::Queue;
+use lv_transcript::{LogWriter, Queue};
 use std::alloc::Global;
 use std::io::{Read, Write};
 use std::sync::{Mutex, Wait};

@@ -6,7 +6,8 @@ ghost use Rattle.lv_transcript.specs.Joined.{in_a_row};
 ghost use Rattle.lv_transcript.specs.Transcribing.{IsUnused};
 ghost use Rattle.lv_transcript.specs.Transcript.{AreAccepted, IsTrueAnswer, greatest};
 ghost use Rattle.lv_hub.specs.Counting.{having_seen};
-ghost use Rattle.lv_hub.specs.Logging.{AreLasting, EndsInFile, MayGoOn, edits_there};
+ghost use Rattle.lv_transcript.specs.Logs.{MayGoOn, edits_there};
+ghost use Rattle.lv_hub.specs.Logging.{AreLasting, EndsInFile};
 ghost use Rattle.lv_hub.specs.Renewing.{IsOfOneVector};
 ghost use Rattle.lv_hub.specs.Watchers.{ClosesTelling};
 ghost use Rattle.lv_server.specs.Starting.{Records};
@@ -18,11 +19,11 @@ use lv_bodies::Six;
 use lv_edits::Edit;
 use lv_geometry::Limits;
 use lv_hub::{
-    Begun, HistoryPrefix, Hub, Leaving, LogHeading, LogWriter, OperationLog, SessionLog, Share,
-    Watched, WithBody,
+    Begun, HistoryPrefix, Hub, Leaving, LogHeading, OperationLog, SessionLog, Share, Watched,
+    WithBody,
 };
 use lv_script::Fault;
-use lv_transcript::{Queue, TranscriptWriter, write_joined_transcript};
+use lv_transcript::{LogWriter, Queue, TranscriptWriter, write_joined_transcript};
 use std::alloc::Global;
 use std::io::Write;
 use std::sync::{Mutex, Wait};

@@ -1,6 +1,6 @@
 //! Streams that are waited for.
 
-use lv_hub::LogWriter;
+use lv_transcript::LogWriter;
 use std::io::{Error, ErrorKind, Read, Write};
 use std::time::{Clock, Duration};
 use std::{io, thread};

@@ -15,5 +15,6 @@ pub mod BlockLaws
 pub mod KeptLaws
 pub mod TranscribedFronts
 pub mod LogTexts
+pub mod ContinuedLogs
 pub mod SeenTexts
 pub mod Compactions

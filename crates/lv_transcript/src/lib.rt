@@ -3,7 +3,7 @@
 //! A transcript is a journal and the reductions that were answered, as text. `write_transcript` writes it; `audit`
 //! answers yes exactly where the bytes are a transcript whose every line is true. It folds blocks of the plain list, which it
 //! keeps until an edit touches them: of the vector it uses the verdicts on edits alone. A `TranscriptWriter` writes the lines of a
-//! transcript entry by entry, as they come.
+//! transcript entry by entry, as they come; a `LogWriter` is what it may write to where the log goes on for long.
 //!
 //! All of that also works on a caller's memory: `copy_edits` reads a journal in pieces as plain numbers, `put_transcript` puts a
 //! transcript's text into bytes of the caller's, and `audit_text`, `audit_front_text` and `front_in` look at bytes as `audit`,
@@ -18,6 +18,7 @@ mod flat_edits;
 mod fronts;
 mod kind_folds;
 mod log_heading;
+mod log_writer;
 mod logs;
 mod plain_ranges;
 mod queues;
@@ -34,6 +35,7 @@ pub use compaction::{compact_log, compacted_heading};
 pub use flat_edits::{FlatEdit, copy_edits, flat_edit};
 pub use fronts::{FoundFront, FrontVerdict, audit_front, read_front};
 pub use log_heading::LogHeading;
+pub use log_writer::LogWriter;
 pub use logs::{MOST_ELEMENTS, write_log};
 pub use queues::Queue;
 pub use text_audits::{Unread, audit_front_text, audit_text, front_in};

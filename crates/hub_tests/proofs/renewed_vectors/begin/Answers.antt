@@ -2,7 +2,7 @@
 use Rattle.std.proofs.Common.{◌∙◌, All, List, [], ap, arith, is_some, subst, sym, take}
 use Rattle.std.proofs.lemmas.List.Elements.{All-nil}
 use Rattle.lv_transcript.specs.Fronts.{Entry, IsPush}
-use Rattle.lv_hub.specs.Logging.{MayGoOn, edits_there}
+use Rattle.lv_transcript.specs.Logs.{MayGoOn, edits_there}
 use Rattle.hub_tests.proofs.renewed_vectors.begin.Goals as goal
 
 -- the log that was there has no entries

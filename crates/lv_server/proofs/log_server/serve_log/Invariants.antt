@@ -1,6 +1,6 @@
 -- The ghosts that are handed on in `serve_log`: which hub it is, and where its log begins.
 use Rattle.std.proofs.Common.{Some, false}
-use Rattle.lv_hub.specs.Logging.{log_of_edits}
+use Rattle.lv_transcript.specs.Logs.{log_of_edits}
 use Rattle.lv_server.specs.PlainLogged.{served_limits}
 use Rattle.lv_server.proofs.log_server.serve_log.Given as goal
 

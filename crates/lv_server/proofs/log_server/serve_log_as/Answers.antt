@@ -1,7 +1,7 @@
 -- Proof of `serve_log_as`: serves sessions and subscribers from a log on a hub of this name.
 use Rattle.std.proofs.Common.{◌∙◌, ap, is_some, subst, sym}
-use Rattle.lv_hub.specs.Logging.{MayGoOn, edits_there}
-use Rattle.lv_hub.proofs.LogLaws.{edits_of_edits}
+use Rattle.lv_transcript.specs.Logs.{MayGoOn, edits_there}
+use Rattle.lv_transcript.proofs.ContinuedLogs.{edits_of_edits}
 use Rattle.lv_server.proofs.LogServedLaws.{log_served}
 use Rattle.lv_server.proofs.RecordingLaws.{passes_all, passes_well}
 use Rattle.lv_server.proofs.log_server.serve_log_as.Goals as goal

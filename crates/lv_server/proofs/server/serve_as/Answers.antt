@@ -1,7 +1,7 @@
 -- Proof of `serve_as`: serves them on a hub of this name.
 use Rattle.std.proofs.Common.{◌∙◌, ap, is_some, subst, sym}
-use Rattle.lv_hub.specs.Logging.{MayGoOn, edits_there}
-use Rattle.lv_hub.proofs.LogLaws.{no_log_goes_on}
+use Rattle.lv_transcript.specs.Logs.{MayGoOn, edits_there}
+use Rattle.lv_transcript.proofs.ContinuedLogs.{no_log_goes_on}
 use Rattle.lv_hub.proofs.WatchedLaws.{served_watched}
 use Rattle.lv_server.proofs.RecordingLaws.{passes_all, passes_ill, passes_well}
 use Rattle.lv_server.proofs.ServedLaws.{failed_so, if_some, served_so}

@@ -1,7 +1,8 @@
 -- Proof of `write_closed`: closes a hub and writes its transcript by what was made for it, ends its log, and gives its file back.
 use Rattle.std.proofs.Common.{◌≡◌, ◌∙◌, All, IfOk, IfSome, Option, ap, refl, subst, sym}
 use Rattle.lv_transcript.specs.Transcript.{AreAccepted, IsTrueAnswer, greatest}
-use Rattle.lv_hub.specs.Logging.{LogThere, WroteWhole}
+use Rattle.lv_transcript.specs.Logs.{LogThere}
+use Rattle.lv_hub.specs.Logging.{WroteWhole}
 use Rattle.lv_hub.proofs.TruthLaws.{all_true_of_more}
 use Rattle.lv_transcript.specs.Joined.{in_a_row}
 use Rattle.lv_server.proofs.RecordingLaws.{records_so, whole_so}

@@ -1,7 +1,7 @@
 -- Proof of `OperationLog::new`: a log that was given nothing.
 use Rattle.std.proofs.Common.{Option, ℕ, List, [], ◌∙◌, subst}
 use Rattle.lv_transcript.specs.Transcribing.{WasGivenOf, state_with}
-use Rattle.lv_hub.specs.Logging.{heading_of, there_of}
+use Rattle.lv_transcript.specs.Logs.{heading_of, there_of}
 use Rattle.lv_hub.proofs.LogLaws.{in_file_begins}
 use Rattle.lv_hub.proofs.operation_log.OperationLog.new.Goals as goal
 
