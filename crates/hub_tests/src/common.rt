@@ -1,6 +1,6 @@
 //! What the tests share: a hub that is made for a test and closed after it, and what they do to a hub and see of it.
 ghost use Rattle.std.specs.Prelude.{◌≡◌, Some, true};
-ghost use Rattle.lv_hub.specs.Numbering.{from_the_first};
+ghost use Rattle.lv_history.specs.Numbering.{from_the_first};
 ghost use Rattle.lv_hub.specs.Renewing.{IsOfOneVector};
 
 use crate::same::assert_same;

@@ -1,6 +1,6 @@
 //! Tests that a hub's lock is free while the file of its log is written, and that no reply goes out before what it tells is there.
 ghost use Rattle.std.specs.Prelude.{◌≡◌, None, Some, true};
-ghost use Rattle.lv_hub.specs.Numbering.{from_the_first};
+ghost use Rattle.lv_history.specs.Numbering.{from_the_first};
 
 use crate::common::*;
 use crate::same::assert_same;

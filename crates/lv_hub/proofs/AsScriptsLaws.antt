@@ -17,7 +17,7 @@ use Rattle.lv_lines.specs.Grammar.{line_of}
 use Rattle.lv_lines.specs.Texts.{answer_text, numbered, receipt_text, refused_text, scan_text}
 use Rattle.lv_script.specs.Interpreter.{plain_after, plain_reply}
 use Rattle.lv_script.specs.PlainScript.{Plain, after, scan_by, vector_script}
-use Rattle.lv_hub.specs.Numbering.{from_the_first, told_number}
+use Rattle.lv_history.specs.Numbering.{from_the_first, told_number}
 use Rattle.lv_hub.specs.PlainSession.{FindsNoMemory, PlainSessionStep, Seen, known_of, seen_after, session_reply}
 use Rattle.lv_hub.specs.AsScripts.{ScriptedStep, WantsMemory, made_since, plain_at}
 

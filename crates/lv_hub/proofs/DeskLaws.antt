@@ -29,7 +29,7 @@ use Rattle.lv_hub.specs.Logging.{CameSince, entry_of}
 use Rattle.lv_hub.specs.Renewing.{IsOfOneVector, StandsFor, receipt_with, renewed_after}
 use Rattle.lv_hub.specs.Told.{history_of, receipt_at, valued_at}
 use Rattle.lv_hub.specs.Work.{makes_work}
-use Rattle.lv_hub.proofs.PrefixLaws.{prefix_whole}
+use Rattle.lv_history.proofs.PrefixLaws.{prefix_whole}
 use Rattle.lv_hub.proofs.RenewalLaws.{EditStands, HasEditsLeft, stands_alone, verdict_stands}
 
 -- ---- edits

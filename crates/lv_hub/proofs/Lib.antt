@@ -8,13 +8,10 @@ pub mod LogLaws
 mod NoticeLaws
 pub mod Noticed
 mod OrderLaws
-mod PermitLaws
 pub mod PlainSessionLaws
-mod PrefixLaws
 mod RefusedQuestions
 mod RenewalLaws
 mod SessionLaws
-mod StepLaws
 mod StretchLaws
 mod SubscriberLaws
 mod ToldLaws

@@ -28,9 +28,9 @@ use Rattle.lv_transcript.proofs.TranscribedFronts.{entry_lines_front, unused}
 use Rattle.lv_hub.specs.declared.log_entry.LogEntry.{LogEntry}
 use Rattle.lv_hub.specs.declared.log_entry.LogEntry.TheVariants as logged
 use Rattle.lv_hub.specs.Logging.{AreLasting, BeginsAnew, CameSince, EndsInFile, EndsText, HasFront, HasAll, HasAllOfFile, HasFrontOfFile, IsLogInFile, IsLogOf, LogEnds, LogFile, LogState, TapState, Taps, WereRecorded, entry_of, heading_after, last_after, log_after, with_entry}
-use Rattle.lv_hub.specs.Numbering.{told_number}
+use Rattle.lv_history.specs.Numbering.{told_number}
 use Rattle.lv_hub.specs.Renewing.{IsOfOneVector, lasting, renewed_after}
-use Rattle.lv_hub.proofs.PrefixLaws.{prefix_length, prefix_self, prefix_whole}
+use Rattle.lv_history.proofs.PrefixLaws.{prefix_length, prefix_self, prefix_whole}
 use Rattle.lv_hub.proofs.RenewalLaws.{renewed_never, renewed_prefix}
 
 -- ---- entries

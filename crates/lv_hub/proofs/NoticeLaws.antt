@@ -11,7 +11,7 @@ use Rattle.lv_standing.specs.declared.notes.Note.{Note}
 use Rattle.lv_transcript.specs.declared.log_heading.LogHeading.{LogHeading}
 use Rattle.lv_hub.specs.declared.told.Told.{Told}
 use Rattle.lv_hub.specs.Noticing.{NoticesState, WritesMore, WroteOrPart, notes_at, told_text}
-use Rattle.lv_hub.specs.Numbering.{told_number}
+use Rattle.lv_history.specs.Numbering.{told_number}
 
 -- the lines of the notes so far, and then that of the next
 notes_more : (edit : ℕ) (notes : List Note) (i : ℕ) (d note : Note) → i < length notes → note ≡ get_or notes i d → notes_at edit (take (i + 1) notes) ≡ notes_at edit (take i notes) ++ named_text edit note.name note.value

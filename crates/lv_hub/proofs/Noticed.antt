@@ -7,7 +7,7 @@ use Rattle.lv_geometry.specs.Bounds.{Bounds}
 use Rattle.lv_bodies.specs.declared.kinds.Shown.{Shown}
 use Rattle.lv_edits.specs.declared.edit.Edit.{Edit}
 use Rattle.lv_transcript.specs.declared.log_heading.LogHeading.{LogHeading}
-use Rattle.lv_hub.specs.Counting.{ShareState}
+use Rattle.lv_history.specs.Counting.{ShareState}
 use Rattle.lv_standing.specs.declared.queries.Query.{Query}
 use Rattle.lv_hub.specs.declared.told.Told.{Told}
 use Rattle.lv_standing.specs.Queries.{AreNotesOf, watch_answer}
@@ -15,7 +15,7 @@ use Rattle.lv_hub.specs.Notes.{HasTold, IsToldIf, SubscriberState}
 use Rattle.lv_hub.specs.Noticing.{AreTold, NoticesState, WatcherState, Watches, WritesMore, WroteOrPart, all_told_text, told_text}
 use Rattle.lv_hub.specs.Watched.{AreToldOf, WatchState, answers_at}
 use Rattle.lv_hub.specs.Watchers.{watcher_at}
-use Rattle.lv_hub.proofs.PrefixLaws.{prefix_length, prefix_self, prefix_take, prefix_trans}
+use Rattle.lv_history.proofs.PrefixLaws.{prefix_length, prefix_self, prefix_take, prefix_trans}
 
 -- nothing more was written
 pub writes_no_more : (n : NoticesState) → WritesMore [] n n

@@ -28,12 +28,12 @@ use Rattle.lv_standing.specs.Queries.{IsValue}
 use Rattle.lv_standing.specs.declared.notes.Answered.{Answered as Valued}
 use Rattle.lv_transcript.specs.declared.claimed.Claimed.{Claimed}
 use Rattle.lv_transcript.specs.declared.log_heading.LogHeading.{LogHeading}
-use Rattle.lv_hub.specs.Numbering.{told_number}
+use Rattle.lv_history.specs.Numbering.{told_number}
 use Rattle.lv_hub.specs.Replying.{ListsAnswer, SessionCommandAnswer, SessionLineAnswer, TellsLine, edit_text_at, having_counted, listed_of, scan_reply_text, up_to}
 use Rattle.lv_hub.specs.Session.{IsWithin, Lists, SessionState, SessionStep, claim_at, kept_by, listed_if}
 use Rattle.lv_hub.specs.PlainSession.{FindsNoMemory, IsTrueReply, PlainSessionStep, Seen, TrueReply, known_of, refusal_after, reply_after, seen_after, session_line_of, session_reply}
 use Rattle.lv_hub.specs.Told.{EditTold, StretchTold, ValueTold, valued_at}
-use Rattle.lv_hub.proofs.PrefixLaws.{prefix_length, prefix_self, prefix_take, prefix_trans}
+use Rattle.lv_history.proofs.PrefixLaws.{prefix_length, prefix_self, prefix_take, prefix_trans}
 use Rattle.lv_hub.proofs.TruthLaws.{edit_lists_nothing}
 
 -- a receipt with two numbers, one after the other, tells the last

@@ -9,10 +9,10 @@ use Rattle.lv_standing.specs.declared.queries.Query.{Query}
 use Rattle.lv_standing.specs.Queries.{AddsNotesOf, AreNotesOf, watch_answer}
 use Rattle.lv_standing.specs.QuerySets.{QuerySetState, with_answers, with_told}
 use Rattle.lv_hub.specs.declared.told.Told.{Told}
-use Rattle.lv_hub.specs.Counting.{ShareState, having_seen}
+use Rattle.lv_history.specs.Counting.{ShareState, having_seen}
 use Rattle.lv_hub.specs.Notes.{HasTold, SubscriberState}
 use Rattle.lv_hub.specs.Renewing.{IsRun}
-use Rattle.lv_hub.proofs.PrefixLaws.{prefix_length, prefix_whole}
+use Rattle.lv_history.proofs.PrefixLaws.{prefix_length, prefix_whole}
 
 -- a set that was asked has an answer to each query
 pub each_answered : (set asked : QuerySetState Query) (answer : Query → Shown) → asked ≡ with_answers set (map answer set.queries) → length asked.answers ≡ length asked.queries

@@ -31,7 +31,7 @@ use Rattle.lv_hub.specs.Session.{SessionState, listed_if}
 use Rattle.lv_hub.specs.Told.{EditTold, ValueTold, valued_at}
 use Rattle.lv_standing.specs.Queries.{IsValue}
 use Rattle.lv_standing.specs.declared.notes.Answered.{Answered as Valued}
-use Rattle.lv_hub.proofs.PrefixLaws.{prefix_length, prefix_self, prefix_trans}
+use Rattle.lv_history.proofs.PrefixLaws.{prefix_length, prefix_self, prefix_trans}
 
 -- an edit leaves a beginning of what there is
 pub edit_grows : (limits : Bounds) (old new : List Edit) (e : Edit) (result : Result Receipt Refusal) → EditTold limits old new e result → IsPrefix old new

@@ -9,13 +9,13 @@ use Rattle.lv_bodies.specs.Plain.{plain_value}
 use Rattle.lv_edits.specs.declared.edit.Edit.{Edit}
 use Rattle.lv_edits.specs.History.{list_of}
 use Rattle.lv_transcript.specs.declared.log_heading.LogHeading.{LogHeading}
-use Rattle.lv_hub.specs.Counting.{AreTogether, ShareState}
+use Rattle.lv_history.specs.Counting.{AreTogether, ShareState}
 use Rattle.lv_hub.specs.declared.told.Told.{Told}
 use Rattle.lv_standing.specs.Queries.{AreNotesOf, span_of, watch_answer}
 use Rattle.lv_hub.specs.Noticing.{NoticesState, WatcherState, Watches, WritesMore, WroteOrPart, all_told_text, told_text}
 use Rattle.lv_hub.specs.Watched.{AreWatched, IsWatched, ServedWatched, ToldOf, WatchState}
 use Rattle.lv_hub.specs.Watchers.{AllTellLast, AreLeft, AreWatchedFrom, ClosesTelling, LeftState, TakesWatchers, TellsLast, left_by, watcher_at}
-use Rattle.lv_hub.proofs.PrefixLaws.{prefix_self, prefix_trans}
+use Rattle.lv_history.proofs.PrefixLaws.{prefix_self, prefix_trans}
 use Rattle.lv_hub.proofs.Noticed.{text_of_both, text_of_one, told_last, told_of}
 
 -- no subscriber was taken back yet

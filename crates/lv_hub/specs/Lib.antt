@@ -1,12 +1,9 @@
 -- Names the files of definitions of `lv_hub`.
 pub mod AsScripts
 pub mod Asking
-pub mod Counting
-pub mod Growing
 pub mod Logging
 pub mod Notes
 pub mod Noticing
-pub mod Numbering
 pub mod PlainSession
 pub mod Renewing
 pub mod Replying

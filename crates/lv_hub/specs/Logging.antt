@@ -16,7 +16,7 @@ use Rattle.lv_transcript.specs.Fronts.{AreTrueAfter, AreTrueOf, Entry, IsFrontOf
 use Rattle.lv_transcript.specs.Transcribing.{GotFrontOf, WasGivenOf, WritingState, all_entries, bytes_before, bytes_behind, whole_bytes}
 use Rattle.lv_transcript.specs.Transcript.{ended}
 use Rattle.lv_transcript.specs.Logs.{HasLog, LogThere, MayGoOn, edits_there, entries_there, heading_of, log_of_edits, there_of}
-use Rattle.lv_hub.specs.Numbering.{told_number}
+use Rattle.lv_history.specs.Numbering.{told_number}
 use Rattle.lv_hub.specs.Renewing.{lasting, renewed_after}
 
 -- ---- what came since

@@ -9,7 +9,7 @@ use Rattle.lv_transcript.specs.declared.log_heading.LogHeading.{LogHeading}
 use Rattle.lv_standing.specs.declared.notes.Note.{Note}
 use Rattle.lv_hub.specs.declared.told.Told.{Told}
 use Rattle.lv_hub.specs.Notes.{HasTold, SubscriberState}
-use Rattle.lv_hub.specs.Numbering.{told_number}
+use Rattle.lv_history.specs.Numbering.{told_number}
 
 -- the lines of some notes at an edit, and of what was told
 abbrev pub notes_at : ℕ → List Note → List ℕ

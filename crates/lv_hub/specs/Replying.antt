@@ -19,7 +19,7 @@ use Rattle.lv_transcript.specs.declared.claimed.Claimed.{Claimed}
 use Rattle.lv_transcript.specs.declared.log_heading.LogHeading.{LogHeading}
 use Rattle.lv_script.specs.PlainScript.{scan_by}
 use Rattle.lv_standing.specs.declared.notes.Answered.{Answered}
-use Rattle.lv_hub.specs.Numbering.{told_number}
+use Rattle.lv_history.specs.Numbering.{told_number}
 use Rattle.lv_hub.specs.Session.{SessionState, listed_if}
 use Rattle.lv_hub.specs.Told.{EditTold, StretchTold, ValueTold}
 

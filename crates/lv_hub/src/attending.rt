@@ -3,9 +3,9 @@ ghost use Rattle.std.specs.Prelude.{◌≡◌, ◌+◌, ◌≤◌};
 
 use crate::gates::Gate;
 use crate::hubs::Hub;
-use crate::naming::WithBody;
 use crate::worked::Worked;
 use lv_bodies::Body;
+use lv_history::WithBody;
 use std::sync::Wait;
 
 /// Refreshes a hub for a number of turns, as `work` does, and sleeps where no node wants a job, until an edit wakes it. Ends sooner

@@ -8,11 +8,10 @@ ghost use Rattle.lv_live.specs.State.{SameLive};
 ghost use Rattle.lv_hub.specs.Watchers.{AllTellLast, TakesWatchers, TellsLast};
 
 use crate::ended::Ended;
-use crate::naming::WithBody;
 use crate::notices::Notices;
-use crate::shares::Share;
 use crate::watchers::Watcher;
 use lv_bodies::Six;
+use lv_history::{Share, WithBody};
 use lv_live::Live;
 use lv_transcript::LogHeading;
 use std::alloc::{AllocError, Global};

@@ -5,8 +5,8 @@ ghost use Rattle.lv_lines.specs.Output.{Puts, PutsFront, SamePlaces};
 ghost use Rattle.lv_lines.specs.Texts.{named_text};
 ghost use Rattle.lv_hub.specs.Noticing.{WritesMore, notes_at, told_text};
 
-use crate::numbering::told_number;
 use crate::told::Told;
+use lv_history::told_number;
 use lv_lines::{Fault, HELD, LINE, ReplyBuffer, put_named};
 use lv_standing::Note;
 use lv_transcript::LogHeading;

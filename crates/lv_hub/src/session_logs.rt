@@ -4,10 +4,9 @@ ghost use Rattle.lv_edits.specs.declared.edit.Edit.{Edit};
 ghost use Rattle.lv_hub.specs.Logging.{WereRecorded};
 
 use crate::hubs::Hub;
-use crate::naming::WithBody;
 use crate::operation_log::{Begun, OperationLog};
-use crate::shares::Share;
 use lv_bodies::Six;
+use lv_history::{Share, WithBody};
 use lv_script::Fault;
 use lv_transcript::LogWriter;
 use std::sync::{Mutex, Wait};

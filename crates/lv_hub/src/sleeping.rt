@@ -1,8 +1,8 @@
 //! How workers and subscribers wait at a hub, and what wakes them.
 use crate::desks::Desk;
 use crate::hubs::Hub;
-use crate::naming::WithBody;
 use lv_bodies::Body;
+use lv_history::WithBody;
 use lv_refresh::Job;
 use std::sync::{MutexGuard, Wait};
 use std::thread::Parker;

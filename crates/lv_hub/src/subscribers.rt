@@ -7,11 +7,10 @@ ghost use Rattle.lv_hub.specs.Renewing.{IsRun};
 
 use crate::ended::Ended;
 use crate::hubs::Hub;
-use crate::naming::WithBody;
-use crate::shares::Share;
 use crate::told::Told;
 use lv_bodies::Six;
 use lv_geometry::Refusal;
+use lv_history::{Share, WithBody};
 use lv_standing::{Note, Query, QuerySet};
 use std::alloc::Global;
 use std::marker::Model;

@@ -6,17 +6,15 @@ ghost use Rattle.lv_hub.specs.Noticing.{Watches, WritesMore, told_text};
 ghost use Rattle.lv_standing.specs.Queries.{watch_answer};
 ghost use Rattle.lv_hub.specs.Watchers.{left_by, watcher_at};
 
-use crate::histories::HistoryPrefix;
 use crate::hubs::Hub;
 use crate::leaving::Left;
-use crate::naming::WithBody;
 use crate::notices::Notices;
 use crate::session_logs::SessionLog;
-use crate::shares::Share;
 use crate::subscribers::Subscriber;
 use crate::told::Told;
 use lv_bodies::Six;
 use lv_geometry::Refusal;
+use lv_history::{HistoryPrefix, Share, WithBody};
 use lv_standing::Query;
 use lv_transcript::LogHeading;
 use std::alloc::Global;

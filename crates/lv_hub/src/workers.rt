@@ -3,9 +3,9 @@ ghost use Rattle.std.specs.Prelude.{◌≡◌, ◌+◌, ◌^◌, ◌<◌, ◌≤
 
 use crate::gates::Gate;
 use crate::hubs::Hub;
-use crate::naming::WithBody;
 use crate::worked::Worked;
 use lv_bodies::Body;
+use lv_history::WithBody;
 use lv_refresh::Job;
 use std::sync::Wait;
 use std::thread;

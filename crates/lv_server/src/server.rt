@@ -9,7 +9,7 @@ ghost use Rattle.lv_server.specs.Served.{FailsToServe, Served};
 ghost use Rattle.lv_server.specs.Tasks.{AreAllHeld};
 ghost use Rattle.lv_transcript.specs.Logs.{MayGoOn, edits_there};
 ghost use Rattle.lv_hub.specs.Logging.{AreLasting};
-ghost use Rattle.lv_hub.specs.Numbering.{from_the_first};
+ghost use Rattle.lv_history.specs.Numbering.{from_the_first};
 ghost use Rattle.lv_hub.specs.Renewing.{IsOfOneVector};
 ghost use Rattle.lv_hub.specs.Session.{are_listed};
 ghost use Rattle.lv_hub.specs.Watched.{ServedWatched};

@@ -1,6 +1,6 @@
 -- The ghosts that are handed on in `at_hub`: whose ledger, names and body the hub has.
 use Rattle.std.proofs.Common.{Some, true}
-use Rattle.lv_hub.specs.Numbering.{from_the_first}
+use Rattle.lv_history.specs.Numbering.{from_the_first}
 use Rattle.hub_tests.proofs.common.at_hub.Given as goal
 
 abbrev pub ghosts-hold-N-Ledger : goal.ghosts-hold-N-Ledger

@@ -1,6 +1,6 @@
 -- The ghosts that are handed on in `hold_new`: whose ledger, names and body the hub has.
 use Rattle.std.proofs.Common.{Some, true}
-use Rattle.lv_hub.specs.Numbering.{from_the_first}
+use Rattle.lv_history.specs.Numbering.{from_the_first}
 use Rattle.hub_tests.proofs.failing_streams.hold_new.Given as goal
 
 abbrev pub ghosts-hold_alone-N-Ledger : goal.ghosts-hold_alone-N-Ledger

@@ -1,6 +1,6 @@
 -- The ghosts that are handed on in `nothing_is_written_under_the_lock`: whose ledger, names and body the hub has, and what its log's file says that it has.
 use Rattle.std.proofs.Common.{None, Some, true}
-use Rattle.lv_hub.specs.Numbering.{from_the_first}
+use Rattle.lv_history.specs.Numbering.{from_the_first}
 use Rattle.hub_tests.proofs.held_logs.nothing_is_written_under_the_lock.Given as goal
 
 abbrev pub ghosts-hold_logged-N-Ledger : goal.ghosts-hold_logged-N-Ledger

@@ -1,7 +1,7 @@
 -- Proof of `put_edit`: makes an edit, and tells its receipt or its refusal.
 use Rattle.std.proofs.Common.{◌++◌, ◌∙◌, Ok, Err, refl, ap, arith, length}
 use Rattle.lv_lines.specs.Texts.{numbered, receipt_text}
-use Rattle.lv_hub.specs.Numbering.{told_number}
+use Rattle.lv_history.specs.Numbering.{told_number}
 use Rattle.lv_hub.specs.Replying.{edit_text_at}
 use Rattle.lv_hub.specs.Session.{session_at}
 use Rattle.lv_hub.proofs.replying.put_edit.Goals as goal

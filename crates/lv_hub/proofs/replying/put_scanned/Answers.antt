@@ -5,7 +5,7 @@ use Rattle.lv_bodies.specs.Plain.{plain_value}
 use Rattle.lv_lines.specs.Texts.{scan_text}
 use Rattle.lv_script.specs.PlainScript.{scan_by}
 use Rattle.lv_transcript.specs.declared.claimed.Claimed.{Claimed}
-use Rattle.lv_hub.specs.Numbering.{told_number}
+use Rattle.lv_history.specs.Numbering.{told_number}
 use Rattle.lv_hub.specs.Replying.{TellsScan, scan_reply_text}
 use Rattle.lv_hub.specs.Session.{session_at}
 use Rattle.lv_hub.proofs.replying.put_scanned.Goals as goal

@@ -1,6 +1,6 @@
 -- The ghosts that are handed on in `ask_hub`: whose ledger, names and body the hub has.
 use Rattle.std.proofs.Common.{Some, true}
-use Rattle.lv_hub.specs.Numbering.{from_the_first}
+use Rattle.lv_history.specs.Numbering.{from_the_first}
 use Rattle.starved.proofs.hubs.ask_hub.Given as goal
 
 abbrev pub ghosts-of_hub-N-Ledger : goal.ghosts-of_hub-N-Ledger

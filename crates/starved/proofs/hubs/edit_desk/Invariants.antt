@@ -1,6 +1,6 @@
 -- The ghosts that are handed on in `edit_desk`: whose ledger, names and body the desk has.
 use Rattle.std.proofs.Common.{Some, true}
-use Rattle.lv_hub.specs.Numbering.{from_the_first}
+use Rattle.lv_history.specs.Numbering.{from_the_first}
 use Rattle.starved.proofs.hubs.edit_desk.Given as goal
 
 abbrev pub ghosts-of_desk-N-Ledger : goal.ghosts-of_desk-N-Ledger

@@ -9,7 +9,7 @@ use Rattle.lv_hub.specs.Logging.{Taps}
 use Rattle.lv_hub.specs.Renewing.{StandsFor, vector_limits}
 use Rattle.lv_hub.specs.Told.{history_of}
 use Rattle.lv_hub.proofs.LogLaws.{taps_none}
-use Rattle.lv_hub.proofs.PrefixLaws.{prefix_whole}
+use Rattle.lv_history.proofs.PrefixLaws.{prefix_whole}
 use Rattle.lv_hub.proofs.RenewalLaws.{stands_anew}
 use Rattle.lv_hub.proofs.desks.Desk.put_anew.Goals as goal
 

@@ -1,7 +1,7 @@
 -- Proof of `take_permit`: a new permit, by which nothing was added up to what is seen then.
 use Rattle.std.proofs.Common.{ap, sym, ◌∙◌}
-use Rattle.lv_hub.proofs.StepLaws.{grants_moves}
-use Rattle.lv_hub.proofs.histories.take_permit.Goals as goal
+use Rattle.lv_history.proofs.StepLaws.{grants_moves}
+use Rattle.lv_history.proofs.histories.take_permit.Goals as goal
 
 pub compare_exchange-requires : goal.compare_exchange-requires
 compare_exchange-requires c =

@@ -5,8 +5,8 @@ use Rattle.std.proofs.lemmas.Bool.{true≢false}
 use Rattle.std.proofs.lemmas.List.Elements.{All-push, All-same, All-weaker}
 use prog.Atomic.{either}
 use Rattle.logbook.specs.Pages.{Cell, Moves, Nib, Step, adds, cell, gives, keeps, may_write, no_nib}
-use Rattle.lv_hub.specs.declared.entries.Entry.{Entry}
-use Rattle.lv_hub.specs.Growing.{Adds, Grants, IsKept, IsSpent, IsUnspent, Shows}
+use Rattle.lv_history.specs.declared.entries.Entry.{Entry}
+use Rattle.lv_history.specs.Growing.{Adds, Grants, IsKept, IsSpent, IsUnspent, Shows}
 
 -- clients see nothing
 abbrev pub shown : List Entry → List Entry

@@ -1,6 +1,6 @@
 //! The numbers that edits are told by.
 ghost use Rattle.std.specs.Prelude.{◌≡◌, ◌≤◌, ◌^◌};
-ghost use Rattle.lv_hub.specs.Numbering.{from_the_first, told_number};
+ghost use Rattle.lv_history.specs.Numbering.{from_the_first, told_number};
 
 use lv_transcript::LogHeading;
 
@@ -16,7 +16,7 @@ pub fn from_the_first() -> LogHeading
 
 /// The number that an edit of the hub is told by.
 #[inline(always)]
-pub(crate) fn told_number(numbers: LogHeading, edit: u64) -> u64
+pub fn told_number(numbers: LogHeading, edit: u64) -> u64
     requires base { numbers.base ≤ 2 ^ 62 }
     requires few { edit ≤ 2 ^ 62 }
     ensures { result ≡ told_number numbers edit }

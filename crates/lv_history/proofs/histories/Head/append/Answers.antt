@@ -1,9 +1,9 @@
 -- Proof of `Head::append`: adds an edit, and spends its permit by that.
 use Rattle.std.proofs.Common.{[], ◌∷◌, ◌++◌, ap, arith, length, length-append, sym, ◌∙◌}
-use Rattle.lv_hub.specs.Growing.{edits_by}
-use Rattle.lv_hub.proofs.PermitLaws.{HasAdded, adds_one}
-use Rattle.lv_hub.proofs.StepLaws.{adds_moves}
-use Rattle.lv_hub.proofs.histories.Head.append.Goals as goal
+use Rattle.lv_history.specs.Growing.{edits_by}
+use Rattle.lv_history.proofs.PermitLaws.{HasAdded, adds_one}
+use Rattle.lv_history.proofs.StepLaws.{adds_moves}
+use Rattle.lv_history.proofs.histories.Head.append.Goals as goal
 
 pub compare_exchange-requires : goal.compare_exchange-requires
 compare_exchange-requires g c =

@@ -2,7 +2,7 @@
 ghost use Rattle.std.specs.Prelude.{◌≡◌, ◌<◌, ◌≤◌, ◌^◌, ◌++◌, ◌∷◌, ◌⊎◌, [], length, true};
 ghost use mathlib.Core.List.{IsPrefix};
 ghost use Rattle.logbook.specs.Pages.{may_write};
-ghost use Rattle.lv_hub.specs.Growing.{IsUnspent, head_of};
+ghost use Rattle.lv_history.specs.Growing.{IsUnspent, head_of};
 
 use crate::entries::Entry;
 use crate::naming::Naming;
@@ -16,7 +16,7 @@ pub struct Law;
 impl Rule<Entry, u64> for Law {
     ghost use Rattle.std.specs.Prelude.{[]};
     ghost use base.Fml.{ftrue};
-    ghost use Rattle.lv_hub.specs.Growing.{IsKept};
+    ghost use Rattle.lv_history.specs.Growing.{IsKept};
 
     ghost holds = { λ words log. IsKept words log };
 
@@ -44,7 +44,7 @@ impl Gain<Entry, u64> for Nothing {
 pub struct Grant;
 
 impl Play<Entry, u64> for Grant {
-    ghost use Rattle.lv_hub.specs.Growing.{Grants};
+    ghost use Rattle.lv_history.specs.Growing.{Grants};
 
     ghost then = { Grants };
 }
@@ -53,7 +53,7 @@ impl Play<Entry, u64> for Grant {
 pub struct Look;
 
 impl Play<Entry, u64> for Look {
-    ghost use Rattle.lv_hub.specs.Growing.{Shows};
+    ghost use Rattle.lv_history.specs.Growing.{Shows};
 
     ghost then = { Shows };
 }
@@ -77,7 +77,7 @@ pub struct Turn {
 }
 
 impl Play<Entry, u64> for Add {
-    ghost use Rattle.lv_hub.specs.Growing.{Adds};
+    ghost use Rattle.lv_history.specs.Growing.{Adds};
 
     ghost then = { Adds };
 }
@@ -115,7 +115,7 @@ pub struct Opened {
 impl Model for Opened {
     ghost use Rattle.std.specs.Prelude.{◌≡◌};
     ghost use Rattle.logbook.specs.Pages.{may_write};
-    ghost use Rattle.lv_hub.specs.Growing.{Beginning, IsUnspent, head_of};
+    ghost use Rattle.lv_history.specs.Growing.{Beginning, IsUnspent, head_of};
 
     ghost Value = { Beginning };
 
@@ -166,7 +166,7 @@ impl<N: Naming> Model for Head<N> {
     ghost use Rattle.std.specs.Prelude.{◌≡◌, ◌≤◌, ◌^◌, List, length};
     ghost use Rattle.logbook.specs.Pages.{may_write};
     ghost use Rattle.lv_edits.specs.declared.edit.Edit.{Edit};
-    ghost use Rattle.lv_hub.specs.Growing.{edits_by, head_of, permit_after};
+    ghost use Rattle.lv_history.specs.Growing.{edits_by, head_of, permit_after};
 
     ghost Value = { List Edit };
 
@@ -186,7 +186,7 @@ pub struct HistoryPrefix<N: Naming> {
 impl<N: Naming> Model for HistoryPrefix<N> {
     ghost use Rattle.std.specs.Prelude.{◌≡◌, ◌≤◌, ◌^◌, List, length};
     ghost use Rattle.lv_edits.specs.declared.edit.Edit.{Edit};
-    ghost use Rattle.lv_hub.specs.Growing.{edits_by};
+    ghost use Rattle.lv_history.specs.Growing.{edits_by};
 
     ghost Value = { List Edit };
 

@@ -1,9 +1,9 @@
 -- Proof of `Opened::named`: the history under a name: the right to add to it, and a prefix that has seen nothing.
 use Rattle.std.proofs.Common.{◌≡◌, ℕ, List, [], sym, ap, arith, ◌∙◌, length, subst}
-use Rattle.lv_hub.specs.declared.entries.Entry.{Entry}
-use Rattle.lv_hub.specs.Growing.{IsUnspent, edits_by, head_of, permit_after}
-use Rattle.lv_hub.proofs.PermitLaws.{unspent_adds_nothing}
-use Rattle.lv_hub.proofs.histories.Opened.named.Goals as goal
+use Rattle.lv_history.specs.declared.entries.Entry.{Entry}
+use Rattle.lv_history.specs.Growing.{IsUnspent, edits_by, head_of, permit_after}
+use Rattle.lv_history.proofs.PermitLaws.{unspent_adds_nothing}
+use Rattle.lv_history.proofs.histories.Opened.named.Goals as goal
 
 -- the permit of that name isn't spent: so the history is empty
 none_yet : (p q : ℕ) (log : List Entry) → q ≡ p → IsUnspent q log → (edits_by p log ≡ []) × (q ≡ permit_after p log)

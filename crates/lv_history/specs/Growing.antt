@@ -4,7 +4,7 @@ use Rattle.std.specs.Prelude.{ℕ, ◌≡◌, ◌≢◌, true, List, [], ◌∷�
 use mathlib.Core.List.{IsPrefix}
 use Rattle.logbook.specs.Pages.{Book, Cell, Named, Step, View, cell, may_make}
 use Rattle.lv_edits.specs.declared.edit.Edit.{Edit}
-use Rattle.lv_hub.specs.declared.entries.Entry.{Entry}
+use Rattle.lv_history.specs.declared.entries.Entry.{Entry}
 
 -- which history it is: its book, and the permit by which its first edit is added
 pub record Beginning : Type 0 where

@@ -1,12 +1,12 @@
 -- Proof of `Head::grown`.
 use Rattle.std.proofs.Common.{◌≡◌, ap, sym, ◌∙◌, subst, List}
 use mathlib.Core.List.{IsPrefix}
-use Rattle.lv_hub.specs.declared.entries.Entry.{Entry}
-use Rattle.lv_hub.specs.Growing.{IsUnspent, edits_by}
-use Rattle.lv_hub.proofs.PermitLaws.{begins_so, still_unspent}
-use Rattle.lv_hub.proofs.PrefixLaws.{prefix_trans}
-use Rattle.lv_hub.proofs.StepLaws.{shows_moves}
-use Rattle.lv_hub.proofs.histories.Head.grown.Goals as goal
+use Rattle.lv_history.specs.declared.entries.Entry.{Entry}
+use Rattle.lv_history.specs.Growing.{IsUnspent, edits_by}
+use Rattle.lv_history.proofs.PermitLaws.{begins_so, still_unspent}
+use Rattle.lv_history.proofs.PrefixLaws.{prefix_trans}
+use Rattle.lv_history.proofs.StepLaws.{shows_moves}
+use Rattle.lv_history.proofs.histories.Head.grown.Goals as goal
 
 pub compare_exchange-requires : goal.compare_exchange-requires
 compare_exchange-requires g c =

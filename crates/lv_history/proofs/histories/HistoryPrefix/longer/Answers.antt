@@ -1,11 +1,11 @@
 -- Proof of `HistoryPrefix::longer`: the longer of two prefixes, which the other begins.
 use Rattle.std.proofs.Common.{◌≤◌, ap, subst, arith, length, List}
 use mathlib.Core.List.{IsPrefix}
-use Rattle.lv_hub.specs.declared.entries.Entry.{Entry}
-use Rattle.lv_hub.specs.Growing.{edits_by}
-use Rattle.lv_hub.proofs.PermitLaws.{begins_so}
-use Rattle.lv_hub.proofs.PrefixLaws.{prefix_shorter}
-use Rattle.lv_hub.proofs.histories.HistoryPrefix.longer.Goals as goal
+use Rattle.lv_history.specs.declared.entries.Entry.{Entry}
+use Rattle.lv_history.specs.Growing.{edits_by}
+use Rattle.lv_history.proofs.PermitLaws.{begins_so}
+use Rattle.lv_history.proofs.PrefixLaws.{prefix_shorter}
+use Rattle.lv_history.proofs.histories.HistoryPrefix.longer.Goals as goal
 
 pub returns-then-self-other-clause-this : goal.returns-then-self-other-clause-this
 returns-then-self-other-clause-this g c =

@@ -2,8 +2,8 @@
 ghost use Rattle.std.specs.Prelude.{Bool, None, Option, true};
 ghost use Rattle.lv_geometry.specs.Bounds.{Bounds};
 ghost use Rattle.lv_transcript.specs.declared.log_heading.LogHeading.{LogHeading};
-ghost use Rattle.lv_hub.specs.Growing.{Beginning};
-ghost use Rattle.lv_hub.specs.Numbering.{from_the_first};
+ghost use Rattle.lv_history.specs.Growing.{Beginning};
+ghost use Rattle.lv_history.specs.Numbering.{from_the_first};
 
 use std::marker::Brand;
 use std::sync::ledger::Ledger;

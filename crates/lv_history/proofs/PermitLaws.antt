@@ -4,8 +4,8 @@ use Rattle.std.proofs.lemmas.Bool.{cases_Bool, eq-eqb, ne_eqb}
 use Rattle.std.proofs.lemmas.List.Elements.{All-head, All-tail}
 use mathlib.Core.List.{IsPrefix}
 use Rattle.lv_edits.specs.declared.edit.Edit.{Edit}
-use Rattle.lv_hub.specs.declared.entries.Entry.{Entry}
-use Rattle.lv_hub.specs.Growing.{IsUnspent, edits_by, permit_after}
+use Rattle.lv_history.specs.declared.entries.Entry.{Entry}
+use Rattle.lv_history.specs.Growing.{IsUnspent, edits_by, permit_after}
 
 -- what is added behind some entries is added by the permit after them
 edits_by-append : (p : ℕ) (xs ys : List Entry) → edits_by p (xs ++ ys) ≡ edits_by p xs ++ edits_by (permit_after p xs) ys

@@ -1,0 +1,4 @@
+-- Names the files of lemmas of `lv_history`.
+mod PermitLaws
+pub mod PrefixLaws
+mod StepLaws
