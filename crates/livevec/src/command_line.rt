@@ -12,8 +12,9 @@ use clap::builder::ValueParser;
 use clap::error::ErrorKind;
 use clap::{Arg, ArgAction, ArgMatches, Command, Error};
 use lv_bodies::Kind;
+use lv_files::{ErrorText, LogPlan, Names};
 use lv_geometry::Limits;
-use lv_server::{ErrorText, LogPlan, Names, Plan};
+use lv_server::Plan;
 use std::alloc::{AllocError, Global};
 
 /// The command line of the program.

@@ -13,14 +13,14 @@ use crate::modes::{BOARD, COMPACT, RESTORE, SERVE};
 use crate::status::{CUT, show, show_misuse, status_of, status_of_front, status_told, tell};
 use clap::{ArgMatches, Error};
 use lv_bodies::Sum;
+use lv_files::{
+    Compacted, Escaped, LogFolder, Piped, ProgramError, Waited, compact_file, null_files,
+};
 use lv_machine::Machine;
 use lv_script::{
     Fault, MOST_NUMBERED, audit, audit_front, run_schedule, run_script_within, run_series_script,
 };
-use lv_server::{
-    Compacted, Escaped, LogFolder, Piped, ProgramError, Waited, compact_file, hold_files,
-    null_files, restore_file, serve_files, serve_logged_files,
-};
+use lv_server::{hold_files, restore_file, serve_files, serve_logged_files};
 use std::alloc::{AllocError, Global};
 use std::fs::{File, Files};
 use std::io::{Read, Write};

@@ -3,7 +3,7 @@
 ghost use Rattle.std.specs.Prelude.{◌≤◌, length};
 
 use clap::ArgMatches;
-use lv_server::{Escaped, EscapedBytes, is_shown};
+use lv_files::{Escaped, EscapedBytes, is_shown};
 use std::env::{Env, FillError};
 use std::{fmt, str};
 

@@ -5,5 +5,3 @@ mod PlainServedLaws
 mod RecordingLaws
 mod Seats
 mod ServedLaws
-mod StoreLaws
-mod WaitedStreams

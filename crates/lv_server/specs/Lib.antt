@@ -6,4 +6,3 @@ pub mod Served
 pub mod Starting
 pub mod Tasks
 pub mod Writing
-pub mod Stores

@@ -4,9 +4,9 @@ ghost use Rattle.std.specs.Prelude.{All};
 ghost use Rattle.lv_board.specs.Tells.{IsAt};
 
 use crate::opened_client::OpenedClient;
-use crate::program_error::ProgramError;
 use lv_board::{Board, BoardBody, Seat, run_board_session};
 use lv_bodies::{Affine, Automaton, Best, Greatest, Kind, Least, Sum};
+use lv_files::ProgramError;
 use lv_geometry::Limits;
 use lv_script::Fault;
 use std::alloc::Global;

@@ -9,8 +9,8 @@ ghost use Rattle.lv_server.specs.Tasks.{TakesBack, begun_at};
 ghost use Rattle.lv_transcript.specs.Transcribing.{IsUnused};
 
 use crate::opened_client::OpenedClient;
-use crate::program_error::{ProgramError, Reason};
 use lv_bodies::Six;
+use lv_files::{ProgramError, Reason};
 use lv_hub::{
     HistoryPrefix, Leaving, LogHeading, Share, Watch, Watched, Watcher, WithBody, subscribe_all,
 };

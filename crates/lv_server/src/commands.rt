@@ -1,19 +1,15 @@
 //! What a program does with files that are named: it serves them, by a transcript or by a log, holds them at a board, or restores from one.
 
-use crate::announced_file::AnnouncedFile;
 use crate::board_sessions::hold_sessions;
 use crate::clients::{Clients, first_unwritten};
-use crate::identity::{is_written, standard_files};
-use crate::log_places::LogFolder;
 use crate::log_server::serve_log;
-use crate::names::Names;
-use crate::opened_client::{open_all, open_input, open_with_log};
-use crate::program_error::{ProgramError, Reason};
+use crate::opened_client::{open_all, open_with_log};
 use crate::server::{Plan, serve};
-use crate::store_file::StartedLog;
-use crate::stored_log::LogPlan;
-use crate::waited::Waited;
 use lv_bodies::Kind;
+use lv_files::{
+    AnnouncedFile, LogFolder, LogPlan, Names, ProgramError, Reason, StartedLog, Waited, is_written,
+    open_input, standard_files,
+};
 use lv_geometry::Limits;
 use lv_script::{Fault, FrontVerdict, Unrestored, restore_script};
 use std::alloc::Global;

@@ -1,6 +1,6 @@
 //! A server that goes on from a log of elements, whose file stays a log of all edits.
 
-ghost use Rattle.std.specs.Prelude.{◌≡◌, ◌+◌, ◌<◌, ◌≤◌, ◌^◌, IfOk, IfSome, Ok, [], Some, is_some, map, nat_eq, true, false, vec_capacity, vec_len};
+ghost use Rattle.std.specs.Prelude.{◌≡◌, ◌+◌, ◌<◌, ◌≤◌, ◌^◌, IfOk, IfSome, Ok, [], Some, is_some, map, true, false, vec_capacity, vec_len};
 ghost use Rattle.lv_transcript.specs.Logs.{IsLogOfEdits, log_of_edits};
 ghost use Rattle.lv_hub.specs.Logging.{AreLasting};
 ghost use Rattle.lv_hub.specs.Session.{are_listed};
@@ -9,11 +9,11 @@ ghost use Rattle.lv_server.specs.PlainLogged.{LogServed, served_limits};
 
 use crate::clients::{Clients, Gathered};
 use crate::opened_client::OpenedClient;
-use crate::program_error::{ProgramError, Reason};
 use crate::server::{Plan, serve_all};
 use crate::transcript::{all_or_failure, end_log, shown};
 use lv_bodies::Six;
 use lv_edits::Edit;
+use lv_files::{ProgramError, Reason, lasts};
 use lv_geometry::Limits;
 use lv_hub::{
     Begun, Hub, KeptAnswers, Leaving, LogHeading, Opened, OperationLog, Share, Watch, Watched,
@@ -149,14 +149,6 @@ fn serve_log_as<
             Err(failure)
         }
     }
-}
-
-/// Whether a hub goes on when the edits of its vector are used up, which has these limits: where the vector may have as many as any.
-pub fn lasts(limits: Limits) -> bool
-    ensures lasts { result ≡ nat_eq limits.edits 16777215 }
-    ensures few { limits.edits ≤ 16777215 }
-{
-    limits.edits() == 16_777_215
 }
 
 // The limits of the vector of such a hub, or none.

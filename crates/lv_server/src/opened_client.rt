@@ -1,20 +1,14 @@
 //! The files of clients, and of the transcript or of the log, and how they are opened: none is changed before all are found fit.
 
 ghost use Rattle.std.specs.Prelude.{◌≡◌, IfOk};
-ghost use Rattle.lv_server.specs.Stores.{IsFit, IsRightStore, MayStart};
+ghost use Rattle.lv_files.specs.Stores.{IsFit, IsRightStore, MayStart};
 
 use crate::clients::Clients;
-use crate::folders::{Found, sync_folder};
-use crate::identity::{Identity, is_written, standard_files};
-use crate::log_file::{LogFile, names_of, open_locked};
-use crate::log_places::{LogFolder, LogPlaces};
-use crate::log_server::lasts;
-use crate::names::{Names, REPLIES, first_clash};
-use crate::output_file::{Access, OutputFile, Use};
-use crate::program_error::{Left, ProgramError, Reason};
-use crate::store_file::{StartedLog, StoreFile};
-use crate::stored_log::{LogPlan, StoredLog};
-use crate::waited::Waited;
+use lv_files::{
+    Access, Found, Identity, Left, LogFile, LogFolder, LogPlaces, LogPlan, Names, OutputFile,
+    ProgramError, REPLIES, Reason, StartedLog, StoreFile, StoredLog, Use, Waited, first_clash,
+    is_written, lasts, names_of, open_input, open_locked, standard_files, sync_folder,
+};
 use lv_geometry::Limits;
 use lv_hub::{Query, Unasked, read_questions};
 use lv_script::Fault;
@@ -60,22 +54,6 @@ impl<F: Drop> OpenedClient<F> {
             output,
             name,
         }
-    }
-}
-
-/// Opens the file of a number, which is read. A directory is none.
-pub fn open_input<R: Files>(
-    rt: &R,
-    number: usize,
-    name: &str,
-) -> Result<(R::File, Identity), ProgramError> {
-    let unopened = ProgramError::new(Fault::ReadFault, Reason::Unopened, number);
-    let Ok(lines) = File::open(rt, name) else {
-        return Err(unopened);
-    };
-    match lines.metadata() {
-        Ok(found) if !found.is_dir() => Ok((lines, Identity::of(&found))),
-        _ => Err(unopened),
     }
 }
 
@@ -490,7 +468,9 @@ fn ask<F: Read + Drop>(alloc: Global, opened: &mut OpenedClient<F>) -> Result<()
             Ok(())
         }
         Err(Unasked::Fault(fault)) => Err(ProgramError::session(number, fault)),
-        Err(Unasked::Damage(damage)) => Err(ProgramError::damaged(number, damage)),
+        Err(Unasked::Damage(damage)) => {
+            Err(ProgramError::damaged(number, damage.line, damage.refusal))
+        }
     }
 }
 

@@ -17,11 +17,11 @@ ghost use Rattle.lv_hub.specs.Watchers.{AreLeft};
 
 use crate::clients::{Clients, Gathered, Present, begin_all, take_back};
 use crate::opened_client::OpenedClient;
-use crate::program_error::{ProgramError, Reason};
 use crate::threads::hold_all;
 use crate::transcript::{all_or_failure, begin_log, unlocked, write_closed};
 use lv_bodies::Six;
 use lv_edits::Edit;
+use lv_files::{ProgramError, Reason};
 use lv_geometry::{Limits, Refusal};
 use lv_hub::{
     Begun, Hub, KeptAnswers, Leaving, LogHeading, Opened, OperationLog, SessionPlace, Share, Watch,

@@ -4,9 +4,9 @@ ghost use Rattle.lv_server.specs.Tasks.{AreHeldFrom, IsHeldOnce};
 ghost use Rattle.lv_hub.specs.Watchers.{AreWatchedFrom};
 
 use crate::clients::Task;
-use crate::program_error::{ProgramError, Reason};
 use crate::server::Plan;
 use lv_bodies::Six;
+use lv_files::{ProgramError, Reason};
 use lv_hub::{
     Begun, Hub, OpenGate, OperationLog, SessionLog, SessionPlace, Watcher, WithBody, attend,
     run_session,

@@ -14,9 +14,9 @@ ghost use Rattle.lv_server.specs.Starting.{Records};
 ghost use Rattle.lv_server.specs.Writing.{FailsToClose, Writes, WritesClosed};
 
 use crate::opened_client::OpenedClient;
-use crate::program_error::{ProgramError, Reason};
 use lv_bodies::Six;
 use lv_edits::Edit;
+use lv_files::{ProgramError, Reason};
 use lv_geometry::Limits;
 use lv_hub::{
     Begun, HistoryPrefix, Hub, Leaving, LogHeading, OperationLog, SessionLog, Share, Watched,

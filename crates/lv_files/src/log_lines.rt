@@ -1,7 +1,7 @@
 //! In which lines of a log its updates are.
 
 use crate::program_error::{ProgramError, Reason};
-use lv_script::Fault;
+use lv_lines::Fault;
 use std::alloc::Global;
 use std::fs::File;
 use std::io;

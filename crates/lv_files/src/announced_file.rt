@@ -3,8 +3,7 @@
 ghost use Rattle.std.specs.Prelude.{◌≡◌};
 
 use crate::escaped::Escaped;
-use lv_lines::{MOST_NUMBERED, MOST_READ};
-use lv_script::Fault;
+use lv_lines::{Fault, MOST_NUMBERED, MOST_READ};
 use lv_transcript::{LogHeading, LogWriter};
 use std::alloc::Global;
 use std::io;

@@ -2,7 +2,7 @@
 
 use crate::identity::Identity;
 use crate::program_error::{ProgramError, Reason};
-use lv_script::Fault;
+use lv_lines::Fault;
 use std::alloc::Global;
 use std::fs::{File, Files, OpenFile, symlink_metadata};
 use std::io::ErrorKind;

@@ -7,7 +7,7 @@ use crate::log_places::{LogFolder, LogPlaces};
 use crate::output_file::OutputFile;
 use crate::program_error::{ProgramError, Reason};
 use crate::waited::Waited;
-use lv_script::Fault;
+use lv_lines::Fault;
 use lv_transcript::{LogHeading, LogWriter, write_log};
 use std::alloc::Global;
 use std::fs::File;

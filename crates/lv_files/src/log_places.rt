@@ -5,7 +5,7 @@ use crate::identity::{Identity, standard_files};
 use crate::log_file::open_locked;
 use crate::output_file::{Access, OutputFile, Use};
 use crate::program_error::{ProgramError, Reason};
-use lv_script::Fault;
+use lv_lines::Fault;
 use std::alloc::Global;
 use std::fs::{File, Files, OpenFile, Permissions, TryLockError, hard_link, rename};
 use std::os::unix::fs::{MetadataExt, PermissionsExt, fchown};

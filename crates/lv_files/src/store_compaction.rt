@@ -10,7 +10,7 @@ use crate::output_file::OutputFile;
 use crate::program_error::{ProgramError, Reason};
 use crate::store_file::StoreFile;
 use crate::waited::Waited;
-use lv_script::Fault;
+use lv_lines::Fault;
 use lv_transcript::{LogHeading, compact_log, compacted_heading};
 use std::alloc::Global;
 use std::fs::{File, Files};

@@ -1,7 +1,7 @@
 //! The log that a server goes on from: how it is opened and looked at, and how it begins.
 
-ghost use Rattle.std.specs.Prelude.{◌≡◌, ◌≤◌, ◌^◌, IfOk, OnOk, true};
-ghost use Rattle.lv_server.specs.Stores.{IsFit, IsRightStore, MayStart};
+ghost use Rattle.std.specs.Prelude.{◌≡◌, ◌≤◌, ◌^◌, IfOk, OnOk, nat_eq, true};
+ghost use Rattle.lv_files.specs.Stores.{IsFit, IsRightStore, MayStart};
 ghost use Rattle.lv_transcript.specs.Logs.{base_of};
 
 use crate::escaped::Escaped;
@@ -9,14 +9,12 @@ use crate::folders::{Found, KEPT, beside, found_at, sync_folder};
 use crate::identity::Identity;
 use crate::log_file::{LogFile, names_of, open_locked};
 use crate::log_lines::line_of;
-use crate::log_server::lasts;
 use crate::output_file::{Access, OutputFile, Use};
 use crate::program_error::{Left, ProgramError, Reason};
 use crate::waited::Waited;
 use lv_edits::{Edit, Edits};
 use lv_geometry::{Limits, Refusal};
-use lv_lines::MOST_NUMBERED;
-use lv_script::Fault;
+use lv_lines::{Fault, MOST_NUMBERED};
 use lv_transcript::{FoundFront, FrontVerdict, LogHeading, read_front, write_log};
 use std::alloc::Global;
 use std::fs::{File, Files, OpenFile};
@@ -382,6 +380,14 @@ fn unopened(reason: Reason, number: usize) -> ProgramError {
         Reason::Unopened => ProgramError::new(Fault::ReadFault, Reason::Unopened, number),
         reason => ProgramError::new(Fault::WriteFault, reason, number),
     }
+}
+
+/// Whether a hub goes on when the edits of its vector are used up, which has these limits: where the vector may have as many as any.
+pub fn lasts(limits: Limits) -> bool
+    ensures lasts { result ≡ nat_eq limits.edits 16777215 }
+    ensures few { limits.edits ≤ 16777215 }
+{
+    limits.edits() == 16_777_215
 }
 
 // Reads a log that is open and locked.

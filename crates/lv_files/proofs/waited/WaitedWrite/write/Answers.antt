@@ -1,6 +1,6 @@
--- Proof of `WaitedRead::read`.
-use Rattle.lv_server.proofs.WaitedStreams.{keeps_both, keeps_itself}
-use Rattle.lv_server.proofs.waited.WaitedRead.read.Goals as goal
+-- Proof of `WaitedWrite::write`.
+use Rattle.lv_files.proofs.WaitedStreams.{keeps_both, keeps_itself}
+use Rattle.lv_files.proofs.waited.WaitedWrite.write.Goals as goal
 
 pub loop-times-init : goal.loop-times-init
 loop-times-init g c = keeps_itself _

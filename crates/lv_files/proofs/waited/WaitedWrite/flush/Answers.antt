@@ -1,6 +1,6 @@
 -- Proof of `WaitedWrite::flush`.
-use Rattle.lv_server.proofs.WaitedStreams.{keeps_both, keeps_itself}
-use Rattle.lv_server.proofs.waited.WaitedWrite.flush.Goals as goal
+use Rattle.lv_files.proofs.WaitedStreams.{keeps_both, keeps_itself}
+use Rattle.lv_files.proofs.waited.WaitedWrite.flush.Goals as goal
 
 pub loop-times-init : goal.loop-times-init
 loop-times-init g c = keeps_itself _

@@ -1,6 +1,6 @@
 -- What the loop keeps in `WaitedWrite::write`.
 use Rattle.std.specs.Io.KnownBytes.{Keeps}
-use Rattle.lv_server.proofs.waited.WaitedWrite.write.Given as goal
+use Rattle.lv_files.proofs.waited.WaitedWrite.write.Given as goal
 
 -- nothing was written so far
 abbrev pub invariant-loop-times : goal.invariant-loop-times

@@ -1,6 +1,6 @@
 -- What the loop keeps in `WaitedRead::read`.
 use Rattle.std.specs.Io.KnownBytes.{Keeps}
-use Rattle.lv_server.proofs.waited.WaitedRead.read.Given as goal
+use Rattle.lv_files.proofs.waited.WaitedRead.read.Given as goal
 
 -- nothing was read so far
 abbrev pub invariant-loop-times : goal.invariant-loop-times

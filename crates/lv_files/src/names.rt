@@ -1,7 +1,7 @@
 //! The names of files, and which of them clash.
 
 use crate::program_error::{ProgramError, Reason};
-use lv_script::Fault;
+use lv_lines::Fault;
 
 /// What ends the name of a file of replies.
 pub const REPLIES: &str = ".out";

@@ -4,8 +4,7 @@ ghost use Rattle.std.specs.Prelude.{◌≡◌, ◌≢◌};
 
 use crate::escaped::Escaped;
 use lv_geometry::Refusal;
-use lv_hub::Damage;
-use lv_script::Fault;
+use lv_lines::Fault;
 use std::fmt;
 use thiserror::Error;
 
@@ -230,12 +229,12 @@ impl ProgramError {
         }
     }
 
-    /// A line of a subscriber's file is wrong, or memory was wanting for its question.
-    pub fn damaged(file: usize, damage: Damage) -> ProgramError {
-        let reason = match damage.refusal {
+    /// A line of a subscriber's file is wrong, or memory was wanting for its question. It asks none where nothing refuses it.
+    pub fn damaged(file: usize, line: u32, refusal: Option<Refusal>) -> ProgramError {
+        let reason = match refusal {
             Some(Refusal::NoMemory) => return ProgramError::memory(),
-            Some(refusal) => Reason::Refused(damage.line, refusal),
-            None => Reason::NoQuery(damage.line),
+            Some(refusal) => Reason::Refused(line, refusal),
+            None => Reason::NoQuery(line),
         };
         ProgramError::new(Fault::ReadFault, reason, file)
     }

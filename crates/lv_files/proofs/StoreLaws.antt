@@ -8,7 +8,7 @@ use Rattle.lv_transcript.specs.declared.fronts.FrontVerdict.{FrontVerdict}
 use Rattle.lv_transcript.specs.declared.fronts.FrontVerdict.TheVariants as fronts
 use Rattle.lv_transcript.specs.declared.log_heading.LogHeading.{LogHeading}
 use Rattle.lv_transcript.specs.Audits.{FrontFound, IsRightOfFront, ReadsFront}
-use Rattle.lv_server.specs.Stores.{IsRightStore}
+use Rattle.lv_files.specs.Stores.{IsRightStore}
 
 -- where a verdict is right, and says that a front was found behind a log's first line, the edits are those of a log
 right_journal : (there : Option LogHeading) (seen : List ℕ) (journal : List Edit) (verdict : FrontVerdict) → IsRightOfFront there seen journal verdict → (edits answers : ℕ) → verdict ≡ fronts.Front edits answers

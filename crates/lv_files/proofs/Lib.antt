@@ -1,0 +1,3 @@
+-- Names the files of lemmas of `lv_files`.
+mod StoreLaws
+mod WaitedStreams

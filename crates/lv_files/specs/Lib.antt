@@ -1,0 +1,2 @@
+-- Names the files of definitions of `lv_files`.
+pub mod Stores

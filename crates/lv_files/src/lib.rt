@@ -1,0 +1,38 @@
+//! Files of a program that are read, written and locked, and logs among them, which take one another's place.
+//!
+//! A `StoreFile` is a log that is open and looked at; a `StoredLog` is one that is written, and is made anew where it is long. `compact_file` makes a log of
+//! the elements that there are at the end of another. Why any of that fails is a `ProgramError`. Nothing here needs a hub.
+#![tactic(auto)]
+
+mod announced_file;
+mod escaped;
+mod folders;
+mod identity;
+mod input_file;
+mod log_file;
+mod log_lines;
+mod log_places;
+mod names;
+mod output_file;
+mod piped;
+mod program_error;
+mod store_compaction;
+mod store_file;
+mod stored_log;
+mod waited;
+
+pub use announced_file::AnnouncedFile;
+pub use escaped::{Escaped, EscapedBytes, is_shown};
+pub use folders::{Found, sync_folder};
+pub use identity::{Identity, is_written, null_files, standard_files};
+pub use input_file::open_input;
+pub use log_file::{LogFile, names_of, open_locked};
+pub use log_places::{LogFolder, LogPlaces};
+pub use names::{Names, REPLIES, first_clash};
+pub use output_file::{Access, OutputFile, Use};
+pub use piped::Piped;
+pub use program_error::{ErrorText, Left, ProgramError, Reason};
+pub use store_compaction::{Compacted, compact_file};
+pub use store_file::{StartedLog, StoreFile, lasts};
+pub use stored_log::{LogPlan, StoredLog};
+pub use waited::Waited;
