@@ -4,7 +4,6 @@ ghost use Rattle.lv_history.specs.Numbering.{from_the_first};
 ghost use Rattle.lv_hub.specs.Renewing.{IsOfOneVector};
 
 use crate::same::assert_same;
-use fixtures::Latch;
 use lv_bodies::{Body, Six, Sum};
 use lv_edits::{Edit, Receipt};
 use lv_geometry::{Limits, Refusal};
@@ -18,15 +17,13 @@ use std::process::Abort;
 use std::sync::Wait;
 use std::sync::ledger::Blank;
 use std::test::Fail;
-use std::thread::Threads;
-use std::time::Clock;
 
 // What a test does at a new hub with a share of two parts, which it hands back.
 pub(crate) trait AtHub<B: Body> {
     // What it sees there.
     type Seen;
 
-    fn meet<N: WithBody<B> + Send + Sync, R: Threads + Wait + Clock + Abort + Sync>(
+    fn meet<N: WithBody<B>, R: Wait + Abort>(
         &self,
         rt: &R,
         alloc: Global,
@@ -41,7 +38,7 @@ pub(crate) trait AtHub<B: Body> {
 }
 
 // Does so at a hub with this body, and closes it: what was seen, how many edits the share counts, and the vector.
-pub(crate) fn at_hub<B: Body, T: AtHub<B>, R: Threads + Wait + Clock + Abort + Sync>(
+pub(crate) fn at_hub<B: Body, T: AtHub<B>, R: Wait + Abort>(
     rt: &R,
     alloc: Global,
     body: B,
@@ -52,12 +49,7 @@ pub(crate) fn at_hub<B: Body, T: AtHub<B>, R: Threads + Wait + Clock + Abort + S
 }
 
 // The same, by whose ledger, names and body the hub has.
-fn hold<
-    B: Body,
-    N: WithBody<B> + Send + Sync,
-    T: AtHub<B>,
-    R: Threads + Wait + Clock + Abort + Sync,
->(
+fn hold<B: Body, N: WithBody<B>, T: AtHub<B>, R: Wait + Abort>(
     rt: &R,
     alloc: Global,
     limits: Limits,

@@ -1,20 +1,22 @@
 //! Tests that a worker which stands at its gate, or within a body's `lift`, holds nobody up.
-ghost use Rattle.std.specs.Prelude.{◌≡◌};
+ghost use Rattle.std.specs.Prelude.{◌≡◌, Some};
 
 use crate::common::*;
 use crate::same::assert_same;
 use fixtures::{Latch, Stage, Staged};
+use lv_bodies::Body;
 use lv_edits::{Edit, Receipt};
-use lv_geometry::Refusal;
+use lv_geometry::{Limits, Refusal};
 use lv_hub::*;
 use lv_reduce::Answer;
 use std::alloc::Global;
+use std::marker::Brand;
 use std::process::Abort;
 use std::sync::Wait;
 use std::sync::atomic::{AtomicU32, Ordering};
+use std::sync::ledger::Blank;
 use std::thread;
 use std::thread::Threads;
-use std::time::Clock;
 
 // A gate where a worker stands, and after which the next call of `lift` stands; and how often an element was lifted before it.
 #[derive(Drop)]
@@ -39,46 +41,59 @@ type HeldAnswers = (
     Result<Receipt, Refusal>,
 );
 
-// Asks so, while a worker stands, on a share of its own, which it hands back.
-fn while_held<'a, N: WithBody<Staged<'a>>, R: Wait>(
+// Asks so, while a worker stands.
+fn while_held<B: Body<S = u64>, N: WithBody<B>, R: Wait>(
     rt: &R,
-    hub: &Hub<Staged<'a>, N>,
-    share: Share<N>,
-    gate: &JobGate<'a>,
-) -> (Share<N>, HeldAnswers)
-    ensures { result.0.parts ≡ share.parts }
-{
-    let mut share = share;
+    hub: &Hub<B, N>,
+    share: &mut Share<N>,
+    gate: &JobGate<'_>,
+) -> HeldAnswers {
     gate.latch.wait_for_it();
-    let first = hub.edit(rt, &mut share, Edit::Push(1));
-    let answer = hub.reduce(rt, &mut share, 0, 9);
+    let first = hub.edit(rt, share, Edit::Push(1));
+    let answer = hub.reduce(rt, share, 0, 9);
     gate.latch.release();
     gate.stage.latch.wait_for_it();
-    let second = hub.edit(rt, &mut share, Edit::Push(1));
+    let second = hub.edit(rt, share, Edit::Push(1));
     gate.stage.latch.release();
-    (share, (first, answer, second))
+    (first, answer, second)
 }
 
-// A worker's first job on a hub of eight elements 1 is held, and the main thread asks meanwhile.
-impl<'a> AtHub<Staged<'a>> for JobGate<'a> {
-    type Seen = (Worked, HeldAnswers);
+// Makes a new hub one of eight elements 1. A worker's first job is held, and the main thread asks beside it.
+fn hold_once<B: Body<S = u64>, N: WithBody<B> + Send + Sync, R: Threads + Wait + Abort + Sync>(
+    rt: &R,
+    hub: &Hub<B, N>,
+    share: &mut Share<N>,
+    gate: &JobGate<'_>,
+) -> (Worked, HeldAnswers) {
+    push_all(rt, hub, share, 8, 1);
+    thread::join(
+        rt,
+        move || work(rt, hub, gate, 1),
+        move || while_held(rt, hub, share, gate),
+    )
+}
 
-    fn meet<N: WithBody<Staged<'a>> + Send + Sync, R: Threads + Wait + Clock + Abort + Sync>(
-        &self,
-        rt: &R,
-        _alloc: Global,
-        hub: &Hub<Staged<'a>, N>,
-        share: Share<N>,
-    ) -> (Share<N>, (Worked, HeldAnswers)) {
-        let mut share = share;
-        push_all(rt, hub, &mut share, 8, 1);
-        let (worked, (share, answers)) = thread::join(
-            rt,
-            move || work(rt, hub, self, 1),
-            move || while_held(rt, hub, share, self),
-        );
-        (share, (worked, answers))
-    }
+// What was done while a job of a hub of eight elements 1 was held.
+fn hold_a_job<B: Body<S = u64>, N: WithBody<B> + Send + Sync, R: Threads + Wait + Abort + Sync>(
+    rt: &R,
+    alloc: Global,
+    limits: Limits,
+    blank: Blank,
+    opened: Opened,
+    body: B,
+    gate: &JobGate<'_>,
+) -> (Worked, HeldAnswers)
+    requires name { blank.name ≡ N.name }
+    requires all { blank.parts ≡ N.parts }
+    requires one { blank.parts ≡ 1 }
+    requires limits { limits ≡ N.limits }
+    requires history { opened ≡ N.history }
+    requires body { N.body ≡ Some body }
+{
+    let (hub, mut share) = Hub::<B, N>::new(alloc, limits, body, blank, 1, opened);
+    let done = hold_once(rt, &hub, &mut share, gate);
+    drop(hub);
+    done
 }
 
 // Sees what was done while a job was held.
@@ -101,8 +116,15 @@ fn a_held_job_holds_nobody(rt: HostRuntime) -> Result<(), Refusal> {
         stage: &stage,
         early: AtomicU32::new(0),
     };
-    let (done, counted, live) = at_hub(&rt, rt.alloc(), Staged { stage: &stage }, &gate);
-    assert_counted(&rt, counted, live, 10);
+    let done = hold_a_job::<Staged<'_>, Brand, _>(
+        &rt,
+        rt.alloc(),
+        Limits::greatest(),
+        Blank::new(1),
+        Opened::new(),
+        Staged { stage: &stage },
+        &gate,
+    );
     assert_same(&rt, &gate.latch.was_in_time(), &true);
     assert_same(&rt, &stage.latch.was_in_time(), &true);
     // a claim that computes its job under the lock lifts before the gate

@@ -1,105 +1,118 @@
 //! Tests that a scan which stands within a body's `lift` holds nobody up: its elements were copied, and the lock is free again.
-ghost use Rattle.std.specs.Prelude.{◌≡◌};
+ghost use Rattle.std.specs.Prelude.{◌≡◌, Some};
 
 use crate::common::*;
 use crate::same::assert_same;
 use fixtures::{Stage, Staged};
+use lv_bodies::Body;
 use lv_edits::{Edit, Receipt};
-use lv_geometry::Refusal;
+use lv_geometry::{Limits, Refusal};
 use lv_hub::*;
 use lv_reduce::Scan;
 use std::alloc::Global;
+use std::marker::Brand;
 use std::process::Abort;
 use std::sync::Wait;
+use std::sync::ledger::Blank;
 use std::test::Fail;
 use std::thread;
 use std::thread::Threads;
-use std::time::Clock;
 
-// One of the two scans of a hub's first two elements, whose first `lift` stands.
-#[derive(Drop)]
-struct HeldScan<'a> {
-    stage: &'a Stage,
-    inclusive: bool,
-}
-
-// Scans so, on a share of its own, which it hands back.
-fn scan_two<'a, N: WithBody<Staged<'a>>, R: Threads + Wait + Sync>(
+// One of the two scans of a hub's first two elements. The first `lift` of it stands.
+fn scan_two<B: Body<S = u64>, N: WithBody<B>, R: Threads + Wait + Sync>(
     rt: &R,
     alloc: Global,
-    hub: &Hub<Staged<'a>, N>,
-    share: Share<N>,
-    held: &HeldScan<'a>,
-) -> (Share<N>, Result<Scan<u64>, Refusal>)
-    ensures { result.0.parts ≡ share.parts }
-{
-    let mut share = share;
-    held.stage.hold_next_lift();
-    let scan = if held.inclusive {
-        hub.scan_inclusive(rt, alloc, &mut share, 0, 2)
-    } else {
-        hub.scan_exclusive(rt, alloc, &mut share, 0, 2)
-    };
-    (share, scan)
+    hub: &Hub<B, N>,
+    share: &mut Share<N>,
+    stage: &Stage,
+    inclusive: bool,
+) -> Result<Scan<u64>, Refusal> {
+    stage.hold_next_lift();
+    if inclusive {
+        return hub.scan_inclusive(rt, alloc, share, 0, 2);
+    }
+    hub.scan_exclusive(rt, alloc, share, 0, 2)
 }
 
 // Pushes while a scan stands, and lets it go on.
-fn push_meanwhile<'a, N: WithBody<Staged<'a>>, R: Wait>(
+fn push_meanwhile<B: Body<S = u64>, N: WithBody<B>, R: Wait>(
     rt: &R,
-    hub: &Hub<Staged<'a>, N>,
-    share: Share<N>,
+    hub: &Hub<B, N>,
+    share: &mut Share<N>,
     stage: &Stage,
-) -> (Share<N>, Result<Receipt, Refusal>)
-    ensures { result.0.parts ≡ share.parts }
-{
-    let mut share = share;
+) -> Result<Receipt, Refusal> {
     stage.latch.wait_for_it();
-    let pushed = hub.edit(rt, &mut share, Edit::Push(1));
+    let pushed = hub.edit(rt, share, Edit::Push(1));
     stage.latch.release();
-    (share, pushed)
+    pushed
 }
 
-// One thread scans a hub of two elements 1 and is held, and another pushes.
-impl<'a> AtHub<Staged<'a>> for HeldScan<'a> {
-    type Seen = (Result<Scan<u64>, Refusal>, Result<Receipt, Refusal>);
+// What a held scan answers, and what the push beside it does.
+type ScanAndPush = (Result<Scan<u64>, Refusal>, Result<Receipt, Refusal>);
 
-    fn meet<N: WithBody<Staged<'a>> + Send + Sync, R: Threads + Wait + Clock + Abort + Sync>(
-        &self,
-        rt: &R,
-        alloc: Global,
-        hub: &Hub<Staged<'a>, N>,
-        share: Share<N>,
-    ) -> (
-        Share<N>,
-        (Result<Scan<u64>, Refusal>, Result<Receipt, Refusal>),
-    ) {
-        let mut mine = share;
-        push_all(rt, hub, &mut mine, 2, 1);
-        let theirs = mine.split();
-        let ((theirs, scan), (mut all, pushed)) = thread::join(
-            rt,
-            move || scan_two(rt, alloc, hub, theirs, self),
-            move || push_meanwhile(rt, hub, mine, self.stage),
-        );
-        all.join(theirs);
-        (all, (scan, pushed))
-    }
+// Makes a new hub one of two elements 1. One thread scans them and is held, and another pushes.
+fn hold_once<B: Body<S = u64>, N: WithBody<B> + Send + Sync, R: Threads + Wait + Abort + Sync>(
+    rt: &R,
+    alloc: Global,
+    hub: &Hub<B, N>,
+    share: Share<N>,
+    stage: &Stage,
+    inclusive: bool,
+) -> ScanAndPush
+    requires { share.parts ≡ 2 }
+{
+    let mut mine = share;
+    let mut theirs = mine.split();
+    push_all(rt, hub, &mut mine, 2, 1);
+    thread::join(
+        rt,
+        move || scan_two(rt, alloc, hub, &mut theirs, stage, inclusive),
+        move || push_meanwhile(rt, hub, &mut mine, stage),
+    )
+}
+
+// The same of a hub of its own.
+fn hold_a_scan<B: Body<S = u64>, N: WithBody<B> + Send + Sync, R: Threads + Wait + Abort + Sync>(
+    rt: &R,
+    alloc: Global,
+    limits: Limits,
+    blank: Blank,
+    opened: Opened,
+    body: B,
+    stage: &Stage,
+    inclusive: bool,
+) -> ScanAndPush
+    requires name { blank.name ≡ N.name }
+    requires all { blank.parts ≡ N.parts }
+    requires two { blank.parts ≡ 2 }
+    requires limits { limits ≡ N.limits }
+    requires history { opened ≡ N.history }
+    requires body { N.body ≡ Some body }
+{
+    let (hub, share) = Hub::<B, N>::new(alloc, limits, body, blank, 2, opened);
+    let done = hold_once(rt, alloc, &hub, share, stage, inclusive);
+    drop(hub);
+    done
 }
 
 // Sees that a push during a held scan waits for nothing, and that the scan answers at the edit before it.
-fn assert_held_scan<R: Threads + Wait + Clock + Abort + Sync>(
+fn assert_held_scan<R: Threads + Wait + Abort + Sync>(
     rt: &R,
     alloc: Global,
     inclusive: bool,
     values: &[u64],
 ) -> Result<(), Fail> {
     let stage = Stage::new(false);
-    let held = HeldScan {
-        stage: &stage,
+    let (scan, pushed) = hold_a_scan::<Staged<'_>, Brand, _>(
+        rt,
+        alloc,
+        Limits::greatest(),
+        Blank::new(2),
+        Opened::new(),
+        Staged { stage: &stage },
+        &stage,
         inclusive,
-    };
-    let ((scan, pushed), counted, live) = at_hub(rt, alloc, Staged { stage: &stage }, &held);
-    assert_counted(rt, counted, live, 3);
+    );
     assert_same(rt, &stage.latch.was_in_time(), &true);
     let receipt = Receipt::Pushed { edit: 3, index: 2 };
     assert_same(rt, &pushed, &Ok(receipt));

@@ -1,20 +1,21 @@
 //! Tests a worker whose outcome comes late, after another worker and an edit.
-ghost use Rattle.std.specs.Prelude.{◌≡◌};
+ghost use Rattle.std.specs.Prelude.{◌≡◌, Some};
 
 use crate::common::*;
 use crate::same::assert_same;
 use fixtures::Latch;
 use lv_bodies::Sum;
 use lv_edits::{Edit, Receipt};
-use lv_geometry::Refusal;
+use lv_geometry::{Limits, Refusal};
 use lv_hub::*;
 use std::alloc::Global;
+use std::marker::Brand;
 use std::process::Abort;
 use std::sync::Wait;
+use std::sync::ledger::Blank;
 use std::test::Fail;
 use std::thread;
 use std::thread::Threads;
-use std::time::Clock;
 
 // A gate where a worker stands.
 #[derive(Drop)]
@@ -39,65 +40,92 @@ fn one_stale() -> Worked {
     }
 }
 
-// While the first worker stands at its gate, a second one works for a turn, and then the first element is overwritten, on a share that is
-// handed back.
+// While the first worker stands at its gate, a second one works for a turn, and then the first element is overwritten.
 fn overtake<N: WithBody<Sum>, R: Wait>(
     rt: &R,
     hub: &Hub<Sum, N>,
-    share: Share<N>,
+    share: &mut Share<N>,
     gate: &HeldGate,
-) -> (Share<N>, (Worked, Result<Receipt, Refusal>))
-    ensures { result.0.parts ≡ share.parts }
-{
-    let mut share = share;
+) -> (Worked, Result<Receipt, Refusal>) {
     gate.latch.wait_for_it();
     let worked = work(rt, hub, &OpenGate, 1);
-    let written = hub.edit(rt, &mut share, Edit::Write { index: 0, value: 9 });
+    let written = hub.edit(rt, share, Edit::Write { index: 0, value: 9 });
     gate.latch.release();
-    (share, (worked, written))
+    (worked, written)
 }
 
-// Sees what was done while a worker was late: what it did, what another worker did, and what an edit was answered.
-fn assert_done_late(rt: &impl Abort, late: Worked, meanwhile: (Worked, Result<Receipt, Refusal>)) {
+// What the late worker did, and what another worker did and an edit was answered meanwhile.
+type DoneLate = (Worked, (Worked, Result<Receipt, Refusal>));
+
+// A worker that claimed the first block stands at its gate while another works and the main thread edits.
+fn work_late<N: WithBody<Sum> + Send + Sync, R: Threads + Wait + Sync>(
+    rt: &R,
+    hub: &Hub<Sum, N>,
+    share: &mut Share<N>,
+    gate: &HeldGate,
+) -> DoneLate {
+    thread::join(
+        rt,
+        move || work(rt, hub, gate, 1),
+        move || overtake(rt, hub, share, gate),
+    )
+}
+
+// Sees what was done while a worker was late.
+fn assert_done_late(rt: &impl Abort, done: DoneLate) {
     let receipt = Receipt::Written {
         edit: 17,
         before: 1,
     };
-    assert_same(rt, &late, &one_stale());
-    assert_same(rt, &meanwhile, &(installed(1), Ok(receipt)));
+    assert_same(rt, &done, &(one_stale(), (installed(1), Ok(receipt))));
 }
 
-// A worker that claimed the first of two blocks stands at its gate while another works and the main thread edits.
-impl AtHub<Sum> for HeldGate {
-    type Seen = Result<(), Fail>;
+// Makes a new hub one of 16 elements 1, where a worker is late.
+fn assert_late<N: WithBody<Sum> + Send + Sync, R: Threads + Wait + Abort + Sync>(
+    rt: &R,
+    hub: &Hub<Sum, N>,
+    share: &mut Share<N>,
+) -> Result<(), Fail> {
+    push_all(rt, hub, share, 16, 1);
+    let gate = HeldGate {
+        latch: Latch::new(),
+    };
+    let done = work_late(rt, hub, share, &gate);
+    assert_same(rt, &gate.latch.was_in_time(), &true);
+    assert_done_late(rt, done);
+    assert_sum(rt, hub, share, 16, 17, 24)
+}
 
-    fn meet<N: WithBody<Sum> + Send + Sync, R: Threads + Wait + Clock + Abort + Sync>(
-        &self,
-        rt: &R,
-        _alloc: Global,
-        hub: &Hub<Sum, N>,
-        share: Share<N>,
-    ) -> (Share<N>, Result<(), Fail>) {
-        let mut share = share;
-        push_all(rt, hub, &mut share, 16, 1);
-        let (late, (mut share, meanwhile)) = thread::join(
-            rt,
-            move || work(rt, hub, self, 1),
-            move || overtake(rt, hub, share, self),
-        );
-        assert_done_late(rt, late, meanwhile);
-        let seen = assert_sum(rt, hub, &mut share, 16, 17, 24);
-        (share, seen)
-    }
+// A hub of 16 elements 1, where a worker is late.
+fn late_worker<N: WithBody<Sum> + Send + Sync, R: Threads + Wait + Abort + Sync>(
+    rt: &R,
+    alloc: Global,
+    limits: Limits,
+    blank: Blank,
+    opened: Opened,
+    body: Sum,
+) -> Result<(), Fail>
+    requires name { blank.name ≡ N.name }
+    requires all { blank.parts ≡ N.parts }
+    requires one { blank.parts ≡ 1 }
+    requires limits { limits ≡ N.limits }
+    requires history { opened ≡ N.history }
+    requires body { N.body ≡ Some body }
+{
+    let (hub, mut share) = Hub::<Sum, N>::new(alloc, limits, body, blank, 1, opened);
+    let seen = assert_late(rt, &hub, &mut share);
+    drop(hub);
+    seen
 }
 
 #[test]
 fn a_late_worker(rt: HostRuntime) -> Result<(), Fail> {
-    let gate = HeldGate {
-        latch: Latch::new(),
-    };
-    let (seen, counted, live) = at_hub(&rt, rt.alloc(), Sum, &gate);
-    assert_counted(&rt, counted, live, 17);
-    assert_same(&rt, &gate.latch.was_in_time(), &true);
-    seen
+    late_worker::<Brand, _>(
+        &rt,
+        rt.alloc(),
+        Limits::greatest(),
+        Blank::new(1),
+        Opened::new(),
+        Sum,
+    )
 }

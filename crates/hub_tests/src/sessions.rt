@@ -1,18 +1,21 @@
 //! Tests of two sessions at a hub: they share one history.
-ghost use Rattle.std.specs.Prelude.{◌≡◌};
+ghost use Rattle.std.specs.Prelude.{◌≡◌, ◌<◌, Some, true};
+ghost use Rattle.lv_hub.specs.Numbering.{from_the_first};
 
-use crate::common::*;
+use crate::common::place_of;
 use crate::same::assert_same;
 use lv_bodies::Six;
 use lv_edits::Edit;
+use lv_geometry::Limits;
 use lv_hub::*;
 use lv_script::{Claimed, Fault, audit, write_transcript};
 use std::alloc::Global;
+use std::marker::Brand;
 use std::process::Abort;
 use std::sync::Wait;
+use std::sync::ledger::Blank;
 use std::test::Fail;
 use std::thread::Threads;
-use std::time::Clock;
 use std::{str, thread};
 
 // The lines of a session: 200 pushes of an element, and the sum of so many elements after each tenth.
@@ -161,6 +164,7 @@ fn check_history(
     one: Heard,
     other: Heard,
 ) -> Result<(), Fail> {
+    assert_same(rt, &journal.len(), &400);
     check_replies(rt, alloc, journal, 1, one.replies.as_slice())?;
     check_replies(rt, alloc, journal, 1000, other.replies.as_slice())?;
     let mut answers = one.answers?;
@@ -169,37 +173,45 @@ fn check_history(
     check_transcript(rt, alloc, journal, &mut answers)
 }
 
-// Holds two sessions over these lines.
-#[derive(Drop)]
-struct TwoSessions<'a> {
-    lines: (&'a str, &'a str),
-}
-
-impl AtHub<Six> for TwoSessions<'_> {
-    type Seen = (Heard, Heard);
-
-    fn meet<N: WithBody<Six> + Send + Sync, R: Threads + Wait + Clock + Abort + Sync>(
-        &self,
-        rt: &R,
-        alloc: Global,
-        hub: &Hub<Six, N>,
-        share: Share<N>,
-    ) -> (Share<N>, (Heard, Heard)) {
-        let places = (place_of(rt, alloc, hub), place_of(rt, alloc, hub));
-        let (share, one, other) = hold_two(rt, places, share, self.lines);
-        (share, (one, other))
-    }
+// A hub at which two sessions are held, closed.
+fn one_history<N: WithBody<Six> + Send + Sync, R: Threads + Wait + Abort + Sync>(
+    rt: &R,
+    alloc: Global,
+    limits: Limits,
+    blank: Blank,
+    opened: Opened,
+    body: Six,
+    lines: (&str, &str),
+) -> Result<(), Fail>
+    requires name { blank.name ≡ N.name }
+    requires all { blank.parts ≡ N.parts }
+    requires two { blank.parts ≡ 2 }
+    requires limits { limits ≡ N.limits }
+    requires history { opened ≡ N.history }
+    requires numbers { N.numbers ≡ from_the_first }
+    requires lists { N.lists ≡ true }
+    requires body { N.body ≡ Some body }
+{
+    let (hub, share) = Hub::<Six, N>::new(alloc, limits, body, blank, 2, opened);
+    let places = (place_of(rt, alloc, &hub), place_of(rt, alloc, &hub));
+    let (share, one, other) = hold_two(rt, places, share, lines);
+    let live = hub.close(share);
+    let checked = check_history(rt, alloc, live.journal(), one, other);
+    drop(live);
+    checked
 }
 
 #[test]
 fn two_sessions_one_history(rt: HostRuntime) -> Result<(), Fail> {
     let one = lines_of(rt.alloc(), 1)?;
     let other = lines_of(rt.alloc(), 1000)?;
-    let sessions = TwoSessions {
-        lines: (one.as_str(), other.as_str()),
-    };
-    let ((one, other), counted, live) = at_hub(&rt, rt.alloc(), Six, &sessions);
-    let checked = check_history(&rt, rt.alloc(), live.journal(), one, other);
-    assert_counted(&rt, counted, live, 400);
-    checked
+    one_history::<Brand, _>(
+        &rt,
+        rt.alloc(),
+        Limits::greatest(),
+        Blank::new(2),
+        Opened::new(),
+        Six,
+        (one.as_str(), other.as_str()),
+    )
 }

@@ -1,14 +1,17 @@
 //! Tests workers that sleep where nothing is wanted: an edit wakes them, and they end when they are dismissed.
-ghost use Rattle.std.specs.Prelude.{◌≡◌};
+ghost use Rattle.std.specs.Prelude.{◌≡◌, Some};
 
 use crate::common::*;
 use crate::same::assert_same;
 use lv_bodies::Sum;
+use lv_geometry::Limits;
 use lv_hub::*;
 use std::alloc::{AllocError, Global};
+use std::marker::Brand;
 use std::process::Abort;
 use std::sync::Wait;
 use std::sync::atomic::{AtomicU64, Ordering};
+use std::sync::ledger::Blank;
 use std::thread;
 use std::thread::Threads;
 use std::time::{Clock, Duration};
@@ -50,50 +53,68 @@ fn let_it_sleep(clock: &impl Clock) {
 }
 
 // Pushes a block that a worker claims, and once it had time to fall asleep another one; then the worker is dismissed. Says whether
-// the first block was claimed, and whether both were, and hands back the share.
+// the first block was claimed, and whether both were.
 fn push_then_dismiss<N: WithBody<Sum>, R: Wait + Clock + Abort>(
     rt: &R,
     hub: &Hub<Sum, N>,
-    share: Share<N>,
+    share: &mut Share<N>,
     gate: &Turnstile,
-) -> (Share<N>, (bool, bool))
-    ensures { result.0.parts ≡ share.parts }
-{
-    let mut share = share;
-    push_all(rt, hub, &mut share, 8, 1);
+) -> (bool, bool) {
+    push_all(rt, hub, share, 8, 1);
     let first = gate.is_passed_by(rt, 1);
     let_it_sleep(rt);
-    push_all(rt, hub, &mut share, 8, 1);
+    push_all(rt, hub, share, 8, 1);
     let both = gate.is_passed_by(rt, 2);
     hub.dismiss(rt);
-    (share, (first, both))
+    (first, both)
 }
 
 // A worker of a thousand turns attends while two blocks are pushed.
-impl AtHub<Sum> for Turnstile {
-    type Seen = (Worked, (bool, bool));
+fn assert_woken<N: WithBody<Sum> + Send + Sync, R: Threads + Wait + Clock + Abort + Sync>(
+    rt: &R,
+    hub: &Hub<Sum, N>,
+    share: &mut Share<N>,
+) {
+    let turnstile = Turnstile::new();
+    let gate = &turnstile;
+    let seen = thread::join(
+        rt,
+        move || attend(rt, hub, gate, 1000),
+        move || push_then_dismiss(rt, hub, share, gate),
+    );
+    assert_same(rt, &seen, &(installed(2), (true, true)));
+}
 
-    fn meet<N: WithBody<Sum> + Send + Sync, R: Threads + Wait + Clock + Abort + Sync>(
-        &self,
-        rt: &R,
-        _alloc: Global,
-        hub: &Hub<Sum, N>,
-        share: Share<N>,
-    ) -> (Share<N>, (Worked, (bool, bool))) {
-        let (worked, (share, seen)) = thread::join(
-            rt,
-            move || attend(rt, hub, self, 1000),
-            move || push_then_dismiss(rt, hub, share, self),
-        );
-        (share, (worked, seen))
-    }
+fn woken<N: WithBody<Sum> + Send + Sync, R: Threads + Wait + Clock + Abort + Sync>(
+    rt: &R,
+    alloc: Global,
+    limits: Limits,
+    blank: Blank,
+    opened: Opened,
+    body: Sum,
+)
+    requires name { blank.name ≡ N.name }
+    requires all { blank.parts ≡ N.parts }
+    requires one { blank.parts ≡ 1 }
+    requires limits { limits ≡ N.limits }
+    requires history { opened ≡ N.history }
+    requires body { N.body ≡ Some body }
+{
+    let (hub, mut share) = Hub::<Sum, N>::new(alloc, limits, body, blank, 1, opened);
+    assert_woken(rt, &hub, &mut share);
+    drop(hub);
 }
 
 #[test]
 fn an_edit_wakes_a_sleeping_worker(rt: HostRuntime) {
-    let (seen, counted, live) = at_hub(&rt, rt.alloc(), Sum, &Turnstile::new());
-    assert_counted(&rt, counted, live, 16);
-    assert_same(&rt, &seen, &(installed(2), (true, true)));
+    woken::<Brand, _>(
+        &rt,
+        rt.alloc(),
+        Limits::greatest(),
+        Blank::new(1),
+        Opened::new(),
+        Sum,
+    );
 }
 
 // What eight workers did that would attend for good, on a hub with nothing to do, and were dismissed.
@@ -114,45 +135,53 @@ fn dismiss_eight<N: WithBody<Sum> + Send + Sync, R: Threads + Wait + Clock + Syn
     worked
 }
 
-// Sees that nobody finds work, and that eight workers end when they are dismissed.
-fn assert_idle<N: WithBody<Sum> + Send + Sync, R: Threads + Wait + Clock + Abort + Sync>(
+// Eight workers end when they are dismissed, and so does one that comes later, though a job is wanted; who works by turns alone
+// still finds it.
+fn assert_dismissed<N: WithBody<Sum> + Send + Sync, R: Threads + Wait + Clock + Abort + Sync>(
     rt: &R,
     alloc: Global,
     hub: &Hub<Sum, N>,
+    share: &mut Share<N>,
 ) -> Result<(), AllocError> {
     assert_same(rt, &attend(rt, hub, &OpenGate, 1), &installed(0));
     for worked in dismiss_eight(rt, alloc, hub)?.iter() {
         assert_same(rt, &*worked, &installed(0));
     }
+    push_all(rt, hub, share, 8, 1);
+    assert_same(rt, &attend(rt, hub, &OpenGate, 1000), &installed(0));
+    assert_same(rt, &work(rt, hub, &OpenGate, 1000), &installed(1));
     Ok(())
 }
 
-// Eight workers end when they are dismissed, and so does one that comes later, though a job is wanted; who works by turns alone
-// still finds it.
-struct Dismissed;
-
-impl AtHub<Sum> for Dismissed {
-    type Seen = Result<(), AllocError>;
-
-    fn meet<N: WithBody<Sum> + Send + Sync, R: Threads + Wait + Clock + Abort + Sync>(
-        &self,
-        rt: &R,
-        alloc: Global,
-        hub: &Hub<Sum, N>,
-        share: Share<N>,
-    ) -> (Share<N>, Result<(), AllocError>) {
-        let mut share = share;
-        let idle = assert_idle(rt, alloc, hub);
-        push_all(rt, hub, &mut share, 8, 1);
-        assert_same(rt, &attend(rt, hub, &OpenGate, 1000), &installed(0));
-        assert_same(rt, &work(rt, hub, &OpenGate, 1000), &installed(1));
-        (share, idle)
-    }
+fn dismissed<N: WithBody<Sum> + Send + Sync, R: Threads + Wait + Clock + Abort + Sync>(
+    rt: &R,
+    alloc: Global,
+    limits: Limits,
+    blank: Blank,
+    opened: Opened,
+    body: Sum,
+) -> Result<(), AllocError>
+    requires name { blank.name ≡ N.name }
+    requires all { blank.parts ≡ N.parts }
+    requires one { blank.parts ≡ 1 }
+    requires limits { limits ≡ N.limits }
+    requires history { opened ≡ N.history }
+    requires body { N.body ≡ Some body }
+{
+    let (hub, mut share) = Hub::<Sum, N>::new(alloc, limits, body, blank, 1, opened);
+    let seen = assert_dismissed(rt, alloc, &hub, &mut share);
+    drop(hub);
+    seen
 }
 
 #[test]
 fn dismissed_workers_end(rt: HostRuntime) -> Result<(), AllocError> {
-    let (idle, counted, live) = at_hub(&rt, rt.alloc(), Sum, &Dismissed);
-    assert_counted(&rt, counted, live, 8);
-    idle
+    dismissed::<Brand, _>(
+        &rt,
+        rt.alloc(),
+        Limits::greatest(),
+        Blank::new(1),
+        Opened::new(),
+        Sum,
+    )
 }

@@ -1,20 +1,21 @@
 //! Tests what a hub answers where it is given the outcome of another hub, and what both scans answer.
-ghost use Rattle.std.specs.Prelude.{◌≡◌};
+ghost use Rattle.std.specs.Prelude.{◌≡◌, Some};
 
 use crate::common::*;
 use crate::same::assert_same;
 use lv_bodies::{Automaton, Body, Sum};
-use lv_geometry::Refusal;
+use lv_geometry::{Limits, Refusal};
 use lv_hub::*;
 use lv_reduce::Scan;
 use lv_refresh::Outcome;
 use lv_summary::Accepted;
 use std::alloc::Global;
+use std::marker::Brand;
 use std::process::Abort;
 use std::sync::Wait;
+use std::sync::ledger::Blank;
 use std::test::Fail;
 use std::thread::Threads;
-use std::time::Clock;
 
 // Computes the first job of a hub of eight equal elements.
 #[derive(Drop)]
@@ -25,7 +26,7 @@ struct FirstJob {
 impl<B: Body> AtHub<B> for FirstJob {
     type Seen = Result<Outcome<B>, Fail>;
 
-    fn meet<N: WithBody<B> + Send + Sync, R: Threads + Wait + Clock + Abort + Sync>(
+    fn meet<N: WithBody<B>, R: Wait + Abort>(
         &self,
         rt: &R,
         _alloc: Global,
@@ -39,7 +40,7 @@ impl<B: Body> AtHub<B> for FirstJob {
 }
 
 // The outcome of the first job of a hub of eight equal elements.
-fn first_outcome<B: Body, R: Threads + Wait + Clock + Abort + Sync>(
+fn first_outcome<B: Body, R: Wait + Abort>(
     rt: &R,
     alloc: Global,
     body: B,
@@ -59,7 +60,7 @@ struct Given<B: Body> {
 impl<B: Body> AtHub<B> for Given<B> {
     type Seen = Result<Accepted, Refusal>;
 
-    fn meet<N: WithBody<B> + Send + Sync, R: Threads + Wait + Clock + Abort + Sync>(
+    fn meet<N: WithBody<B>, R: Wait + Abort>(
         &self,
         rt: &R,
         _alloc: Global,
@@ -73,7 +74,7 @@ impl<B: Body> AtHub<B> for Given<B> {
 }
 
 // What a hub of eight elements 1 answers where it is given an outcome.
-fn answer_to<B: Body, R: Threads + Wait + Clock + Abort + Sync>(
+fn answer_to<B: Body, R: Wait + Abort>(
     rt: &R,
     alloc: Global,
     body: B,
@@ -152,34 +153,42 @@ fn assert_strangers<N: WithBody<Sum>, R: Threads + Wait + Abort + Sync>(
     assert_follows(rt, alloc, hub, share, strange)
 }
 
-// Gives a hub of eight elements 1 an outcome of another before and after a write.
-#[derive(Drop)]
-struct Strangers {
+// A hub of eight elements 1, given an outcome of another before and after a write, and closed.
+fn one_hub_of_two<N: WithBody<Sum>, R: Threads + Wait + Abort + Sync>(
+    rt: &R,
+    alloc: Global,
+    limits: Limits,
+    blank: Blank,
+    opened: Opened,
+    body: Sum,
     strange: Outcome<Sum>,
-}
-
-impl AtHub<Sum> for Strangers {
-    type Seen = Result<(), Fail>;
-
-    fn meet<N: WithBody<Sum> + Send + Sync, R: Threads + Wait + Clock + Abort + Sync>(
-        &self,
-        rt: &R,
-        alloc: Global,
-        hub: &Hub<Sum, N>,
-        share: Share<N>,
-    ) -> (Share<N>, Result<(), Fail>) {
-        let mut share = share;
-        let seen = assert_strangers(rt, alloc, hub, &mut share, self.strange);
-        (share, seen)
-    }
+) -> Result<(), Fail>
+    requires name { blank.name ≡ N.name }
+    requires all { blank.parts ≡ N.parts }
+    requires one { blank.parts ≡ 1 }
+    requires limits { limits ≡ N.limits }
+    requires history { opened ≡ N.history }
+    requires body { N.body ≡ Some body }
+{
+    let (hub, mut share) = Hub::<Sum, N>::new(alloc, limits, body, blank, 1, opened);
+    let seen = assert_strangers(rt, alloc, &hub, &mut share, strange);
+    let counted = share.count();
+    assert_counted(rt, counted, hub.close(share), 9);
+    seen
 }
 
 #[test]
 fn two_hubs(rt: HostRuntime) -> Result<(), Fail> {
     let strange = first_outcome(&rt, rt.alloc(), Sum, 2)?;
-    let (seen, counted, live) = at_hub(&rt, rt.alloc(), Sum, &Strangers { strange });
-    assert_counted(&rt, counted, live, 9);
-    seen
+    one_hub_of_two::<Brand, _>(
+        &rt,
+        rt.alloc(),
+        Limits::greatest(),
+        Blank::new(1),
+        Opened::new(),
+        Sum,
+        strange,
+    )
 }
 
 #[test]

@@ -12,8 +12,6 @@ use std::alloc::Global;
 use std::process::Abort;
 use std::sync::Wait;
 use std::test::Fail;
-use std::thread::Threads;
-use std::time::Clock;
 
 // Claims a hub's next job and delivers its outcome.
 fn refresh<N: WithBody<Sum>, R: Wait + Abort>(rt: &R, hub: &Hub<Sum, N>) -> Result<(), Fail> {
@@ -62,7 +60,7 @@ struct JobAbove;
 impl AtHub<Sum> for JobAbove {
     type Seen = Result<Outcome<Sum>, Fail>;
 
-    fn meet<N: WithBody<Sum> + Send + Sync, R: Threads + Wait + Clock + Abort + Sync>(
+    fn meet<N: WithBody<Sum>, R: Wait + Abort>(
         &self,
         rt: &R,
         _alloc: Global,
@@ -100,7 +98,7 @@ struct StrangersAbove {
 impl AtHub<Sum> for StrangersAbove {
     type Seen = Result<(), Fail>;
 
-    fn meet<N: WithBody<Sum> + Send + Sync, R: Threads + Wait + Clock + Abort + Sync>(
+    fn meet<N: WithBody<Sum>, R: Wait + Abort>(
         &self,
         rt: &R,
         _alloc: Global,

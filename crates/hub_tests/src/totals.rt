@@ -1,18 +1,19 @@
-//! Tests that shares count all edits and no other: where two threads edit, and where memory is refused.
-ghost use Rattle.std.specs.Prelude.{◌≡◌};
+//! Tests that shares count all edits and no other: where two threads edit, and where memory is wanting.
+ghost use Rattle.std.specs.Prelude.{◌≡◌, Some};
 
 use crate::common::*;
 use crate::same::assert_same;
 use lv_bodies::Sum;
 use lv_edits::{Edit, Receipt};
-use lv_geometry::Refusal;
+use lv_geometry::{Limits, Refusal};
 use lv_hub::*;
 use std::alloc::Global;
+use std::marker::Brand;
 use std::process::Abort;
 use std::sync::Wait;
+use std::sync::ledger::Blank;
 use std::thread;
 use std::thread::Threads;
-use std::time::Clock;
 
 // Pushes 500 elements on a share of its own, and hands it back.
 fn push_500<N: WithBody<Sum>, R: Wait + Abort>(
@@ -27,38 +28,61 @@ fn push_500<N: WithBody<Sum>, R: Wait + Abort>(
     share
 }
 
-// Two threads push 500 elements each.
-struct TwoPushers;
+// Two threads push 500 elements each; both shares together are handed back.
+fn push_from_two<N: WithBody<Sum> + Send + Sync, R: Threads + Wait + Abort + Sync>(
+    rt: &R,
+    hub: &Hub<Sum, N>,
+    share: Share<N>,
+) -> Share<N>
+    requires { share.parts ≡ 2 }
+    ensures { result.parts ≡ 2 }
+{
+    let mut mine = share;
+    let theirs = mine.split();
+    let (theirs, mut all) = thread::join(
+        rt,
+        move || push_500(rt, hub, theirs),
+        move || push_500(rt, hub, mine),
+    );
+    all.join(theirs);
+    all
+}
 
-impl AtHub<Sum> for TwoPushers {
-    type Seen = ();
-
-    fn meet<N: WithBody<Sum> + Send + Sync, R: Threads + Wait + Clock + Abort + Sync>(
-        &self,
-        rt: &R,
-        _alloc: Global,
-        hub: &Hub<Sum, N>,
-        share: Share<N>,
-    ) -> (Share<N>, ()) {
-        let mut mine = share;
-        let theirs = mine.split();
-        let (theirs, mut all) = thread::join(
-            rt,
-            move || push_500(rt, hub, theirs),
-            move || push_500(rt, hub, mine),
-        );
-        all.join(theirs);
-        (all, ())
-    }
+// A hub that two threads edit, closed.
+fn total<N: WithBody<Sum> + Send + Sync, R: Threads + Wait + Abort + Sync>(
+    rt: &R,
+    alloc: Global,
+    limits: Limits,
+    blank: Blank,
+    opened: Opened,
+    body: Sum,
+)
+    requires name { blank.name ≡ N.name }
+    requires all { blank.parts ≡ N.parts }
+    requires two { blank.parts ≡ 2 }
+    requires limits { limits ≡ N.limits }
+    requires history { opened ≡ N.history }
+    requires body { N.body ≡ Some body }
+{
+    let (hub, share) = Hub::<Sum, N>::new(alloc, limits, body, blank, 2, opened);
+    let share = push_from_two(rt, &hub, share);
+    let counted = share.count();
+    assert_counted(rt, counted, hub.close(share), 1000);
 }
 
 #[test]
 fn totals_over_threads(rt: HostRuntime) {
-    let ((), counted, live) = at_hub(&rt, rt.alloc(), Sum, &TwoPushers);
-    assert_counted(&rt, counted, live, 1000);
+    total::<Brand, _>(
+        &rt,
+        rt.alloc(),
+        Limits::greatest(),
+        Blank::new(2),
+        Opened::new(),
+        Sum,
+    );
 }
 
-// Pushes a 1. Where memory is refused it sees that the share counts nothing, and pushes again.
+// Pushes a 1. Where memory is wanting it sees that the share counts nothing, and pushes again.
 fn push_or_again<N: WithBody<Sum>, R: Wait + Abort>(
     rt: &R,
     hub: &Hub<Sum, N>,
@@ -91,7 +115,7 @@ struct NinePushes;
 impl AtHub<Sum> for NinePushes {
     type Seen = ();
 
-    fn meet<N: WithBody<Sum> + Send + Sync, R: Threads + Wait + Clock + Abort + Sync>(
+    fn meet<N: WithBody<Sum>, R: Wait + Abort>(
         &self,
         rt: &R,
         _alloc: Global,

@@ -1,6 +1,6 @@
 -- What the loop keeps in `far_apart`: 65,536 elements, of which the first is 1, the last is 2 and all others 0.
 use Rattle.std.proofs.Common.{◌≡◌, ◌+◌, vec_len}
-use Rattle.livevec_tests.proofs.parallel.far_apart.Given as goal
+use Rattle.core_tests.proofs.parallel.far_apart.Given as goal
 
 -- one element more than were pushed in the loop
 abbrev pub invariant-loop : goal.invariant-loop
