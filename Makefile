@@ -169,13 +169,13 @@ bench: build ## times it beside plain Rust, and makes the tables and the picture
 	@bench/picture
 
 bench-board: ## times the board beside a lock
-	@tools/timed bench-board "times the board beside a lock, a line for each pair" "some 5 min, once its program is proved" bench/run-board
+	@tools/timed bench-board "times the board beside a lock, a line for each pair" "some 5 min, once its program is proved" bench/run board
 
-bench-bindings: ## times calls from C, Rust and Python
-	@tools/timed bench-bindings "times calls from C, Rust and Python" "some 2 min" bench/bindings
+bench-bindings: ## times calls from C and C++
+	@tools/timed bench-bindings "times calls from C and C++, a line for each pair" "some 2 min" bench/run bindings
 
 bench-engines: ## times MPI over several processes beside plain loops and MPI's own sum
-	@tools/timed bench-engines "times MPI over 1, 2 and 4 processes beside plain loops and MPI_SUM" "some 2 min" bench/engines
+	@tools/timed bench-engines "times MPI over 1, 2 and 4 processes beside plain loops and MPI_SUM" "some 2 min" bench/run engines
 
 fmt: ## formats each crate
 	@for crate in crates/*/; do echo "formats $$crate"; (cd $$crate && rt fmt); done

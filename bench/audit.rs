@@ -1,7 +1,9 @@
 //! Plain Rust at the work of `livevec audit`: reads a transcript and says whether it is sound, folding the one kind that each answer asks.
-//! `audit KINDS WIDTH` writes a sound one: 200,000 edits, and 20,000 answers over ranges of that width, of the kinds by turns. The same words
-//! give the same transcript.
+//! `audit KIND WIDTH` writes a sound one: 200,000 edits, and 20,000 answers over ranges of that width. The same words give the same transcript.
 use std::io::{BufRead, BufReader, BufWriter, Write};
+
+include!("peers/dice.rs");
+include!("peers/runs.rs");
 
 const EDITS: u64 = 200_000;
 const ANSWERS: u64 = 20_000;
@@ -25,16 +27,6 @@ fn make(list: &mut Vec<i64>, edit: Edit) -> Option<()> {
     }
 }
 
-// The greatest total of a run of neighbours.
-fn best(xs: &[i64]) -> Option<i128> {
-    let (mut best, mut suffix) = (None, 0i128);
-    for x in xs {
-        suffix = (suffix + *x as i128).max(*x as i128);
-        best = best.max(Some(suffix));
-    }
-    best
-}
-
 fn some(x: Option<impl ToString>) -> String {
     x.map_or("none".to_string(), |x| x.to_string())
 }
@@ -45,7 +37,7 @@ fn value(kind: &str, xs: &[i64]) -> Option<String> {
         "sum" => xs.iter().fold(0u64, |sum, x| sum.wrapping_add(*x as u64)).to_string(),
         "least" => some(xs.iter().min()),
         "greatest" => some(xs.iter().max()),
-        "best" => some(best(xs)),
+        "best" => some(best_run(xs)),
         "affine" => {
             let (a, b) = xs.iter().fold((1u32, 0u32), |(a, b), x| {
                 let (slope, rest) = ((*x >> 8) as u32, (*x & 255) as u32);
@@ -67,27 +59,23 @@ fn value(kind: &str, xs: &[i64]) -> Option<String> {
 fn main() -> std::io::Result<()> {
     let words: Vec<String> = std::env::args().skip(1).collect();
     match &words[..] {
-        [kinds, width] => write(&kinds.split(',').collect::<Vec<_>>(), width.parse().unwrap()),
+        [kind, width] if KINDS.contains(&kind.as_str()) => write(kind, width.parse().unwrap()),
         _ => Ok(println!("{}", audit()?)),
     }
 }
 
 // Writes a transcript. Half of the edits fill the list; the answers come after the others, evenly apart.
-fn write(kinds: &[&str], width: u64) -> std::io::Result<()> {
+fn write(kind: &str, width: u64) -> std::io::Result<()> {
     let mut out = BufWriter::with_capacity(1 << 16, std::io::stdout().lock());
-    let (mut seed, mut list, mut edits) = (1u64, Vec::new(), Vec::new());
-    let mut draw = move || {
-        seed = seed.wrapping_mul(6364136223846793005).wrapping_add(1442695040888963407);
-        seed
-    };
+    let (mut dice, mut list, mut edits) = (Dice(1), Vec::new(), Vec::new());
     writeln!(out, "livevec 1")?;
     for n in 0..EDITS {
-        let (roll, x) = (draw() >> 60, (draw() >> 20) as i32 as i64);
+        let (roll, x) = (dice.below(16), i64::from(dice.element()));
         let edit = match roll {
             _ if n < EDITS / 2 => Edit::Push(x),
             0..=3 => Edit::Push(x),
             4..=6 => Edit::Pop,
-            _ => Edit::Write((draw() >> 33) as u32 % list.len() as u32, x),
+            _ => Edit::Write(dice.below(list.len() as u64) as u32, x),
         };
         make(&mut list, edit).unwrap();
         edits.push(edit);
@@ -98,16 +86,12 @@ fn write(kinds: &[&str], width: u64) -> std::io::Result<()> {
             Edit::Reserve(cells) => writeln!(out, "j reserve {cells}")?,
         }
     }
-    list.clear();
-    let mut made = 0;
+    let (mut list, mut made) = (Vec::new(), 0);
     for n in 0..ANSWERS {
         let edit = EDITS / 2 + n * (EDITS / 2) / (ANSWERS - 1);
-        while made < edit {
-            make(&mut list, edits[made as usize]).unwrap();
-            made += 1;
-        }
-        let kind = kinds[n as usize % kinds.len()];
-        let lo = (draw() >> 20) % (list.len() as u64 - width);
+        edits[made..edit as usize].iter().for_each(|edit| make(&mut list, *edit).unwrap());
+        made = edit as usize;
+        let lo = dice.below(list.len() as u64 - width);
         let hi = lo + width;
         writeln!(out, "a {edit} {kind} {lo} {hi} {}", value(kind, &list[lo as usize..hi as usize]).unwrap())?;
     }

@@ -1,12 +1,68 @@
 //! A plain Rust program that answers scripts of `watch`, `push`, `pop`, `write`, `reduce` and `inc sum` with the same replies and notes as
 //! `livevec run`. With `trees KIND..` it keeps a bottom-up segment tree over the elements for each kind that is named or watched; with
-//! `folds` it keeps the elements alone, and folds each range that is asked for. With `script WHAT..` it writes such a script.
+//! `folds` it keeps the elements alone, and folds each range that is asked for.
+#![allow(dead_code, unused_macros)]
 use std::io::{BufRead, BufReader, BufWriter, Write};
 
 // Parts of one module: compiled as modules of their own, an edit would take other times.
-include!("kept/kinds.rs");
-include!("kept/tree.rs");
-include!("kept/script.rs");
+include!("peers/dice.rs");
+include!("peers/kinds.rs");
+include!("peers/trees.rs");
+
+// A tree over the elements, of any kind. It doubles where it is full.
+trait Kept {
+    fn set(&mut self, i: usize, x: Option<i64>);
+    fn ask(&self, lo: usize, hi: usize) -> Shown;
+}
+
+impl<S: Summary + Into<Shown>> Kept for Tree<S> {
+    fn set(&mut self, i: usize, x: Option<i64>) {
+        while i >= self.nodes.len() / 2 {
+            self.double();
+        }
+        self.put(i, x.map_or(S::EMPTY, S::of));
+    }
+
+    fn ask(&self, lo: usize, hi: usize) -> Shown {
+        let leaves = self.nodes.len() / 2;
+        if lo == 0 && hi >= leaves {
+            return self.nodes[1].into();
+        }
+        self.reduce(lo.min(leaves), hi.min(leaves)).into()
+    }
+}
+
+// A tree for a kind, with these elements.
+fn grown(kind: usize, items: &[i64]) -> Box<dyn Kept> {
+    fn tree<S: Summary + Into<Shown> + 'static>(items: &[i64]) -> Box<dyn Kept> {
+        Box::new(Tree::<S>::new(items))
+    }
+    [tree::<Sum>, tree::<Least>, tree::<Greatest>, tree::<Best>, tree::<Affine>, tree::<Automaton>][kind](items)
+}
+
+// What a kind folds to over some elements.
+fn folded(kind: usize, items: &[i64]) -> Shown {
+    fn fold<S: Summary + Into<Shown>>(items: &[i64]) -> Shown {
+        S::fold(items).into()
+    }
+    [fold::<Sum>, fold::<Least>, fold::<Greatest>, fold::<Best>, fold::<Affine>, fold::<Automaton>][kind](items)
+}
+
+fn kind_named(word: &str) -> Option<usize> {
+    KINDS.iter().position(|kind| *kind == word)
+}
+
+fn put(out: &mut impl Write, value: Shown) {
+    match value {
+        Shown::Sum(n) => write!(out, "{n}"),
+        Shown::Extreme(Some(n)) => write!(out, "{n}"),
+        Shown::Best(Some(n)) => write!(out, "{n}"),
+        Shown::Extreme(None) | Shown::Best(None) => write!(out, "none"),
+        Shown::Affine(a, b) => write!(out, "{a} {b}"),
+        Shown::Automaton([a, b, c, d, e, f, g, h]) => write!(out, "{a} {b} {c} {d} {e} {f} {g} {h}"),
+    }
+    .unwrap();
+}
 
 struct Watch {
     name: String,
@@ -136,19 +192,15 @@ impl Vector {
 fn main() {
     let mut out = BufWriter::with_capacity(1 << 16, std::io::stdout().lock());
     let words: Vec<String> = std::env::args().skip(1).collect();
-    if words[0] == "script" {
-        script(&words[1..], &mut out);
-    } else {
-        let mut vector = Vector { folds: words[0] == "folds", ..Vector::default() };
-        for kind in &words[1..] {
-            vector.keep(kind_named(kind).expect("a kind"));
-        }
-        let mut input = BufReader::with_capacity(1 << 16, std::io::stdin().lock());
-        let mut line = String::new();
-        while input.read_line(&mut line).unwrap() > 0 {
-            vector.answer(line.trim_end(), &mut out).expect("a line that is known and not refused");
-            line.clear();
-        }
+    let mut vector = Vector { folds: words[0] == "folds", ..Vector::default() };
+    for kind in &words[1..] {
+        vector.keep(kind_named(kind).expect("a kind"));
+    }
+    let mut input = BufReader::with_capacity(1 << 16, std::io::stdin().lock());
+    let mut line = String::new();
+    while input.read_line(&mut line).unwrap() > 0 {
+        vector.answer(line.trim_end(), &mut out).expect("a line that is known and not refused");
+        line.clear();
     }
     out.flush().unwrap();
 }

@@ -4,21 +4,12 @@ use std::fs::File;
 use std::io::{BufRead, BufReader, BufWriter, Write};
 use std::sync::Mutex;
 
+include!("peers/runs.rs");
+
 #[derive(Default)]
 struct Desk {
     elements: Vec<i64>,
     journal: Vec<(Option<usize>, i64)>,
-}
-
-// The greatest total of a run of neighbours, by one pass.
-fn best_run(xs: &[i64]) -> Option<i128> {
-    let mut best = None;
-    let mut suffix = 0i128;
-    for x in xs {
-        suffix = (suffix + *x as i128).max(*x as i128);
-        best = best.max(Some(suffix));
-    }
-    best
 }
 
 fn answer(desk: &Mutex<Desk>, line: &str, out: &mut impl Write) -> std::io::Result<()> {

@@ -3,17 +3,26 @@
 //!
 //! A step is a new element, then the sum and the greatest of the last 10,000; or also a late correction of one among them. A sample is one with a
 //! time, then the sum, the greatest and the count of the last 1, 5 and 60 minutes.
+#![allow(dead_code, unused_macros)]
 
 use std::collections::VecDeque;
 use std::hint::black_box;
 use std::time::Instant;
 
-use livevec::{Kind, Refusal, Samples, Series, Value};
+use livevec::{Refusal, Samples, Series, Value};
+
+include!("peers/dice.rs");
+include!("peers/kinds.rs");
+include!("peers/trees.rs");
+include!("peers/windows.rs");
 
 const WINDOW: usize = 10_000;
 const STEPS: usize = 100_000;
 // a fold takes long
 const FOLDED: usize = 2_000;
+
+/// What is answered after a step: the sum and the greatest.
+type Both = (Sum, Greatest);
 
 struct Step {
     value: i64,
@@ -28,25 +37,21 @@ fn timed<T>(label: &str, turns: usize, work: impl FnOnce() -> T) -> T {
     made
 }
 
-fn numbers() -> impl FnMut(u64) -> u64 {
-    let mut state = 5_u64;
-    move |below| {
-        state = state.wrapping_mul(6_364_136_223_846_793_005).wrapping_add(1_442_695_040_888_963_407);
-        (state >> 33) % below
-    }
+fn small(dice: &mut Dice) -> i64 {
+    dice.below(2_001) as i64 - 1_000
 }
 
-fn by_livevec(start: &[i64], steps: &[Step]) -> Result<Vec<(i64, i64)>, Refusal> {
+fn by_livevec(start: &[i64], steps: &[Step]) -> Result<Vec<Both>, Refusal> {
     let mut series = Series::try_from(start)?;
-    series.prepare(Kind::Sum)?;
-    series.prepare(Kind::Greatest)?;
+    series.prepare(livevec::Kind::Sum)?;
+    series.prepare(livevec::Kind::Greatest)?;
     let mut told = Vec::with_capacity(steps.len());
     for step in steps {
         let end = series.push(step.value)?.index as usize + 1;
         if let Some((place, value)) = step.late {
             series.write(end - WINDOW + place, value)?;
         }
-        told.push((series.sum(end - WINDOW..end)?, series.greatest(end - WINDOW..end)?.unwrap_or(0)));
+        told.push((Sum(series.sum(end - WINDOW..end)?), Greatest(series.greatest(end - WINDOW..end)?.unwrap_or(0))));
         if end.is_multiple_of(100) {
             series.expire(end - WINDOW)?;
         }
@@ -54,7 +59,7 @@ fn by_livevec(start: &[i64], steps: &[Step]) -> Result<Vec<(i64, i64)>, Refusal>
     Ok(told)
 }
 
-fn by_deque(start: &[i64], steps: &[Step]) -> Vec<(i64, i64)> {
+fn by_deque(start: &[i64], steps: &[Step]) -> Vec<Both> {
     let mut held: VecDeque<i64> = start.iter().copied().collect();
     let step = |step: &Step| {
         held.pop_front();
@@ -62,36 +67,15 @@ fn by_deque(start: &[i64], steps: &[Step]) -> Vec<(i64, i64)> {
         if let Some((place, value)) = step.late {
             held[place] = value;
         }
-        (held.iter().sum(), *held.iter().max().expect("there are some"))
+        (Sum(held.iter().sum()), Greatest(*held.iter().max().expect("there are some")))
     };
     steps.iter().map(step).collect()
-}
-
-/// A running total, and the queue of those that may come to be the greatest. A correction is more than it takes.
-fn by_candidates(start: &[i64], steps: &[Step]) -> Vec<(i64, i64)> {
-    let all: Vec<i64> = start.iter().copied().chain(steps.iter().map(|step| step.value)).collect();
-    let (mut held, mut total, mut told) = (VecDeque::new(), 0, Vec::with_capacity(steps.len()));
-    for (at, &value) in all.iter().enumerate() {
-        while held.back().is_some_and(|&it: &usize| all[it] <= value) {
-            held.pop_back();
-        }
-        held.push_back(at);
-        total += value;
-        if at >= WINDOW {
-            total -= all[at - WINDOW];
-            while held[0] <= at - WINDOW {
-                held.pop_front();
-            }
-            told.push((total, all[held[0]]));
-        }
-    }
-    told
 }
 
 /// The sums by a Fenwick tree over a ring of the last elements. It has no greatest that takes a correction.
 fn by_fenwick(start: &[i64], steps: &[Step]) -> Vec<i64> {
     let (mut tree, mut held, mut at) = (vec![0; WINDOW + 1], vec![0; WINDOW], 0);
-    let mut write = |held: &mut Vec<i64>, index: usize, value: i64| {
+    let mut write = |index: usize, value: i64| {
         let by = value - std::mem::replace(&mut held[index], value);
         let mut node = index + 1;
         while node <= WINDOW {
@@ -106,63 +90,38 @@ fn by_fenwick(start: &[i64], steps: &[Step]) -> Vec<i64> {
         total
     };
     for (index, &value) in start.iter().enumerate() {
-        write(&mut held, index, value);
+        write(index, value);
     }
     let step = |step: &Step| {
-        let mut total = write(&mut held, at, step.value);
+        let total = write(at, step.value);
         at = (at + 1) % WINDOW;
-        if let Some((place, value)) = step.late {
-            total = write(&mut held, (at + place) % WINDOW, value);
-        }
-        total
+        step.late.map_or(total, |(place, value)| write((at + place) % WINDOW, value))
     };
     steps.iter().map(step).collect()
 }
 
-/// Two stacks, of which the front one has what its elements and those above come to. A correction is more than they take.
-fn by_two_stacks(start: &[i64], steps: &[Step]) -> Vec<(i64, i64)> {
-    let join = |a: (i64, i64), b: (i64, i64)| (a.0 + b.0, a.1.max(b.1));
-    let (mut front, mut back, mut all_back): (Vec<(i64, i64)>, Vec<i64>, _) = (Vec::new(), start.to_vec(), (0, i64::MIN));
+/// A segment tree over a ring of the last elements. All of the ring is asked: its root.
+fn by_segment_tree(start: &[i64], steps: &[Step]) -> Vec<Both> {
+    let mut ring = Ring::<Both>::new(start);
     let step = |step: &Step| {
-        back.push(step.value);
-        all_back = join(all_back, (step.value, step.value));
-        if front.is_empty() {
-            let mut above = (0, i64::MIN);
-            front.extend(back.drain(..).rev().map(|value| {
-                above = join((value, value), above);
-                above
-            }));
-            all_back = (0, i64::MIN);
-        }
-        front.pop();
-        front.last().map_or(all_back, |&above| join(above, all_back))
+        let pushed = ring.push(step.value);
+        step.late.map_or(pushed, |(place, value)| ring.write(place, value))
     };
     steps.iter().map(step).collect()
 }
 
-/// A segment tree over a ring of the last elements, from its leaves up, as AtCoder's library has it. All of the ring is asked: its root.
-fn by_segment_tree(start: &[i64], steps: &[Step]) -> Vec<(i64, i64)> {
-    let leaves = WINDOW.next_power_of_two();
-    let (mut tree, mut at) = (vec![(0, i64::MIN); 2 * leaves], 0);
-    let join = |a: (i64, i64), b: (i64, i64)| (a.0 + b.0, a.1.max(b.1));
-    let write = |tree: &mut Vec<(i64, i64)>, index: usize, value: i64| {
-        let mut node = leaves + index;
-        tree[node] = (value, value);
-        while node > 1 {
-            node /= 2;
-            tree[node] = join(tree[2 * node], tree[2 * node + 1]);
-        }
-    };
-    for (index, &value) in start.iter().enumerate() {
-        write(&mut tree, index, value);
-    }
+/// A running total, and the queue of those that may come to be the greatest; or two stacks. A correction is more than they take.
+fn by_candidates(start: &[i64], steps: &[Step]) -> Vec<Both> {
+    let mut held = Candidates::new(start);
+    steps.iter().map(|step| held.push(step.value)).collect()
+}
+
+fn by_two_stacks(start: &[i64], steps: &[Step]) -> Vec<Both> {
+    let mut stacks = Stacks::<Both>::new(start);
     let step = |step: &Step| {
-        write(&mut tree, at, step.value);
-        at = (at + 1) % WINDOW;
-        if let Some((place, value)) = step.late {
-            write(&mut tree, (at + place) % WINDOW, value);
-        }
-        tree[1]
+        stacks.push(step.value);
+        stacks.pop();
+        stacks.value()
     };
     steps.iter().map(step).collect()
 }
@@ -179,15 +138,15 @@ fn samples_by_livevec(samples: &[(i64, i64)]) -> Result<Vec<Spans>, Refusal> {
     let (times, values): (Vec<i64>, Vec<i64>) = samples[..BEFORE].iter().copied().unzip();
     let mut load = Samples::new()?;
     load.push_many(&times, &values)?;
-    load.prepare(Kind::Sum)?;
-    load.prepare(Kind::Greatest)?;
+    load.prepare(livevec::Kind::Sum)?;
+    load.prepare(livevec::Kind::Greatest)?;
     let mut told = Vec::with_capacity(samples.len() - BEFORE);
     for &(time, value) in &samples[BEFORE..] {
         load.push(time, value)?;
         let mut spans = [(0, 0, 0); 3];
         for (told, span) in spans.iter_mut().zip(SPANS) {
             let window = load.last(span);
-            let Value::Sum(sum) = load.value_of_last(Kind::Sum, span)? else { unreachable!() };
+            let Value::Sum(sum) = load.value_of_last(livevec::Kind::Sum, span)? else { unreachable!() };
             *told = (sum, load.values().greatest(window.clone())?.unwrap_or(0), window.end - window.start);
         }
         told.push(spans);
@@ -212,32 +171,30 @@ fn samples_by_deque(samples: &[(i64, i64)]) -> Vec<Spans> {
 }
 
 fn main() -> Result<(), Refusal> {
-    let mut next = numbers();
-    let mut number = move |below: u64| next(below);
-    let start: Vec<i64> = (0..WINDOW).map(|_| number(2_001) as i64 - 1_000).collect();
-    for is_late in [false, true] {
-        let what = if is_late { "corrected step" } else { "step" };
+    let dice = &mut Dice(5);
+    let start: Vec<i64> = (0..WINDOW).map(|_| small(dice)).collect();
+    for (is_late, what) in [(false, "step"), (true, "corrected step")] {
         let steps: Vec<Step> = (0..STEPS)
             .map(|_| {
-                let (value, place, other) = (number(2_001) as i64 - 1_000, number(WINDOW as u64) as usize, number(2_001) as i64 - 1_000);
-                Step { value, late: is_late.then_some((place, other)) }
+                let (value, late) = (small(dice), (dice.below(WINDOW as u64) as usize, small(dice)));
+                Step { value, late: is_late.then_some(late) }
             })
             .collect();
         let told = timed(&format!("livevec {what}"), STEPS, || by_livevec(&start, &steps))?;
-        assert_eq!(timed(&format!("deque {what}"), FOLDED, || by_deque(&start, &steps[..FOLDED])), told[..FOLDED]);
+        assert!(timed(&format!("deque {what}"), FOLDED, || by_deque(&start, &steps[..FOLDED])) == told[..FOLDED]);
         let sums = timed(&format!("fenwick {what}"), STEPS, || by_fenwick(&start, &steps));
-        assert!(sums.iter().eq(told.iter().map(|(sum, _)| sum)));
-        assert_eq!(timed(&format!("segment tree {what}"), STEPS, || by_segment_tree(&start, &steps)), told);
+        assert!(sums.iter().eq(told.iter().map(|(sum, _)| &sum.0)));
+        assert!(timed(&format!("segment tree {what}"), STEPS, || by_segment_tree(&start, &steps)) == told);
         if !is_late {
-            assert_eq!(timed(&format!("candidates {what}"), STEPS, || by_candidates(&start, &steps)), told);
-            assert_eq!(timed(&format!("two stacks {what}"), STEPS, || by_two_stacks(&start, &steps)), told);
+            assert!(timed(&format!("candidates {what}"), STEPS, || by_candidates(&start, &steps)) == told);
+            assert!(timed(&format!("two stacks {what}"), STEPS, || by_two_stacks(&start, &steps)) == told);
         }
     }
     let mut time = 0;
     let samples: Vec<(i64, i64)> = (0..BEFORE + STEPS)
         .map(|_| {
-            time += i64::from(number(4) == 0);
-            (time, number(2_001) as i64 - 1_000)
+            time += i64::from(dice.below(4) == 0);
+            (time, small(dice))
         })
         .collect();
     let told = timed("livevec sample", STEPS, || samples_by_livevec(&samples))?;

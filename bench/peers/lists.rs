@@ -1,9 +1,5 @@
 // Turns of edits and questions at a `VecDeque`, whose answers come to one number.
 
-fn mixed(told: u64, more: u64) -> u64 {
-    told.wrapping_mul(31).wrapping_add(more)
-}
-
 #[derive(Default)]
 struct Window {
     items: VecDeque<i64>,
@@ -122,7 +118,7 @@ impl Window {
             1 => self.fold::<Least>(range),
             2 => self.fold::<Greatest>(range),
             3 => self.fold::<Best>(range),
-            4 => self.fold::<AffineMap>(range),
+            4 => self.fold::<Affine>(range),
             _ => self.fold::<Automaton>(range),
         };
         mixed(self.edits, of_shown(shown))
@@ -130,16 +126,6 @@ impl Window {
 
     fn fold<S: Summary + Into<Shown>>(&self, range: std::ops::Range<usize>) -> Shown {
         self.items.range(range).fold(S::EMPTY, |sum, x| sum.join(S::of(*x))).into()
-    }
-}
-
-fn of_shown(shown: Shown) -> u64 {
-    match shown {
-        Shown::Sum(sum) => sum,
-        Shown::Least(x) | Shown::Greatest(x) => x.unwrap_or(0) as u64,
-        Shown::Best(total) => total.unwrap_or(0) as u64,
-        Shown::Affine { a, b } => mixed(u64::from(a), u64::from(b)),
-        Shown::Automaton(states) => u64::from_le_bytes(states),
     }
 }
 

@@ -1,9 +1,5 @@
 // Windows that slide, in plain Rust.
 
-const KEPT: usize = 100_000;
-const LAST: usize = 600;
-const TURNS: u32 = 1_000_000;
-
 // A queue as two stacks: the older elements, of which each has what it and those behind it come to, and the newer ones with what they come to.
 struct Stacks<S> {
     older: Vec<S>,
@@ -44,16 +40,23 @@ impl<S: Summary> Stacks<S> {
 struct Ring<S> {
     tree: Tree<S>,
     at: usize,
+    size: usize,
 }
 
 impl<S: Summary> Ring<S> {
     fn new(elements: &[i64]) -> Ring<S> {
-        Ring { tree: Tree::new(elements), at: 0 }
+        Ring { tree: Tree::new(elements), at: 0, size: elements.len() }
     }
 
     fn push(&mut self, x: i64) -> S {
         self.tree.write(self.at, x);
-        self.at = if self.at + 1 == LAST { 0 } else { self.at + 1 };
+        self.at = if self.at + 1 == self.size { 0 } else { self.at + 1 };
+        self.tree.nodes[1]
+    }
+
+    // Overwrites the element at a place from the oldest on.
+    fn write(&mut self, place: usize, x: i64) -> S {
+        self.tree.write((self.at + place) % self.size, x);
         self.tree.nodes[1]
     }
 }
@@ -64,11 +67,12 @@ struct Candidates {
     sum: i64,
     falling: VecDeque<(u64, i64)>,
     count: u64,
+    size: usize,
 }
 
 impl Candidates {
     fn new(elements: &[i64]) -> Candidates {
-        let mut candidates = Candidates { items: VecDeque::new(), sum: 0, falling: VecDeque::new(), count: 0 };
+        let mut candidates = Candidates { items: VecDeque::new(), sum: 0, falling: VecDeque::new(), count: 0, size: elements.len() };
         for x in elements {
             candidates.push(*x);
         }
@@ -76,7 +80,7 @@ impl Candidates {
     }
 
     fn push(&mut self, x: i64) -> (Sum, Greatest) {
-        if self.items.len() == LAST {
+        if self.items.len() == self.size {
             self.sum = self.sum.wrapping_sub(self.items.pop_front().unwrap());
         }
         self.items.push_back(x);
@@ -86,7 +90,7 @@ impl Candidates {
         }
         self.count += 1;
         self.falling.push_back((self.count, x));
-        if self.falling[0].0 + LAST as u64 <= self.count {
+        if self.falling[0].0 + self.size as u64 <= self.count {
             self.falling.pop_front();
         }
         (Sum(self.sum), Greatest(self.falling[0].1))
