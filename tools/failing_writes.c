@@ -2,13 +2,15 @@
    `steps` build it.
 
    FAILING_FILE    the end of the file's name, for calls by a descriptor; any file but the standard streams where it isn't given
-   FAILING_CALL    which calls are counted: write, sync (fsync and fdatasync), or any (these and ftruncate, fchmod, link, rename, unlink)
+   FAILING_CALL    which calls are counted: write, fsync, fdatasync, sync (both), flock, ftruncate, fchmod, link, rename, unlink, or any of these but flock
    FAILING_AT      the number of the call, counted from 1
    FAILING_HOW     an error's number, or
                      0   a write takes half of the bytes
                     -1   a write does so, and the next call fails (ENOSPC)
                     -2   a write takes nothing and says that it took all
                     -3   the program is killed before the call
+                    -4   nothing goes wrong
+   FAILING_RUNS    a command that runs before the call, if it is given
    FAILING_TOLD    a file that is made when the call comes */
 #define _GNU_SOURCE
 #include <dlfcn.h>
@@ -19,6 +21,7 @@
 #include <stdio.h>
 #include <stdlib.h>
 #include <string.h>
+#include <sys/stat.h>
 #include <unistd.h>
 
 static atomic_long calls;
@@ -42,7 +45,9 @@ static int is_watched(int fd)
 static int is_counted(const char *call)
 {
     const char *which = getenv("FAILING_CALL");
-    return which && (strcmp(which, "any") == 0 || strcmp(which, call) == 0);
+    if (!which || strcmp(which, call) == 0)
+        return which != NULL;
+    return (strcmp(which, "sync") == 0 && strstr(call, "sync")) || (strcmp(which, "any") == 0 && strcmp(call, "flock") != 0);
 }
 
 /* The error's number, or what stands in its place. */
@@ -55,11 +60,13 @@ static int how(void)
 /* Counts a call of a sort, by a descriptor or by a name (-1). How many calls after the one that is to go wrong it is, or a negative number. */
 static long since_due(const char *call, int fd)
 {
-    const char *at = getenv("FAILING_AT"), *told = getenv("FAILING_TOLD");
+    const char *at = getenv("FAILING_AT"), *told = getenv("FAILING_TOLD"), *runs = getenv("FAILING_RUNS");
     int kept = errno;
     long since = at && is_counted(call) && (fd < 0 || is_watched(fd)) ? atomic_fetch_add(&calls, 1) + 1 - atol(at) : -1;
     if (since == 0 && told)
         close(open(told, O_CREAT | O_WRONLY, 0600));
+    if (since == 0 && runs && (unsetenv("LD_PRELOAD"), system(runs)) != 0)
+        _exit(77);
     if (since == 0 && how() == -3)
         kill(getpid(), SIGKILL);
     errno = kept;
@@ -69,23 +76,21 @@ static long since_due(const char *call, int fd)
 /* Whether this call is to fail, by which error. */
 static int fails(const char *call, int fd)
 {
-    if (since_due(call, fd) != 0)
+    if (since_due(call, fd) != 0 || how() == -4)
         return 0;
     errno = how();
     return 1;
 }
 
-#define REAL(name, result, ...) ((result(*)(__VA_ARGS__))dlsym(RTLD_NEXT, name))
-
 ssize_t write(int fd, const void *bytes, size_t count)
 {
-    ssize_t (*real)(int, const void *, size_t) = REAL("write", ssize_t, int, const void *, size_t);
+    ssize_t (*real)(int, const void *, size_t) = (ssize_t (*)(int, const void *, size_t))dlsym(RTLD_NEXT, "write");
     long since = since_due("write", fd);
     if (since == 1 && how() == -1) {
         errno = ENOSPC;
         return -1;
     }
-    if (since != 0)
+    if (since != 0 || how() == -4)
         return real(fd, bytes, count);
     if (how() == -2)
         return (ssize_t)count;
@@ -95,42 +100,16 @@ ssize_t write(int fd, const void *bytes, size_t count)
     return -1;
 }
 
-int fsync(int fd)
-{
-    return fails("sync", fd) ? -1 : REAL("fsync", int, int)(fd);
-}
+/* A call that fails or goes on: its name, its sort, its descriptor, its parameters and what it is handed. */
+#define CALL(name, sort, fd, parameters, ...) \
+    int name parameters { return fails(sort, fd) ? -1 : ((int(*) parameters)dlsym(RTLD_NEXT, #name))(__VA_ARGS__); }
 
-int fdatasync(int fd)
-{
-    return fails("sync", fd) ? -1 : REAL("fdatasync", int, int)(fd);
-}
-
-int ftruncate(int fd, off_t length)
-{
-    return fails("ftruncate", fd) ? -1 : REAL("ftruncate", int, int, off_t)(fd, length);
-}
-
-int ftruncate64(int fd, off64_t length)
-{
-    return fails("ftruncate", fd) ? -1 : REAL("ftruncate64", int, int, off64_t)(fd, length);
-}
-
-int fchmod(int fd, mode_t mode)
-{
-    return fails("fchmod", fd) ? -1 : REAL("fchmod", int, int, mode_t)(fd, mode);
-}
-
-int link(const char *from, const char *to)
-{
-    return fails("link", -1) ? -1 : REAL("link", int, const char *, const char *)(from, to);
-}
-
-int rename(const char *from, const char *to)
-{
-    return fails("rename", -1) ? -1 : REAL("rename", int, const char *, const char *)(from, to);
-}
-
-int unlink(const char *name)
-{
-    return fails("unlink", -1) ? -1 : REAL("unlink", int, const char *)(name);
-}
+CALL(fsync, "fsync", fd, (int fd), fd)
+CALL(fdatasync, "fdatasync", fd, (int fd), fd)
+CALL(flock, "flock", fd, (int fd, int how), fd, how)
+CALL(ftruncate, "ftruncate", fd, (int fd, off_t length), fd, length)
+CALL(ftruncate64, "ftruncate", fd, (int fd, off64_t length), fd, length)
+CALL(fchmod, "fchmod", fd, (int fd, mode_t mode), fd, mode)
+CALL(link, "link", -1, (const char *from, const char *to), from, to)
+CALL(rename, "rename", -1, (const char *from, const char *to), from, to)
+CALL(unlink, "unlink", -1, (const char *name), name)

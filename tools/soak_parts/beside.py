@@ -1,22 +1,19 @@
-"""Parts that set what is answered beside a plain program's answers: lines, sessions, notes, seats, a board, a window."""
-import os
+"""Parts that set what is answered beside a plain program's answers: lines, sessions, seats, a board, a window."""
 import random
 import subprocess
 import time
 
-from soak_parts.program import PROGRAM, SEED, TOP, session, stop, told
+from soak_parts.program import PROGRAM, SEED, knob, put, receipts, session, stop, told, whole_lines
+from programs import plain, prove, proved
 
-LINES = int(os.environ.get("SOAK_LINES", "10000000"))
-TURNS = int(os.environ.get("SOAK_TURNS", "100000000"))
+LINES, TURNS = knob("SOAK_LINES", 10000000), knob("SOAK_TURNS", 100000000)
 
 
 def lines(room):
     """The replies of a long script are those of a plain program, byte for byte."""
-    for name in ("lines", "script"):
-        subprocess.run(["rustc", "-O", "-o", f"{room}/{name}", f"{TOP}/bench/{name}.rs"], check=True)
     with open(f"{room}/asked", "wb") as asked:
-        subprocess.run([f"{room}/lines", str(LINES)], stdout=asked, check=True)
-    for words, name in (([PROGRAM, "run"], "ours"), ([f"{room}/script"], "plain")):
+        subprocess.run([plain("feeds", room), "lines", str(LINES)], stdout=asked, check=True)
+    for words, name in (([PROGRAM, "run"], "ours"), ([plain("script", room)], "plain")):
         began = time.time()
         with open(f"{room}/asked", "rb") as asked, open(f"{room}/{name}", "wb") as replies:
             subprocess.run(words, stdin=asked, stdout=replies, check=True)
@@ -31,15 +28,13 @@ def sessions(room):
     dice = random.Random(SEED)
     files = [f"{room}/session{k}" for k in range(16)]
     for file in files:
-        open(file, "w").write(session(dice, 5000))
+        put(session(dice, 5000), file)
     served = told(["serve", "--workers", "8", "--turns", "100000", *files])
     if served.returncode:
         stop(f"serve ended with {served.returncode}: {served.stderr!r}")
-    replies = [line for file in files for line in open(f"{file}.out").read().splitlines()]
-    numbers = sorted(int(line.split()[1]) for line in replies if line.startswith("edit "))
-    answers = sum(line.startswith("at ") for line in replies)
+    answers = sum(line.startswith("at ") for file in files for line in whole_lines(f"{file}.out"))
     journal = served.stdout.count(b"\nj ")
-    if numbers != list(range(1, journal + 1)):
+    if receipts(f"{file}.out" for file in files) != list(range(1, journal + 1)):
         stop("the receipts are not the numbers of the transcript's edits, each once")
     if served.stdout.count(b"\na ") != answers:
         stop("the transcript has not each answer once")
@@ -49,19 +44,13 @@ def sessions(room):
     print(f"sessions: 16 with 8 workers: {journal} edits, each receipt once; {answers} answers; audit: yes")
 
 
-def notes(room):
-    """Subscribers beside sessions, compared with a plain model."""
-    if subprocess.run([f"{TOP}/tools/soak_notes", *map(str, range(SEED, SEED + 3))]).returncode:
-        stop("the notes' part failed")
-
-
 def seats(room):
     """Eight sessions at a board: the accepted edits are numbered from 1, each once, and each session sees its own numbers rise."""
     dice = random.Random(SEED)
     files = [f"{room}/seat{k}" for k in range(8)]
     for file in files:
         lines = [dice.choice((f"push {k % 30000}", "pop", f"write {dice.randrange(200)} {k % 99}", "size", "refresh 0", "reduce sum 0 8")) for k in range(20000)]
-        open(file, "w").write("\n".join(lines) + "\n")
+        put("\n".join(lines) + "\n", file)
     held = told(["board", *files])
     if held.returncode or held.stderr:
         stop(f"board ended with {held.returncode}: {held.stderr!r}")
@@ -76,17 +65,17 @@ def seats(room):
 
 
 def board(room):
-    """Eight threads at one board; the proved program of it is built first."""
-    if subprocess.run([f"{TOP}/tools/soak_board"]).returncode:
+    """Eight threads at one board try it a million times each; the proved program of it is built first, and stopped after five minutes."""
+    prove("soak")
+    if subprocess.run([proved("soak")], timeout=300).returncode:
         stop("the board's part failed")
 
 
 def window(room):
     """A window that slides over a series, beside a plain list; the proved program of it is built first. What all answers come to is one number."""
-    if subprocess.run([f"{TOP}/bench/run-window", "build"]).returncode:
-        stop("the window's program can't be built")
+    prove("window")
     for kept in (10_000, 3_000_000):
-        told = {subprocess.run([f"{TOP}/bench/out/{it}", str(TURNS), str(kept)], capture_output=True, text=True, check=True).stdout for it in ("proved/window/window", "window")}
-        if len(told) != 1:
-            stop(f"the answers differ: {told}")
-        print(f"window: {told.pop().strip()}")
+        told_by = {subprocess.run([it, str(TURNS), str(kept)], capture_output=True, text=True, check=True).stdout for it in (proved("window"), plain("peers", room))}
+        if len(told_by) != 1:
+            stop(f"the answers differ: {told_by}")
+        print(f"window: {told_by.pop().strip()}")

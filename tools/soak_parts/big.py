@@ -1,33 +1,22 @@
 """A part of a log of 3,000,000,000 bytes, which is audited, gone on with and compacted, and of a damaged byte near its end."""
 import os
 import random
-import runpy
 import shutil
-import subprocess
-import sys
 import time
 
 from soak_parts.paced import Paced
-from soak_parts.program import PROGRAM, SEED, TOP, stop
+from soak_parts.program import KINDS, PROGRAM, SEED, knob, measured, put, stop, value, whole_lines
 
-BYTES = int(os.environ.get("SOAK_BYTES", "3000000000"))
+BYTES = knob("SOAK_BYTES", 3000000000)
 # how many elements the log begins with, how many updates it has at most with these, and in how many rounds of updates and answers
 ELEMENTS, EDITS, ROUNDS = 1_000_000, 16_000_000, 150
 BASE = 5_000_000_000
-# the plain value of a kind, by one pass
-SERIES = runpy.run_path(f"{TOP}/tools/soak_series")
-value, KINDS = SERIES["value"], SERIES["KINDS"]
-# Runs a program, and writes its status and the most memory it held to a file: from a process of its own, since a fork counts what this one holds.
-HELD = "import os, subprocess, sys; ran = subprocess.Popen(sys.argv[2:]); _, ended, used = os.wait4(ran.pid, 0); print(os.waitstatus_to_exitcode(ended), used.ru_maxrss, file=open(sys.argv[1], 'w'))"
 
 
-def measured(room, words, log=None):
+def taken(words, room, asked=os.devnull):
     """What a run of the program prints and says, its status, and a text of its time and of the most memory it held."""
-    began = time.time()
-    with open(log or os.devnull, "rb") as asked:
-        ran = subprocess.run([sys.executable, "-c", HELD, f"{room}/held", PROGRAM, *words], stdin=asked, capture_output=True, text=True)
-    status, held = map(int, open(f"{room}/held").read().split())
-    return ran.stdout, ran.stderr, status, f"{time.time() - began:.0f} s and {held / 1024:.0f} MB"
+    printed, said, status, seconds, held = measured(words, room, asked)
+    return printed, said, status, f"{seconds:.0f} s and {held:.0f} MB"
 
 
 def edited(dice, elements, count):
@@ -115,17 +104,17 @@ def mended(path, at, old):
 def state(room, log):
     """Which files there are, and how the log is."""
     kept = os.stat(log)
-    return sorted(set(os.listdir(room)) - {"held"}), kept.st_ino, kept.st_size, kept.st_mtime_ns
+    return sorted(os.listdir(room)), kept.st_ino, kept.st_size, kept.st_mtime_ns
 
 
 def told_of_damage(room, log, lines, dice):
     """A damaged byte in the last megabyte is told by its line, by whatever reads the log, and no file changes."""
-    open(f"{room}/session", "w").write("push 1\n")
-    for words, asked in ((["audit", "--front"], log), (["serve", "--log", log, f"{room}/session"], None), (["compact", log], None)):
+    put("push 1\n", f"{room}/session")
+    for words, asked in ((["audit", "--front"], log), (["serve", "--log", log, f"{room}/session"], os.devnull), (["compact", log], os.devnull)):
         at, old, behind = damaged(log, dice)
         line, before = lines - behind + 1, state(room, log)
-        printed, said, status, took = measured(room, words, asked)
-        is_told = printed in (f"no {line}\n", f"bad {line}\n") and not said if asked else f"line {line} " in said and "livevec: fault 13\n" in said
+        printed, said, status, took = taken(words, room, asked)
+        is_told = printed in (f"no {line}\n", f"bad {line}\n") and not said if asked == log else f"line {line} " in said and "livevec: fault 13\n" in said
         if status != 1 or not is_told or state(room, log) != before:
             stop(f"{words} of a log with line {line} damaged: status {status}, {printed!r}, {said!r}")
         mended(log, at, old)
@@ -147,7 +136,7 @@ def gone_on(room, log, words, last, elements):
         first = time.time() - began if not turn else first
     held = next(int(line.split()[1]) for line in open(f"/proc/{server.process.pid}/status") if line.startswith("VmHWM:"))
     status, said = server.end()
-    replies = open(f"{room}/client.out").read().splitlines()
+    replies = whole_lines(f"{room}/client.out")
     if status or said or replies != [reply for _, reply in edits]:
         stop(f"serve --log ended with {status}, {said!r}, {replies[:3]}")
     os.remove(f"{room}/client")
@@ -164,14 +153,14 @@ def big(room):
     edits, answers, elements = made(log)
     last, lines = BASE + edits, 1 + ELEMENTS + edits + answers
     print(f"big: made {os.path.getsize(log)} bytes in {time.time() - began:.0f} s: {ELEMENTS} elements, {edits} updates, {answers} answers, {lines} lines", flush=True)
-    printed, said, status, took = measured(room, ["audit", "--front"], log)
+    printed, said, status, took = taken(["audit", "--front"], room, log)
     if printed != f"log {BASE} base {ELEMENTS} elements {edits} edits {answers} answers\n" or status or said:
         stop(f"audit --front ended with {status}, {printed!r}, {said!r}")
     print(f"big: audit --front: {took}", flush=True)
     told_of_damage(room, log, lines, random.Random(SEED))
     # at most so long it isn't made anew: compact is to read it whole
     last = gone_on(room, log, ["serve", "--compact-at", "4000000000"], last, elements)
-    printed, said, status, took = measured(room, ["compact", "--drop-old", log])
+    printed, said, status, took = taken(["compact", "--drop-old", log], room)
     if printed != f"compacted '{log}': {last} base {len(elements)} elements, what it was is dropped\n" or status or said:
         stop(f"compact ended with {status}, {printed!r}, {said!r}")
     with open(log) as kept:

@@ -2,20 +2,25 @@
 import os
 import random
 import shutil
-import signal
 import subprocess
 import time
 from concurrent.futures import ThreadPoolExecutor
 
-from soak_parts.program import PROGRAM, ROUNDS, SEED, session, size_after, stop, told, whole_lines
+from soak_parts.logs import SIGNALS
+from soak_parts.program import PROGRAM, ROUNDS, SEED, knob, made_by, put, session, stop, told, whole_lines
 
-KILLS = int(os.environ.get("SOAK_KILLS", "200"))
+KILLS = knob("SOAK_KILLS", 200)
+
+
+def size_of(edits):
+    """How many elements the lines of some edits leave."""
+    return len(made_by(line[2:] for line in edits))
 
 
 def killed(room):
     """A process that is killed leaves whole lines, but where the system cut a write, which it does at the end of a page."""
     dice, some, cut = random.Random(SEED), 0, 0
-    open(f"{room}/long", "w").write(session(dice, 200000))
+    put(session(dice, 200000), f"{room}/long")
     for turn in range(40):
         for words, out in (([PROGRAM, "run"], f"{room}/run.out"), ([PROGRAM, "serve", f"{room}/long"], f"{room}/long.out"), ([PROGRAM, "board", f"{room}/long"], f"{room}/long.out")):
             if os.path.exists(out):
@@ -46,7 +51,7 @@ def kill_one(room, turn):
     while turn % 8 and process.poll() is None and not (os.path.exists(f"{folder}/kept") and os.path.getsize(f"{folder}/kept")):
         time.sleep(0.001)
     time.sleep(dice.random() * 0.4)
-    process.send_signal(dice.choice((signal.SIGKILL, signal.SIGTERM, signal.SIGINT)))
+    process.send_signal(dice.choice(SIGNALS))
     process.wait()
     lines_of, told_of = whole_lines(f"{folder}/kept"), [line for name in names for line in whole_lines(f"{name}.out")]
     edits, answers = sum(line.startswith("j ") for line in lines_of), sum(line.startswith("a ") for line in lines_of)
@@ -58,7 +63,7 @@ def kill_one(room, turn):
         stop("a reply tells of an edit or an answer that the transcript of a killed session lacks")
     open(f"{folder}/kept", "ab").close()
     restored = told(["restore", f"{folder}/kept"], b"size\n").stdout.decode()
-    if restored != f"size {size_after([line for line in lines_of if line.startswith('j ')])} edit {edits}\n":
+    if restored != f"size {size_of(line for line in lines_of if line.startswith('j '))} edit {edits}\n":
         stop(f"a killed session of {edits} edits was restored as {restored!r}")
     shutil.rmtree(folder)
     return edits + answers, process.returncode == 0
@@ -68,8 +73,7 @@ def kills(room):
     """What is killed leaves a front, with all that was replied before, and is gone on from. Four at a time are killed."""
     dice = random.Random(SEED)
     for name in ("a", "b", "c"):
-        with open(f"{room}/{name}", "w") as script:
-            script.write(session(dice, 100000))
+        put(session(dice, 100000), f"{room}/{name}")
     ended = []
     with ThreadPoolExecutor(4) as lanes:
         # a kill that came after the end is no kill: another is tried in its place
@@ -98,8 +102,7 @@ def fronts(room):
     """A transcript that is cut anywhere is a front, and a vector is restored from it."""
     dice = random.Random(SEED)
     for name in ("a", "b"):
-        with open(f"{room}/{name}", "w") as script:
-            script.write(session(dice, 3000))
+        put(session(dice, 3000), f"{room}/{name}")
     whole = told(["serve", f"{room}/a", f"{room}/b"]).stdout.decode()
     for text in (whole, in_time(whole)):
         for _ in range(ROUNDS):
@@ -110,10 +113,9 @@ def fronts(room):
             verdict = told(["audit", "--front"], cut.encode())
             if verdict.stdout.decode() != f"front {len(edits)} edits {answers} answers\n" or verdict.returncode:
                 stop(f"a front of {len(edits)} edits and {answers} answers was called {verdict.stdout!r}")
-            with open(f"{room}/front", "w") as front:
-                front.write(cut)
+            put(cut, f"{room}/front")
             restored = told(["restore", f"{room}/front"], b"size\npush 7\n").stdout.decode()
-            size = size_after(edits)
+            size = size_of(edits)
             if restored != f"size {size} edit {len(edits)}\nedit {len(edits) + 1} at {size}\n":
                 stop(f"a front of {len(edits)} edits was restored as {restored!r}")
     print(f"fronts: {2 * ROUNDS} cut anywhere, each counted and gone on from")

@@ -3,31 +3,25 @@ import errno
 import os
 import random
 import shutil
-import subprocess
 from concurrent.futures import ProcessPoolExecutor
 
 from soak_parts.logs import QUERIES, Log, check_log
 from soak_parts.paced import Paced
-from soak_parts.program import PROGRAM, SEED, TOP, session, stop
+from soak_parts.program import PROGRAM, SEED, failing, knob, library, put, ran, session, stop
 
-FAULTS = int(os.environ.get("SOAK_FAULTS", "200"))
-# what the library knows besides the errors' numbers: a write that takes half of its bytes, one after which the next fails, one that takes
-# none and says that it took all, and a kill before the call
-SHORT, TORN, DROPPED, KILLED = 0, -1, -2, -3
+FAULTS = knob("SOAK_FAULTS", 200)
+# what the library knows besides the errors' numbers: a write that takes half of its bytes, one after which the next fails, and one that
+# takes none and says that it took all
+SHORT, TORN, DROPPED = 0, -1, -2
 KINDS = [("write", how) for how in (errno.ENOSPC, errno.EIO, SHORT, TORN, errno.EINTR, errno.EAGAIN)] + [("sync", how) for how in (errno.EIO, errno.ENOSPC, errno.EINTR)]
 PASSING = (SHORT, errno.EINTR, errno.EAGAIN)
-
-
-def library(room):
-    """Builds the library by which calls go wrong."""
-    subprocess.run(["cc", "-shared", "-fPIC", "-O2", "-Wall", "-o", f"{room}/failing.so", f"{TOP}/tools/failing_writes.c", "-ldl"], check=True)
 
 
 def words_of(case, folder, names):
     """The command of a run: with --sync if flushes go wrong and in half of the other runs, with --log-answers in half of all."""
     call, how, at = case
     is_synced = call == "sync" or at % 2 == 0
-    return [PROGRAM, "serve", "--log", f"{folder}/log", "--watch", f"{folder}/w", *names] + ["--sync"] * is_synced + ["--log-answers"] * (at % 4 > 1)
+    return ["serve", "--log", f"{folder}/log", "--watch", f"{folder}/w", *names] + ["--sync"] * is_synced + ["--log-answers"] * (at % 4 > 1)
 
 
 def served_in_turns(case, server, dice):
@@ -51,8 +45,7 @@ def fault_one(room, case):
     names, log = [f"{folder}/{name}" for name in ("a", "b")], f"{folder}/log"
     outs = [f"{name}.out" for name in names + [f"{folder}/w"]]
     words = words_of(case, folder, names)
-    injected = {"LD_PRELOAD": f"{room}/failing.so", "FAILING_FILE": "/log", "FAILING_CALL": call, "FAILING_AT": str(at), "FAILING_HOW": str(how), "FAILING_TOLD": f"{folder}/told"}
-    server = Paced(words, folder, names, {**os.environ, **injected})
+    server = Paced([PROGRAM, *words], folder, names, failing(room, call, at, how, file="/log", told=f"{folder}/told"))
     is_whole = served_in_turns(case, server, random.Random(f"{SEED} {case}"))
     is_told, came = server.has_said(), os.path.exists(f"{folder}/told")
     status, said = server.end()
@@ -76,7 +69,7 @@ def gone_on(case, room, words, names, log, outs):
     for name in names:
         os.remove(name)
         shutil.copy(f"{room}/{os.path.basename(name)}", name)
-    again = subprocess.run(words, capture_output=True, timeout=600)
+    again = ran(words)
     if again.returncode or again.stdout or again.stderr and not again.stderr.endswith(b"cut off\n"):
         stop(f"{case}: then status {again.returncode}, {again.stderr!r}")
     after = check_log(log, outs, before)
@@ -88,8 +81,8 @@ def faults(room):
     """One write or one flush of a log goes wrong, each of the first in turn: no reply tells of what the log hasn't got."""
     dice = random.Random(SEED)
     for name in ("a", "b"):
-        open(f"{room}/{name}", "w").write("push 1\n" + session(dice, 25))
-    open(f"{room}/w", "w").write(QUERIES)
+        put("push 1\n" + session(dice, 25), f"{room}/{name}")
+    put(QUERIES, f"{room}/w")
     library(room)
     cases = [(call, how, at) for call, how in KINDS for at in range(1, FAULTS + 1)]
     with ProcessPoolExecutor(4) as lanes:

@@ -4,9 +4,9 @@ import random
 import shutil
 import subprocess
 
-from soak_parts.program import PROGRAM, ROUNDS, SEED, TOP, session, stop, told
+from soak_parts.program import PROGRAM, ROUNDS, SEED, TOP, knob, put, session, stop, told
 
-LINKS = int(os.environ.get("SOAK_LINKS", "500"))
+LINKS = knob("SOAK_LINKS", 500)
 
 
 def damaged(dice, text):
@@ -91,7 +91,7 @@ def trap(dice, room, folder):
         os.link(at(dice.choice((own, other))), at(f"{own}.out"))
         return [command, name(own), name(other)], None
     if kind == 4:
-        open(at(f"{own}.out"), "w").write("replies of before\n")
+        put("replies of before\n", at(f"{own}.out"))
         os.link(at(f"{own}.out"), at(f"{other}.out"))
         return [command, name(own), name(other)], None
     if kind == 5:
@@ -119,13 +119,13 @@ def links(room):
         folder = f"room{turn}"
         os.makedirs(f"{room}/{folder}/sub")
         for file in ("a", "b", "c", "kept"):
-            open(f"{room}/{folder}/{file}", "w").write(session(dice, 5))
+            put(session(dice, 5), f"{room}/{folder}/{file}")
         words, sent = trap(dice, room, folder)
         out = open(sent, "ab") if sent else subprocess.DEVNULL
         before = files_of(f"{room}/{folder}")
-        ran = subprocess.run([PROGRAM, *words], stdin=subprocess.DEVNULL, stdout=out, stderr=subprocess.PIPE, cwd=f"{room}/{folder}", timeout=60)
-        if ran.returncode != 2 or not ran.stderr:
-            stop(f"{words} with standard output to {sent} ended with {ran.returncode}: {ran.stderr[:200]!r}")
+        it = subprocess.run([PROGRAM, *words], stdin=subprocess.DEVNULL, stdout=out, stderr=subprocess.PIPE, cwd=f"{room}/{folder}", timeout=60)
+        if it.returncode != 2 or not it.stderr:
+            stop(f"{words} with standard output to {sent} ended with {it.returncode}: {it.stderr[:200]!r}")
         if files_of(f"{room}/{folder}") != before:
             stop(f"{words} with standard output to {sent} changed a file")
     print(f"links: {LINKS} inputs whose outputs are links, inputs or each other: each a usage fault, and every file as it was")

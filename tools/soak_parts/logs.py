@@ -5,9 +5,10 @@ import signal
 import subprocess
 import time
 
-from soak_parts.program import PROGRAM, SEED, session, stop, told, whole_lines
+from soak_parts.program import PROGRAM, SEED, knob, made_by, put, session, stop, told, whole_lines
 
-KILLS = int(os.environ.get("SOAK_KILLS", "100"))
+KILLS = knob("SOAK_KILLS", 100)
+SIGNALS = (signal.SIGKILL, signal.SIGTERM, signal.SIGINT)
 QUERIES = "".join(f"watch {kind} {kind} last 50\n" for kind in ("sum", "least", "greatest", "best")) + "watch all sum 0 1000000\n"
 
 
@@ -32,21 +33,7 @@ class Log:
 
     def list(self):
         """The elements after its updates, by a plain list."""
-        made = []
-        for edit in self.edits:
-            what, *numbers = edit.split()
-            numbers = [int(word) for word in numbers]
-            if what == "push":
-                made.append(numbers[0])
-            elif what == "pop":
-                made.pop()
-            elif what == "write":
-                made[numbers[0]] = numbers[1]
-            elif what == "swap":
-                made[numbers[0]], made[numbers[1]] = made[numbers[1]], made[numbers[0]]
-            elif what == "truncate":
-                del made[numbers[0]:]
-        return made
+        return made_by(self.edits)
 
 
 MADE = {"at": "push", "value": "pop", "was": "write", "capacity": "reserve", "now": "swap", "dropped": "truncate"}
@@ -70,7 +57,8 @@ def check_log(path, outs, before, is_audited=True):
         for line in whole_lines(out):
             words = line.split()
             if words[0] == "edit":
-                if int(words[1]) > log.last() or not log.edit(int(words[1])).startswith(MADE[words[2]]):
+                # what was made anew no longer tells of the updates up to its base
+                if int(words[1]) > log.last() or int(words[1]) > log.base and not log.edit(int(words[1])).startswith(MADE[words[2]]):
                     stop(f"{out} tells of {line!r}, which the log hasn't: its last is {log.last()}")
                 seen.append(int(words[1]))
             elif words[0] == "at" and int(words[1]) > log.last():
@@ -102,6 +90,12 @@ def compact(room, dice, took):
     return status != 0
 
 
+def check_end(process, printed, said):
+    """Sees that a server with a log ended well or by a signal, and said nothing but that a line was cut off."""
+    if process.returncode > 0 or printed or said.count(b"\n") != said.count(b"cut off\n"):
+        stop(f"serve --log ended with {process.returncode}, after {printed[:100]!r} and {said[:200]!r}")
+
+
 class Chain:
     """A log that one server after the other goes on with, and what was tried and seen."""
 
@@ -111,7 +105,7 @@ class Chain:
         self.outs = [f"{name}.out" for name in self.names + [self.watched]]
         self.sessions = ["truncate 100\n" + session(self.dice, 60000) for _ in range(6)]
         self.runs = self.kills = self.synced = self.ends = self.updates = self.told = self.highest = 0
-        open(self.watched, "w").write(QUERIES)
+        put(QUERIES, self.watched)
 
     def size(self):
         return os.path.getsize(self.log) if os.path.exists(self.log) else 0
@@ -119,7 +113,7 @@ class Chain:
     def serve(self):
         """Has a server go on with the log, kills it at some moment by one of three signals, and sees what the log has."""
         for name, lines in zip(self.names, self.dice.sample(self.sessions, 2)):
-            open(name, "w").write(lines)
+            put(lines, name)
         before, size, is_synced = Log(self.log).last(), self.size(), self.runs % 2
         if before < self.highest:
             stop(f"update {self.highest} was told of, and the log's last is {before}")
@@ -130,17 +124,15 @@ class Chain:
         while process.poll() is None and self.size() <= size + more:
             time.sleep(0.0005)
         time.sleep(self.dice.random() * 0.02)
-        process.send_signal(self.dice.choice((signal.SIGKILL, signal.SIGTERM, signal.SIGINT)))
+        process.send_signal(self.dice.choice(SIGNALS))
         printed, said = process.communicate()
-        if process.returncode > 0 or printed or said.count(b"\n") != said.count(b"cut off\n"):
-            stop(f"serve --log ended with {process.returncode}, after {printed[:100]!r} and {said[:200]!r}")
+        check_end(process, printed, said)
         is_killed = process.returncode < 0
         self.runs, self.kills, self.synced, self.ends = self.runs + 1, self.kills + is_killed, self.synced + (is_killed and is_synced), self.ends + (not is_killed)
         if os.path.exists(self.log):
             kept = check_log(self.log, self.outs, before)
             self.updates, self.told, self.highest = self.updates + kept.last() - before, self.told + len(kept.told), max([self.highest, *kept.told])
-        for out in self.outs:
-            open(out, "w").close()
+        put("", *self.outs)
 
 
 def logs(room):

@@ -3,29 +3,21 @@ import os
 import random
 import resource
 import subprocess
-import sys
 
-from soak_parts.program import PROGRAM, SEED, TOP, session, stop, told, whole_lines
+from soak_parts.program import SEED, TOP, measured, put, ran, session, stop, told, whole_lines
 
-# Runs a program and prints its status and the most memory it held: from a process of its own, since a fork counts what this one holds.
-HELD = "import os, subprocess, sys; ran = subprocess.Popen(sys.argv[1:], stderr=subprocess.DEVNULL); _, ended, used = os.wait4(ran.pid, 0); print(os.waitstatus_to_exitcode(ended), used.ru_maxrss, file=sys.stderr)"
-
-
-def most_held(words, room, asked, status=0):
+def most_held(words, room, asked=os.devnull):
     """How many MB a run of the program holds at most."""
-    with open(asked, "rb") as script, open(f"{room}/said", "wb") as said:
-        ran = subprocess.run([sys.executable, "-c", HELD, PROGRAM, *words], stdin=script, stdout=said, stderr=subprocess.PIPE, cwd=room, check=True)
-    ended, held = map(int, ran.stderr.split())
-    if ended != status:
-        stop(f"{words} ended with {ended}")
-    return held / 1024
+    _, said, status, _, held = measured(words, room, asked)
+    if status:
+        stop(f"{words} ended with {status}: {said!r}")
+    return held
 
 
 def pairs(room):
     """A job that is claimed and forgotten leaves next to nothing."""
-    with open(f"{room}/few", "w") as few, open(f"{room}/many", "w") as many:
-        for script, count in ((few, 10), (many, 300000)):
-            script.write("push 1\n" * 8 + "claim\nforget\n" * count)
+    for name, count in (("few", 10), ("many", 300000)):
+        put("push 1\n" * 8 + "claim\nforget\n" * count, f"{room}/{name}")
     few, many = (most_held(["run"], room, f"{room}/{name}") for name in ("few", "many"))
     if many > 50:
         stop(f"{many:.0f} MB are held for 300000 claims, where 50 are wanted")
@@ -35,9 +27,8 @@ def pairs(room):
 def answers(room):
     """What is kept of answers is bounded where that is asked for."""
     for name, count in (("few", 2000), ("more", 2000), ("a", 300000), ("b", 300000)):
-        with open(f"{room}/{name}", "w") as script:
-            script.write("push 1\n" + "reduce sum 0 1\n" * count)
-    held = [most_held(["serve", *words], room, os.devnull) for words in (["few", "more"], ["--answers", "1000", "a", "b"], ["a", "b"], ["--transcript", "kept", "a", "b"])]
+        put("push 1\n" + "reduce sum 0 1\n" * count, f"{room}/{name}")
+    held = [most_held(["serve", *words], room) for words in (["few", "more"], ["--answers", "1000", "a", "b"], ["a", "b"], ["--transcript", "kept", "a", "b"])]
     if held[1] > held[0] + 4:
         stop(f"{held[1]:.0f} MB are held where 1000 answers are kept, and {held[0]:.0f} MB for 2000")
     print("answers: two sessions of 300000 reductions each: {1:.0f} MB at most with 1000 answers kept, {2:.0f} MB with all, {3:.0f} MB with a transcript, and {0:.0f} MB for 2000 each".format(*held))
@@ -46,14 +37,14 @@ def answers(room):
 def limited(words, room, most):
     """A run of the program with at most so many bytes of memory."""
     limit = lambda: resource.setrlimit(resource.RLIMIT_AS, (most, most))
-    return subprocess.run([PROGRAM, *words], stdin=subprocess.DEVNULL, capture_output=True, cwd=room, timeout=600, preexec_fn=limit)
+    return ran(words, room, preexec_fn=limit)
 
 
 def narrow(room):
     """Memory gives out while two sessions are served, and neither their beginning nor their end needs more. Threads that find room for their stacks leave them other amounts."""
     dice = random.Random(SEED)
     for name, count in (("a", 300000), ("b", 300000), ("few", 20), ("more", 20)):
-        open(f"{room}/{name}", "w").write(session(dice, count))
+        put(session(dice, count), f"{room}/{name}")
     low, high = 0, 1 << 34
     while high - low > 1 << 16:
         most = (low + high) // 2
@@ -64,14 +55,14 @@ def narrow(room):
 
 def narrowed(room, least, more):
     """Two sessions with so many MB beyond the least: each line is answered, and both transcripts are whole."""
-    ran = limited(["serve", "--transcript", "kept", "a", "b"], room, least + (more << 20))
+    served = limited(["serve", "--transcript", "kept", "a", "b"], room, least + (more << 20))
     replies = [line for name in ("a", "b") for line in whole_lines(f"{room}/{name}.out")]
     edits, answers = (sum(line.startswith(word) for line in replies) for word in ("edit ", "at "))
     refused = replies.count("refused 6")
-    if ran.returncode or len(replies) != 600000 or not refused:
-        stop(f"serve with {more} MB ended with {ran.returncode}, after {len(replies)} replies, {refused} of them refused for want of memory: {ran.stderr!r}")
+    if served.returncode or len(replies) != 600000 or not refused:
+        stop(f"serve with {more} MB ended with {served.returncode}, after {len(replies)} replies, {refused} of them refused for want of memory: {served.stderr!r}")
     kept = open(f"{room}/kept", "rb").read()
-    for text, words, says in ((ran.stdout, ["audit"], b"yes\n"), (kept, ["audit", "--front"], f"front {edits} edits {answers} answers\n".encode())):
+    for text, words, says in ((served.stdout, ["audit"], b"yes\n"), (kept, ["audit", "--front"], f"front {edits} edits {answers} answers\n".encode())):
         verdict = told(words, text)
         if verdict.stdout != says or not text.endswith(b"\nend\n") or text.count(b"\nj ") != edits or text.count(b"\na ") != answers:
             stop(f"{words} said {verdict.stdout!r} of a transcript of {edits} edits and {answers} answers, which ends with {text[-40:]!r}")

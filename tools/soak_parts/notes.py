@@ -1,5 +1,4 @@
-#!/usr/bin/env python3
-"""Has four subscribers of 64 names each told beside 16 sessions and 8 workers, and compares each note with a plain model: soak_notes [SEED..].
+"""The part `notes`: four subscribers of 64 names each are told beside 16 sessions and 8 workers, and each note is compared with a plain model.
 
 The model plays the transcript's journal. A note at edit E must be the plain value of its question after E edits, and another than that name was told
 last; a name that isn't told at E must have there what it was told last; edits rise; and after the last note each name's answer at the end is as told.
@@ -8,29 +7,18 @@ At last one subscriber's file may not grow on, by a limit that the system has fo
 import os
 import random
 import resource
-import runpy
-import shutil
 import subprocess
-import sys
-import tempfile
 import time
 from concurrent.futures import ProcessPoolExecutor
 from itertools import groupby
 
-TOP = os.path.dirname(os.path.dirname(os.path.abspath(__file__)))
-PROGRAM = os.environ.get("SOAK_PROGRAM", f"{TOP}/crates/livevec/out/livevec")
-LINES = int(os.environ.get("SOAK_NOTED", "100000"))
-# the plain value of a kind, by one pass
-SERIES = runpy.run_path(f"{TOP}/tools/soak_series")
-value, KINDS = SERIES["value"], SERIES["KINDS"]
+from soak_parts.program import KINDS, PROGRAM, SEED, knob, make, put, ran, receipts, stop, text_at, told, value
+
+LINES = knob("SOAK_NOTED", 100000)
 SUBSCRIBERS = ("watch0", "watch1", "watch2", "watch3")
 
 
-class Wrong(Exception):
-    """What is not as promised."""
-
-
-def session(dice, count):
+def lines_of(dice, count):
     """Lines of a session: sixteen of them leave some thousand elements."""
     made = []
     for _ in range(count):
@@ -64,22 +52,6 @@ def asked(some):
     return "".join(f"watch {name} {kind} {low} {high}\n" for name, kind, low, high in some)
 
 
-def play(xs, edit):
-    """Makes an edit of the journal, as its line says."""
-    verb, *words = edit.split()
-    n = [int(word) for word in words]
-    if verb == "push":
-        xs.append(n[0])
-    elif verb == "pop":
-        xs.pop()
-    elif verb == "write":
-        xs[n[0]] = n[1]
-    elif verb == "swap":
-        xs[n[0]], xs[n[1]] = xs[n[1]], xs[n[0]]
-    elif verb == "truncate":
-        del xs[n[0]:]
-
-
 class Model:
     """Some questions beside the elements, and what each was told last: at first its value of nothing."""
 
@@ -91,9 +63,9 @@ class Model:
 
     def play_to(self, journal, edit):
         if not self.edit < edit <= len(journal):
-            raise Wrong(f"edit {edit} comes after {self.edit}, and there are {len(journal)}")
+            stop(f"notes: edit {edit} comes after {self.edit}, and there are {len(journal)}")
         for line in journal[self.edit:edit]:
-            play(self.xs, line)
+            make(self.xs, line)
         self.edit = edit
 
     def now(self, name, kind, low, high):
@@ -108,7 +80,7 @@ class Model:
         wanted = [(question[0], self.now(*question)) for question in self.questions]
         wanted = [(name, what) for name, what in wanted if what != self.told[name]]
         if notes != (wanted if is_all else wanted[:len(notes)]):
-            raise Wrong(f"at {self.edit} the notes are {notes[:3]} and so on, wanted {wanted[:3]}")
+            stop(f"at {self.edit} the notes are {notes[:3]} and so on, wanted {wanted[:3]}")
         self.told.update(notes)
 
 
@@ -116,7 +88,7 @@ def compare(journal, some, text, is_whole):
     """Compares what a subscriber was told with the model; says how many notes there were, at how many edits."""
     lines = [line.split(" ", 3) for line in text[:text.rfind("\n") + 1].splitlines()]
     if any(len(words) != 4 or words[0] != "at" for words in lines) or (is_whole and text and not text.endswith("\n")):
-        raise Wrong("a line is no note")
+        stop("a line is no note")
     model = Model(some)
     groups = [(int(edit), [(words[2], words[3]) for words in group]) for edit, group in groupby(lines, lambda words: words[1])]
     for n, (edit, notes) in enumerate(groups, 1):
@@ -128,20 +100,13 @@ def compare(journal, some, text, is_whole):
     return len(lines), len(groups)
 
 
-def read(path):
-    with open(path) as file:
-        return file.read()
-
-
 def journal_of(transcript, files):
     """The edits of a transcript that is audited, once it is known that the sessions' receipts are their numbers, each once."""
-    audited = subprocess.run([PROGRAM, "audit"], input=transcript, capture_output=True, text=True)
-    if audited.stdout != "yes\n":
-        raise Wrong(f"the transcript's audit: {audited.stdout!r} {audited.stderr!r}")
+    if told(["audit"], transcript.encode()).stdout != b"yes\n":
+        stop("the transcript's audit isn't yes")
     journal = [line[2:] for line in transcript.splitlines() if line.startswith("j ")]
-    numbers = sorted(int(line.split()[1]) for file in files for line in read(f"{file}.out").splitlines() if line.startswith("edit "))
-    if numbers != list(range(1, len(journal) + 1)):
-        raise Wrong("the receipts are not the numbers of the transcript's edits, each once")
+    if receipts(f"{file}.out" for file in files) != list(range(1, len(journal) + 1)):
+        stop("the receipts are not the numbers of the transcript's edits, each once")
     return journal
 
 
@@ -150,20 +115,19 @@ def noted(room, seed):
     dice = random.Random(seed)
     files, watches = [f"{room}/session{k}" for k in range(16)], [f"{room}/{name}" for name in SUBSCRIBERS]
     some = [questions(dice) for _ in watches]
-    for path, text in [(file, session(dice, LINES)) for file in files] + list(zip(watches, map(asked, some))):
-        with open(path, "w") as file:
-            file.write(text)
+    for path, text in [(file, lines_of(dice, LINES)) for file in files] + list(zip(watches, map(asked, some))):
+        put(text, path)
     options = [word for path in watches for word in ("--watch", path)]
     began = time.time()
-    ran = subprocess.run([PROGRAM, "serve", "--workers", "8", "--turns", "100000", *options, *files], capture_output=True, text=True, timeout=600)
+    served = ran(["serve", "--workers", "8", "--turns", "100000", *options, *files], text=True)
     took = time.time() - began
-    if ran.returncode or ran.stderr:
-        raise Wrong(f"serve ended with {ran.returncode}: {ran.stderr!r}")
-    journal = journal_of(ran.stdout, files)
+    if served.returncode or served.stderr:
+        stop(f"serve ended with {served.returncode}: {served.stderr!r}")
+    journal = journal_of(served.stdout, files)
     with ProcessPoolExecutor(4) as lanes:
-        found = list(lanes.map(compare, [journal] * 4, some, [read(f"{path}.out") for path in watches], [True] * 4))
+        found = list(lanes.map(compare, [journal] * 4, some, [text_at(f"{path}.out") for path in watches], [True] * 4))
     notes, edits = (sum(counts) for counts in zip(*found))
-    print(f"seed {seed}: 16 sessions, 8 workers and 4 subscribers of 64 names: {len(journal)} edits in {took:.1f} s; {notes} notes at {edits} edits, each the plain value there; the last ones are the answers at the end", flush=True)
+    print(f"notes: seed {seed}: 16 sessions, 8 workers and 4 subscribers of 64 names: {len(journal)} edits in {took:.1f} s; {notes} notes at {edits} edits, each the plain value there; the last ones are the answers at the end", flush=True)
 
 
 def fed(process, pipe, loud, most):
@@ -171,7 +135,7 @@ def fed(process, pipe, loud, most):
     said, more = 0, 0
     while more < 100:
         if process.poll() is not None or said > 20000:
-            raise Wrong(f"it has ended with {process.poll()} after {said} edits, or a file never was full")
+            stop(f"it has ended with {process.poll()} after {said} edits, or a file never was full")
         os.write(pipe, f"push {said}\n".encode())
         said, more = said + 1, more + (os.path.exists(loud) and os.path.getsize(loud) >= most)
         time.sleep(0.002)
@@ -184,9 +148,8 @@ def full(room, seed):
     # all 64 names of the first change by each edit; those of the others seldom
     some = [[(f"name_{number}", "sum", 0, 2**32 - 1) for number in range(64)]]
     some += [[(f"name_{number}", dice.choice(("least", "greatest")), dice.randrange(1000), 2**32 - 1) for number in range(64)] for _ in range(3)]
-    for path, text in [(file, session(dice, 2000)) for file in files[1:]] + list(zip(watches, map(asked, some))):
-        with open(path, "w") as file:
-            file.write(text)
+    for path, text in [(file, lines_of(dice, 2000)) for file in files[1:]] + list(zip(watches, map(asked, some))):
+        put(text, path)
     os.mkfifo(files[0])
     pipe = os.open(files[0], os.O_RDWR)
     options = [word for path in watches for word in ("--watch", path)]
@@ -198,22 +161,15 @@ def full(room, seed):
         os.close(pipe)
         transcript, told = process.communicate(timeout=600)
     if process.returncode != 1 or told != f"livevec: fault 14\n'{watches[0]}.out' can't be written\n":
-        raise Wrong(f"serve ended with {process.returncode}: {told!r}")
+        stop(f"serve ended with {process.returncode}: {told!r}")
     journal = journal_of(transcript, files)
-    cut, *others = [compare(journal, ones, read(f"{path}.out"), path != watches[0]) for ones, path in zip(some, watches)]
-    print(f"full: one of 4 subscribers could write {most} bytes, {cut[0]} notes: it alone ended, by fault 14; {len(journal)} edits, and {sum(notes for notes, _ in others)} notes of the others, all as they should be", flush=True)
+    cut, *others = [compare(journal, ones, text_at(f"{path}.out"), path != watches[0]) for ones, path in zip(some, watches)]
+    print(f"notes: one of 4 subscribers could write {most} bytes, {cut[0]} notes: it alone ended, by fault 14; {len(journal)} edits, and {sum(notes for notes, _ in others)} notes of the others, all as they should be", flush=True)
 
 
-def main(seeds):
-    for part, seed in [(noted, seed) for seed in seeds] + [(full, seeds[0])]:
-        room = tempfile.mkdtemp(prefix="soak-notes-")
-        try:
-            part(room, seed)
-        except Wrong as why:
-            sys.exit(f"soak_notes: seed {seed}: {why}")
-        finally:
-            shutil.rmtree(room)
-
-
-if __name__ == "__main__":
-    main([int(word) for word in sys.argv[1:]] or [1, 2, 3])
+def notes(room):
+    """With three seeds, and then with a file that is full."""
+    for part, seed in [(noted, SEED), (noted, SEED + 1), (noted, SEED + 2), (full, SEED)]:
+        folder = f"{room}/{part.__name__}{seed}"
+        os.mkdir(folder)
+        part(folder, seed)

@@ -7,58 +7,30 @@ import time
 from array import array
 
 from soak_parts.cut_off import KILLS
-from soak_parts.logs import MADE, QUERIES, Log
-from soak_parts.program import PROGRAM, SEED, session, stop, told, whole_lines
+from soak_parts.logs import MADE, QUERIES, SIGNALS, Log, check_end, check_log
+from soak_parts.program import PROGRAM, SEED, knob, make, put, ran, session, stop, whole_lines
 
-EDITS = int(os.environ.get("SOAK_EDITS", "40000000"))
-SESSIONS = 16
-CHANGES = tuple(MADE.values())
+EDITS, SESSIONS = knob("SOAK_EDITS", 40000000), 16
 
 
-def make(elements, edit):
-    """Makes an update on a plain list, as a log or a line of a session tells it."""
-    what, *numbers = edit.split()
-    if what == "push":
-        elements.append(int(numbers[0]))
-    elif what == "pop":
-        elements.pop()
-    elif what == "write":
-        elements[int(numbers[0])] = int(numbers[1])
-    elif what == "truncate":
-        del elements[int(numbers[0]):]
-
-
-def numbered(name, before):
-    """The updates of a session by their numbers, as its replies tell them, in order. A reply that tells a number at or before the first is wrong."""
+def numbered(names):
+    """The updates of sessions by their numbers, as their replies tell them, in order."""
     made = []
-    for line, reply in zip(whole_lines(name), replies_of(name)):
-        words = reply.split()
-        if words[0] == "edit":
-            if int(words[1]) <= before or not line.startswith(MADE[words[2]]):
-                stop(f"{name}: {line!r} was answered by {reply!r}, behind {before}")
-            made.append((int(words[1]), line))
-    return made
-
-
-def replies_of(name):
-    return whole_lines(f"{name}.out")
+    for name in names:
+        for line, reply in zip(whole_lines(name), whole_lines(f"{name}.out")):
+            words = reply.split()
+            if words[0] == "edit":
+                if not line.startswith(MADE[words[2]]):
+                    stop(f"{name}: {line!r} was answered by {reply!r}")
+                made.append((int(words[1]), line))
+    return sorted(made)
 
 
 def check(room, names, before, elements, ended):
     """Sees that the log has what was told of, also in what its file no longer tells. Says what it has, and the list after it."""
-    log = Log(f"{room}/log")
-    verdict = told(["audit", "--front"], open(f"{room}/log", "rb").read()).stdout.decode()
-    if not verdict.startswith(f"log {log.base} base {log.elements} elements {len(log.edits) - log.elements} edits "):
-        stop(f"a log was called {verdict!r}")
-    made = sorted(sum((numbered(name, before) for name in names), []))
-    numbers = [number for number, _ in made]
-    if len(set(numbers)) != len(numbers) or numbers and numbers[-1] > log.last():
-        stop(f"of the updates behind {before}, which end at {log.last()}, these were told of: {numbers[-5:]}")
+    log, made = check_log(f"{room}/log", [f"{name}.out" for name in (*names, f"{room}/w")], before), numbered(names)
     if any(number > log.base and log.edit(number) != line for number, line in made):
         stop("an update was told of, and the log has another of its number")
-    for line in whole_lines(f"{room}/w.out"):
-        if int(line.split()[1]) > log.last():
-            stop(f"a subscriber was told {line!r}, and the log's last update is {log.last()}")
     # what was kept, where it is kept, ends where the file begins
     if os.path.exists(f"{room}/log.1") and not os.path.samefile(f"{room}/log.1", f"{room}/log"):
         old = Log(f"{room}/log.1")
@@ -67,8 +39,8 @@ def check(room, names, before, elements, ended):
     after = log.list()
     if ended:
         # each update was told of: so the list is known
-        if numbers != list(range(before + 1, log.last() + 1)):
-            stop(f"updates behind {before} end at {log.last()}, of which {len(numbers)} were told of")
+        if log.told != list(range(before + 1, log.last() + 1)):
+            stop(f"updates behind {before} end at {log.last()}, of which {len(log.told)} were told of")
         for _, edit in made:
             make(elements, edit)
         if elements != after:
@@ -81,13 +53,12 @@ def renewals(room):
     signal.signal(signal.SIGINT, signal.default_int_handler)
     dice, kills, ends, anew, total = random.Random(SEED), 0, 0, 0, 0
     names = [f"{room}/{name}" for name in ("a", "b")]
-    open(f"{room}/w", "w").write(QUERIES)
+    put(QUERIES, f"{room}/w")
     elements = []
     while kills < KILLS:
         for name in names:
-            open(name, "w").write("truncate 100\n" + session(dice, 20000))
-        for name in names + [f"{room}/w"]:
-            open(f"{name}.out", "w").close()
+            put("truncate 100\n" + session(dice, 20000), name)
+        put("", *(f"{name}.out" for name in names + [f"{room}/w"]))
         was = Log(f"{room}/log")
         before, turn = was.last(), kills + ends
         words = ["serve", "--log", f"{room}/log", "--compact-at", str(dice.choice((1, 2000, 20000, 60000))), "--watch", f"{room}/w", *names]
@@ -95,11 +66,10 @@ def renewals(room):
         process = subprocess.Popen([PROGRAM, *words], stdout=subprocess.PIPE, stderr=subprocess.PIPE)
         if turn % 8:
             time.sleep(dice.random() * 0.5)
-            process.send_signal(dice.choice((signal.SIGKILL, signal.SIGTERM, signal.SIGINT)))
+            process.send_signal(dice.choice(SIGNALS))
         printed, said = process.communicate()
         kills, ends = kills + (process.returncode < 0), ends + (process.returncode == 0)
-        if process.returncode > 0 or printed or said.count(b"\n") != said.count(b"cut off\n"):
-            stop(f"serve --log ended with {process.returncode}, after {printed[:100]!r} and {said[:200]!r}")
+        check_end(process, printed, said)
         if not os.path.exists(f"{room}/log"):
             continue
         log, elements = check(room, names, before, elements, process.returncode == 0)
@@ -123,10 +93,10 @@ def worn(room):
     for name in names:
         with open(name, "w") as file:
             file.writelines(lines_of(dice, EDITS // SESSIONS))
-    open(f"{room}/w", "w").write("watch all sum 0 1048568\nwatch last best last 50\n")
-    ran = subprocess.run([PROGRAM, "serve", "--log", f"{room}/log", "--watch", f"{room}/w", *names], capture_output=True)
-    if ran.returncode or ran.stdout or ran.stderr:
-        stop(f"serve --log ended with {ran.returncode}, {ran.stderr[:200]!r}")
+    put("watch all sum 0 1048568\nwatch last best last 50\n", f"{room}/w")
+    served = ran(["serve", "--log", f"{room}/log", "--watch", f"{room}/w", *names], seconds=7200)
+    if served.returncode or served.stdout or served.stderr:
+        stop(f"serve --log ended with {served.returncode}, {served.stderr[:200]!r}")
     # which session made the update of a number: then its lines, in turn, are the updates
     by = bytearray(EDITS + 1)
     refused = 0

@@ -1,45 +1,15 @@
-#!/usr/bin/env python3
-"""Compares `livevec run --series` with a plain list, reply by reply: soak_series [LINES [SEED]].
+"""The part `series`: `livevec run --series` beside a plain list, reply by reply.
 
 How many elements there are goes to and fro between sizes around blocks of eight and powers of two, by pushes, pops, truncations and expiries, so that
 memory and trees grow, are cut, move and shrink. Ranges and indices are around the borders of blocks and of what is kept. Queries are watched only in
 the first lines of each run, since the plain list answers each of them anew after every update. Some of them have a bound. Searches try one index
 after the other here.
 """
-import os
 import random
-import subprocess
-import sys
-import time
 
-TOP = os.path.dirname(os.path.dirname(os.path.abspath(__file__)))
-PROGRAM = os.environ.get("SOAK_PROGRAM", f"{TOP}/crates/livevec/out/livevec")
-KINDS = ("sum", "least", "greatest", "best", "affine", "automaton")
+from soak_parts.program import KINDS, SEED, knob, stop, told, value
 
-
-def value(kind, xs):
-    """What is shown of some elements."""
-    if kind == "sum":
-        return str(sum(xs) % 2**64)
-    if kind == "affine":
-        a, b = 1, 0
-        for x in xs:
-            a, b = (x >> 8) * a % 2**32, ((x >> 8) * b + x % 256) % 2**32
-        return f"{a} {b}"
-    if kind == "automaton":
-        states = range(8)
-        for x in xs:
-            states = [(2 * q + x % 4) % 8 for q in states]
-        return " ".join(map(str, states))
-    if not xs:
-        return "none"
-    if kind != "best":
-        return str(min(xs) if kind == "least" else max(xs))
-    best = run = xs[0]
-    for x in xs[1:]:
-        run = max(x, run + x)
-        best = max(best, run)
-    return str(best)
+MANY = knob("SOAK_SERIES", 2000000)
 
 
 def within(bound, answer, kind=None):
@@ -300,20 +270,14 @@ def compared(many, seed):
         line = f"unwatch q{n - FIRST}" if FIRST <= n < FIRST + 10 else lines.next(watched if n < FIRST else rest)
         script.append(line)
         wanted += plain.reply(line)
-    ran = subprocess.run([PROGRAM, "run", "--series"], input="\n".join(script).encode(), capture_output=True, check=True)
-    got = ran.stdout.decode().split("\n")[:-1]
+    got = told(["run", "--series"], "\n".join(script).encode()).stdout.decode().split("\n")[:-1]
     if got != wanted:
         n = next((n for n, both in enumerate(zip(got, wanted)) if both[0] != both[1]), min(len(got), len(wanted)))
-        sys.exit(f"soak_series: with seed {seed}, reply {n + 1} is {got[n:n + 1]}, wanted {wanted[n:n + 1]}")
+        stop(f"with seed {seed}, reply {n + 1} is {got[n:n + 1]}, wanted {wanted[n:n + 1]}")
     return len(wanted)
 
 
-def main():
-    many, seed = (int(word) for word in (sys.argv[1:] + ["2000000", "1"][len(sys.argv) - 1:]))
-    began = time.time()
-    replies = sum(compared(min(LINES, many - n), seed + n // LINES) for n in range(0, many, LINES))
-    print(f"soak_series: {many} lines in runs of {LINES}, {replies} replies, each the plain list's, after {time.time() - began:.0f} s")
-
-
-if __name__ == "__main__":
-    main()
+def series(room):
+    """Runs of many lines, each with another seed."""
+    replies = sum(compared(min(LINES, MANY - n), SEED + n // LINES) for n in range(0, MANY, LINES))
+    print(f"series: {MANY} lines in runs of {LINES}, {replies} replies, each the plain list's")

@@ -3,14 +3,14 @@ import errno
 import os
 import shutil
 import signal
-import subprocess
 from concurrent.futures import ProcessPoolExecutor
 
-from soak_parts.failing import KILLED, library
 from soak_parts.logs import Log, check_log
-from soak_parts.program import PROGRAM, stop
+from soak_parts.program import failing, library, put, ran, stop
 from soak_parts.swapped import swapped
 
+# for failing_writes.c: the program is killed before the call
+KILLED = -3
 LOG = "livevec 2 40 2\n" + "".join(f"j {edit}\n" for edit in ("push 5", "push -6", "push 7", "swap 0 2", "write 1 9", "pop", "push 8"))
 # what may lie beside a log: an older one, what a killed compaction left, and an end that isn't whole
 PLACES = ("alone", "kept", "linked", "compacting", "torn")
@@ -20,15 +20,15 @@ COMMANDS = (["compact", "log"], ["compact", "--drop-old", "log"], ["serve", "--s
 def prepare(folder, place):
     """A folder with a log, and with what lies beside it."""
     os.mkdir(folder)
-    open(f"{folder}/log", "w").write(LOG + "j push 12" * (place == "torn"))
+    put(LOG + "j push 12" * (place == "torn"), f"{folder}/log")
     for name, count in (("session", 3), ("second", 2)):
-        open(f"{folder}/{name}", "w").write("push 1\n" * count)
+        put("push 1\n" * count, f"{folder}/{name}")
     if place == "kept":
-        open(f"{folder}/log.1", "w").write("livevec 2 0 0\n")
+        put("livevec 2 0 0\n", f"{folder}/log.1")
     elif place == "linked":
         os.link(f"{folder}/log", f"{folder}/log.1")
     if place in ("linked", "compacting"):
-        open(f"{folder}/log.compacting", "w").write("livevec 2 43")
+        put("livevec 2 43", f"{folder}/log.compacting")
 
 
 def step_one(room, case):
@@ -37,19 +37,18 @@ def step_one(room, case):
     folder = f"{room}/{place}{COMMANDS.index(words)}{how}-{at}"
     prepare(folder, place)
     old = Log(f"{folder}/log")
-    injected = {"LD_PRELOAD": f"{room}/failing.so", "FAILING_CALL": "any", "FAILING_AT": str(at), "FAILING_HOW": str(how), "FAILING_TOLD": f"{folder}/told"}
-    ran = subprocess.run([PROGRAM, *words], cwd=folder, env={**os.environ, **injected}, stdin=subprocess.DEVNULL, capture_output=True, timeout=600)
+    first = ran(words, folder, env=failing(room, "any", at, how, told=f"{folder}/told"))
     came = os.path.exists(f"{folder}/told")
     wanted = 0 if not came else -signal.SIGKILL if how == KILLED else 1
-    if ran.returncode != wanted or wanted == 1 and b"livevec: fault 14\n" not in ran.stderr:
-        stop(f"{case}: status {ran.returncode}, {ran.stderr!r}")
+    if first.returncode != wanted or wanted == 1 and b"livevec: fault 14\n" not in first.stderr:
+        stop(f"{case}: status {first.returncode}, {first.stderr!r}")
     log = check_log(f"{folder}/log", [f"{folder}/session.out"], old.last())
     more = log.last() - old.last()
     if log.list() != old.list() + [1] * more or more > 3 * (words[0] == "serve"):
         stop(f"{case}: {old.list()} at {old.last()} became {log.list()} at {log.last()}")
     # a server goes on with it, and a compaction does so then
     for name, next_words in (("second", ["serve", "--log", "log", "second"]), (None, ["compact", "log"])):
-        then = subprocess.run([PROGRAM, *next_words], cwd=folder, stdin=subprocess.DEVNULL, capture_output=True, timeout=600)
+        then = ran(next_words, folder)
         if then.returncode or then.stderr and not then.stderr.endswith(b"cut off\n"):
             stop(f"{case}, then {next_words}: status {then.returncode}, {then.stderr!r}")
         now = check_log(f"{folder}/log", [f"{folder}/{name}.out"] if name else [], log.last())

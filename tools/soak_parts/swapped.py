@@ -6,53 +6,10 @@ import shutil
 import subprocess
 import time
 
-from soak_parts.program import PROGRAM, stop
+from soak_parts.program import PROGRAM, failing, put, ran, stop, text_at
 
-# a library that is loaded before the program: at one call it runs a command, and lets the call fail or go on
-MEANWHILE = r"""
-#define _GNU_SOURCE
-#include <dlfcn.h>
-#include <errno.h>
-#include <stdatomic.h>
-#include <stdlib.h>
-#include <string.h>
-#include <unistd.h>
-
-static atomic_int calls;
-
-/* Whether this call is to fail, once the command has run. */
-static int meets(const char *call)
-{
-    const char *which = getenv("MEANWHILE_CALL"), *at = getenv("MEANWHILE_AT"), *runs = getenv("MEANWHILE_RUNS"), *fails = getenv("MEANWHILE_FAILS");
-    if (!which || strcmp(which, call) != 0 || atomic_fetch_add(&calls, 1) + 1 != atoi(at))
-        return 0;
-    unsetenv("LD_PRELOAD");
-    if (system(runs) != 0)
-        _exit(77);
-    errno = fails ? atoi(fails) : 0;
-    return fails != NULL;
-}
-
-int fsync(int fd)
-{
-    return meets("fsync") ? -1 : ((int (*)(int))dlsym(RTLD_NEXT, "fsync"))(fd);
-}
-
-int flock(int fd, int how)
-{
-    return meets("flock") ? -1 : ((int (*)(int, int))dlsym(RTLD_NEXT, "flock"))(fd, how);
-}
-
-int unlink(const char *name)
-{
-    return meets("unlink") ? -1 : ((int (*)(const char *))dlsym(RTLD_NEXT, "unlink"))(name);
-}
-
-ssize_t write(int fd, const void *bytes, size_t count)
-{
-    return fd > 2 && meets("write") ? -1 : ((ssize_t (*)(int, const void *, size_t))dlsym(RTLD_NEXT, "write"))(fd, bytes, count);
-}
-"""
+# for failing_writes.c: nothing goes wrong
+PASSES = -4
 LOG = "livevec 2 0 0\nj push 5\nj push 6\nj pop\n"
 OTHER = "livevec 2 7 1\nj push 777\n"
 COMPACT, DROP = ["compact", "log"], ["compact", "--drop-old", "log"]
@@ -61,39 +18,33 @@ SERVE, SERVE_DROP = (["serve", *more, "--compact-at", "1", "--log", "log", "sess
 SWAPS = (("mv other log", "log", OTHER), ("ln -sf other log", "log", OTHER), ("rm log", "log", None), ("mv other log.compacting", "log.compacting", OTHER), ("rm log.compacting", "log.compacting", None))
 
 
-def text_at(path):
-    return open(path).read() if os.path.exists(path) else None
-
-
 def folder_of(room, name):
     """A folder with a log, another one, and the lines of a session."""
     folder = f"{room}/{name}"
     os.mkdir(folder)
     for name, text in (("log", LOG), ("other", OTHER), ("session", "push 1\n")):
-        open(f"{folder}/{name}", "w").write(text)
+        put(text, f"{folder}/{name}")
     return folder
 
 
-def meanwhile(room, folder, words, call, at, runs, fails=None, **more):
-    """A command, at one call of which another runs."""
-    told = {"LD_PRELOAD": f"{room}/meanwhile.so", "MEANWHILE_CALL": call, "MEANWHILE_AT": str(at), "MEANWHILE_RUNS": f"{runs} && : > {room}/came"}
-    if fails:
-        told["MEANWHILE_FAILS"] = str(fails)
-    ran = subprocess.run([PROGRAM, *words], cwd=folder, env={**os.environ, **told}, stdin=subprocess.DEVNULL, capture_output=True, timeout=600, **more)
-    if not os.path.exists(f"{room}/came"):
-        stop(f"{words} didn't come to {call} {at}, where `{runs}` was to run: status {ran.returncode}, {ran.stderr!r}")
-    os.remove(f"{room}/came")
-    return ran
+def meanwhile(room, folder, words, call, at, runs, how=PASSES, **more):
+    """A command, at one call of which another runs, which may then fail."""
+    came = f"{folder}-came"
+    it = ran(words, folder, env=failing(room, call, at, how, runs=f"{runs} && : > {came}"), **more)
+    if not os.path.exists(came):
+        stop(f"{words} didn't come to {call} {at}, where `{runs}` was to run: status {it.returncode}, {it.stderr!r}")
+    os.remove(came)
+    return it
 
 
 def swap(room, words, runs, name, wanted):
     """A name leads elsewhere once the new log is whole: nothing is replaced, which is told, and what was made is removed."""
     folder = folder_of(room, "swap")
-    ran = meanwhile(room, folder, words, "fsync", 1, runs)
+    it = meanwhile(room, folder, words, "fsync", 1, runs)
     served = words[0] == "serve"
     said = f"'{name}' is no longer the file that was {'opened' if name == 'log' else 'made'} here".encode()
-    if ran.returncode != (0 if served else 1) or said not in ran.stderr or (b"livevec: the log isn't made anew: " if served else b"livevec: fault 14\n") not in ran.stderr:
-        stop(f"{words}, meanwhile `{runs}`: status {ran.returncode}, {ran.stdout!r}, {ran.stderr!r}")
+    if it.returncode != (0 if served else 1) or said not in it.stderr or (b"livevec: the log isn't made anew: " if served else b"livevec: fault 14\n") not in it.stderr:
+        stop(f"{words}, meanwhile `{runs}`: status {it.returncode}, {it.stdout!r}, {it.stderr!r}")
     if text_at(f"{folder}/{name}") != wanted or name == "log" and os.path.lexists(f"{folder}/log.compacting") or os.path.islink(f"{folder}/log") != runs.startswith("ln"):
         stop(f"{words}, meanwhile `{runs}`: {name} has {text_at(f'{folder}/{name}')!r}, beside {os.listdir(folder)}")
     if name != "log" and text_at(f"{folder}/log") != LOG + "j push 1\n" * served:
@@ -107,10 +58,10 @@ def begun_by_another(room):
     os.remove(f"{folder}/log")
     os.mkdir(f"{folder}/log.1")
     shutil.copy(f"{folder}/session", f"{folder}/second")
-    ran = meanwhile(room, folder, ["serve", "--log", "log", "session"], "unlink", 1, f"{{ {PROGRAM} serve --drop-old --log log second; echo $? > status; }}")
+    it = meanwhile(room, folder, ["serve", "--log", "log", "session"], "unlink", 1, f"{{ {PROGRAM} serve --drop-old --log log second; echo $? > status; }}")
     status = text_at(f"{folder}/status")
-    if ran.returncode != 2 or status == "0\n" and text_at(f"{folder}/log") != "livevec 2 0 0\nj push 1\n" or status == "2\n" and os.path.exists(f"{folder}/log"):
-        stop(f"a log that is removed was served meanwhile: status {ran.returncode} and {status!r}, {ran.stderr!r}, {os.listdir(folder)}")
+    if it.returncode != 2 or status == "0\n" and text_at(f"{folder}/log") != "livevec 2 0 0\nj push 1\n" or status == "2\n" and os.path.exists(f"{folder}/log"):
+        stop(f"a log that is removed was served meanwhile: status {it.returncode} and {status!r}, {it.stderr!r}, {os.listdir(folder)}")
     shutil.rmtree(folder)
 
 
@@ -120,10 +71,10 @@ def served_before_the_lock(room):
         folder = folder_of(room, "before")
         os.remove(f"{folder}/log")
         os.mkdir(f"{folder}/log.1")
-        open(f"{folder}/second", "w").write("push 1\npush 2\n")
-        ran = meanwhile(room, folder, ["serve", *words, "log", "session"], "flock", 1, f"{PROGRAM} serve --drop-old --log log second")
-        if ran.returncode != status or text_at(f"{folder}/log") != wanted:
-            stop(f"{words} of a log that was served before the lock: status {ran.returncode}, {ran.stderr!r}, {text_at(f'{folder}/log')!r}")
+        put("push 1\npush 2\n", f"{folder}/second")
+        it = meanwhile(room, folder, ["serve", *words, "log", "session"], "flock", 1, f"{PROGRAM} serve --drop-old --log log second")
+        if it.returncode != status or text_at(f"{folder}/log") != wanted:
+            stop(f"{words} of a log that was served before the lock: status {it.returncode}, {it.stderr!r}, {text_at(f'{folder}/log')!r}")
         shutil.rmtree(folder)
 
 
@@ -131,24 +82,24 @@ def left_behind(room):
     """A log that was made has another name when its first line can't be written: it is left, and that is told."""
     folder = folder_of(room, "left")
     os.remove(f"{folder}/log")
-    ran = meanwhile(room, folder, ["serve", "--log", "log", "session"], "write", 1, "mv log made && cp other log", errno.ENOSPC)
-    if ran.returncode != 1 or b"\n'log' was made here and isn't taken away: another file may have its name by now\n" not in ran.stderr or text_at(f"{folder}/log") != OTHER:
-        stop(f"a log that was made and moved: status {ran.returncode}, {ran.stderr!r}, {os.listdir(folder)}")
+    it = meanwhile(room, folder, ["serve", "--log", "log", "session"], "write", 1, "mv log made && cp other log", errno.ENOSPC)
+    if it.returncode != 1 or b"\n'log' was made here and isn't taken away: another file may have its name by now\n" not in it.stderr or text_at(f"{folder}/log") != OTHER:
+        stop(f"a log that was made and moved: status {it.returncode}, {it.stderr!r}, {os.listdir(folder)}")
     shutil.rmtree(folder)
 
 
 def unflushed(room):
     """The folder can't be flushed once the new log has its name: that it has is told."""
     folder = folder_of(room, "unflushed")
-    ran = meanwhile(room, folder, COMPACT, "fsync", 2, ":", errno.EIO)
-    if ran.returncode != 1 or b"'log' was made anew, but its folder can't be flushed to the disk" not in ran.stderr or text_at(f"{folder}/log") != "livevec 2 3 1\nj push 5\n":
-        stop(f"a folder that can't be flushed: status {ran.returncode}, {ran.stderr!r}, {text_at(f'{folder}/log')!r}")
+    it = meanwhile(room, folder, COMPACT, "fsync", 2, ":", errno.EIO)
+    if it.returncode != 1 or b"'log' was made anew, but its folder can't be flushed to the disk" not in it.stderr or text_at(f"{folder}/log") != "livevec 2 3 1\nj push 5\n":
+        stop(f"a folder that can't be flushed: status {it.returncode}, {it.stderr!r}, {text_at(f'{folder}/log')!r}")
     shutil.rmtree(folder)
     # with --sync a transcript's name is on the disk too: its folder is what is flushed by this call
     folder = folder_of(room, "synced")
-    ran = meanwhile(room, folder, ["serve", "--sync", "--transcript", "kept", "session"], "fsync", 1, ":", errno.EIO)
-    if ran.returncode != 1 or b"'kept' can't be served: its folder can't be flushed to the disk" not in ran.stderr or os.path.exists(f"{folder}/kept"):
-        stop(f"a transcript's folder that can't be flushed: status {ran.returncode}, {ran.stderr!r}, {os.listdir(folder)}")
+    it = meanwhile(room, folder, ["serve", "--sync", "--transcript", "kept", "session"], "fsync", 1, ":", errno.EIO)
+    if it.returncode != 1 or b"'kept' can't be served: its folder can't be flushed to the disk" not in it.stderr or os.path.exists(f"{folder}/kept"):
+        stop(f"a transcript's folder that can't be flushed: status {it.returncode}, {it.stderr!r}, {os.listdir(folder)}")
     shutil.rmtree(folder)
 
 
@@ -156,9 +107,9 @@ def private(room):
     """Nobody but its owner may open the new log while it is filled; once it is in place, whoever might open the old one may open it."""
     folder = folder_of(room, "private")
     os.chmod(f"{folder}/log", 0o640)
-    ran = meanwhile(room, folder, COMPACT, "write", 1, "test $(stat -c %a log.compacting) = 600")
-    if ran.returncode != 0 or os.stat(f"{folder}/log").st_mode & 0o777 != 0o640:
-        stop(f"a log that some may read: status {ran.returncode}, {ran.stderr!r}, {os.stat(f'{folder}/log')}")
+    it = meanwhile(room, folder, COMPACT, "write", 1, "test $(stat -c %a log.compacting) = 600")
+    if it.returncode != 0 or os.stat(f"{folder}/log").st_mode & 0o777 != 0o640:
+        stop(f"a log that some may read: status {it.returncode}, {it.stderr!r}, {os.stat(f'{folder}/log')}")
     shutil.rmtree(folder)
 
 
@@ -166,9 +117,9 @@ def removed_while_locked(room):
     """A new log that can't be filled is locked until it is removed."""
     folder = folder_of(room, "locked")
     few = {"preexec_fn": lambda: resource.setrlimit(resource.RLIMIT_FSIZE, (0, 0)), "restore_signals": False}
-    ran = meanwhile(room, folder, COMPACT, "unlink", 1, "{ flock -n log.compacting true; test $? = 1; }", **few)
-    if ran.returncode != 1 or text_at(f"{folder}/log") != LOG or os.path.exists(f"{folder}/log.compacting"):
-        stop(f"a new log that can't be filled: status {ran.returncode}, {ran.stderr!r}, {os.listdir(folder)}")
+    it = meanwhile(room, folder, COMPACT, "unlink", 1, "{ flock -n log.compacting true; test $? = 1; }", **few)
+    if it.returncode != 1 or text_at(f"{folder}/log") != LOG or os.path.exists(f"{folder}/log.compacting"):
+        stop(f"a new log that can't be filled: status {it.returncode}, {it.stderr!r}, {os.listdir(folder)}")
     shutil.rmtree(folder)
 
 
@@ -180,7 +131,7 @@ def written_since(room, words):
     with subprocess.Popen([PROGRAM, "serve", *words, "session", "later"], cwd=folder, stdin=subprocess.DEVNULL, stdout=subprocess.PIPE, stderr=subprocess.PIPE) as first:
         while first.poll() is None and not os.path.exists(f"{folder}/session.out"):
             time.sleep(0.01)
-        second = subprocess.run([PROGRAM, "serve", "--log", "session.out", "second"], cwd=folder, stdin=subprocess.DEVNULL, capture_output=True, timeout=600)
+        second = ran(["serve", "--log", "session.out", "second"], folder)
         os.close(os.open(f"{folder}/later", os.O_RDWR))
         told, said = first.communicate(timeout=600)
     if second.returncode or first.returncode != 2 or told or b"error: 'session.out' was made here, and another program has written to it since: rename one of the two\n" not in said or text_at(f"{folder}/session.out") != "livevec 2 0 0\nj push 1\n":
@@ -192,8 +143,6 @@ def written_since(room, words):
 
 def swapped(room):
     """Each of these. Says how many."""
-    open(f"{room}/meanwhile.c", "w").write(MEANWHILE)
-    subprocess.run(["cc", "-shared", "-fPIC", "-O2", "-Wall", "-o", f"{room}/meanwhile.so", f"{room}/meanwhile.c", "-ldl"], check=True)
     cases = [(words, *case) for words in (COMPACT, DROP, SERVE, SERVE_DROP) for case in SWAPS]
     for case in cases:
         swap(room, *case)

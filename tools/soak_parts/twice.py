@@ -6,7 +6,7 @@ import time
 
 from soak_parts.logs import Log, check_log
 from soak_parts.paced import Paced
-from soak_parts.program import PROGRAM, ROUNDS, SEED, session, stop, whole_lines
+from soak_parts.program import PROGRAM, ROUNDS, SEED, put, ran, receipts, session, stop
 
 LOCKED = b"is locked, as by a server that writes it"
 
@@ -24,11 +24,11 @@ def files_in(folder):
 def turned_away(folder, words):
     """Runs a second program on a log that is served, and sees that it is told so and touches no file. Says how many seconds that takes."""
     before, began = files_in(folder), time.monotonic()
-    ran = subprocess.run([PROGRAM, *words], cwd=folder, stdin=subprocess.DEVNULL, capture_output=True, timeout=600)
+    it = ran(words, folder)
     took = time.monotonic() - began
-    if ran.returncode != 2 or ran.stdout or LOCKED not in ran.stderr or files_in(folder) != before:
+    if it.returncode != 2 or it.stdout or LOCKED not in it.stderr or files_in(folder) != before:
         changed = [name for name in {**before, **files_in(folder)} if before.get(name) != files_in(folder).get(name)]
-        stop(f"{words} on a served log: status {ran.returncode}, {ran.stdout!r}, {ran.stderr!r}; changed: {changed}")
+        stop(f"{words} on a served log: status {it.returncode}, {it.stdout!r}, {it.stderr!r}; changed: {changed}")
     return took
 
 
@@ -36,7 +36,7 @@ def beside_one(folder, dice, turn):
     """A server is asked now and then while others try its log, and is then ended or killed. Says how often others tried, and the longest that one took."""
     os.makedirs(f"{folder}/other/deep", exist_ok=True)
     for name, text in (("second", "push 2\n"), ("second.out", "kept\n"), ("third", "push 3\n")):
-        open(f"{folder}/{name}", "w").write(text)
+        put(text, f"{folder}/{name}")
     before, log = Log(f"{folder}/log").last(), f"{folder}/log"
     server, number, took = Paced([PROGRAM, "serve", "--log", log, f"{folder}/first"] + ["--sync"] * (turn % 2), folder, [f"{folder}/first"]), before, []
     for words in (["serve", "--log", "log", "second"], ["compact", "log"], ["serve", "--log", "other/../log", "third"], ["compact", "--drop-old", "./log"], ["serve", "--sync", "--log", log, "third"], ["serve", "--transcript", "log", "second"]):
@@ -60,7 +60,7 @@ def at_once(folder, dice, turn):
     """Six servers and two compactions are started together on one log. Says how many of them came to it, and how many were turned away."""
     before, runs, names = Log(f"{folder}/log").last(), [], [f"race{k}" for k in range(6)]
     for name in names:
-        open(f"{folder}/{name}", "w").write("push 1\n" + session(dice, dice.choice((0, 20, 2000))))
+        put("push 1\n" + session(dice, dice.choice((0, 20, 2000))), f"{folder}/{name}")
         if os.path.exists(f"{folder}/{name}.out"):
             os.remove(f"{folder}/{name}.out")
     commands = [["serve", "--log", "log", name] + ["--sync"] * dice.randrange(2) for name in names] + [["compact", "log"], ["compact", "--drop-old", "log"]]
@@ -76,7 +76,7 @@ def at_once(folder, dice, turn):
             away += 1
         elif process.returncode == 0 and not said:
             served += 1
-            told += [int(line.split()[1]) for line in whole_lines(f"{folder}/{name}.out") if line.startswith("edit ")] if name else []
+            told += receipts([f"{folder}/{name}.out"]) if name else []
         else:
             stop(f"{words} beside others: status {process.returncode}, {said!r}")
     last = check_log(f"{folder}/log", [], 0).last()
@@ -90,7 +90,7 @@ def beside_its_log(folder, name, tries):
     of the first is there. Says how long others took until they were turned away."""
     os.makedirs(f"{folder}/deep")
     for place, text in (("x", "livevec 2 0 0\n"), (f"x.{name}", "livevec 2 0 0\n"), ("third", "push 3\n")):
-        open(f"{folder}/{place}", "w").write(text)
+        put(text, f"{folder}/{place}")
     log, beside, told = f"{folder}/x", f"{folder}/x.{name}", 0
     own = Paced([PROGRAM, "serve", "--compact-at", "60", "--log", log, f"{folder}/first"], folder, [f"{folder}/first"])
     # it has looked beside its log before another server comes
