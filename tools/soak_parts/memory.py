@@ -6,6 +6,7 @@ import subprocess
 
 from soak_parts.program import SEED, TOP, measured, put, ran, session, stop, told, whole_lines
 
+
 def most_held(words, room, asked=os.devnull):
     """How many MB a run of the program holds at most."""
     _, said, status, _, held = measured(words, room, asked)
