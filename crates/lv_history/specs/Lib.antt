@@ -1,4 +1,3 @@
 -- Names the files of definitions of `lv_history`.
-pub mod Counting
 pub mod Growing
 pub mod Numbering

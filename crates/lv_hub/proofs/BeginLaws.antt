@@ -5,7 +5,7 @@ use Rattle.lv_geometry.specs.Bounds.{Bounds}
 use Rattle.lv_edits.specs.declared.edit.Edit.{Edit}
 use Rattle.lv_edits.specs.declared.receipt.Receipt.{Receipt}
 use Rattle.lv_edits.specs.Verdict.{Accepts}
-use Rattle.lv_history.specs.Counting.{ShareState, having_seen, one_more}
+use Rattle.lv_hub.specs.Counting.{ShareState, having_seen, one_more}
 use Rattle.lv_hub.specs.Told.{history_of}
 
 -- a list that is as long as a share counts which counts none

@@ -9,7 +9,7 @@ use Rattle.lv_standing.specs.declared.queries.Query.{Query}
 use Rattle.lv_standing.specs.Queries.{AddsNotesOf, AreNotesOf, watch_answer}
 use Rattle.lv_standing.specs.QuerySets.{QuerySetState, with_answers, with_told}
 use Rattle.lv_hub.specs.declared.told.Told.{Told}
-use Rattle.lv_history.specs.Counting.{ShareState, having_seen}
+use Rattle.lv_hub.specs.Counting.{ShareState, having_seen}
 use Rattle.lv_hub.specs.Notes.{HasTold, SubscriberState}
 use Rattle.lv_hub.specs.Renewing.{IsRun}
 use Rattle.lv_history.proofs.PrefixLaws.{prefix_length, prefix_whole}

@@ -9,7 +9,7 @@ use Rattle.lv_bodies.specs.Plain.{plain_value}
 use Rattle.lv_edits.specs.declared.edit.Edit.{Edit}
 use Rattle.lv_edits.specs.History.{list_of}
 use Rattle.lv_transcript.specs.declared.log_heading.LogHeading.{LogHeading}
-use Rattle.lv_history.specs.Counting.{AreTogether, ShareState}
+use Rattle.lv_hub.specs.Counting.{AreTogether, ShareState}
 use Rattle.lv_hub.specs.declared.told.Told.{Told}
 use Rattle.lv_standing.specs.Queries.{AreNotesOf, span_of, watch_answer}
 use Rattle.lv_hub.specs.Noticing.{NoticesState, WatcherState, Watches, WritesMore, WroteOrPart, all_told_text, told_text}

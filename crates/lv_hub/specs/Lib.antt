@@ -1,6 +1,7 @@
 -- Names the files of definitions of `lv_hub`.
 pub mod AsScripts
 pub mod Asking
+pub mod Counting
 pub mod Logging
 pub mod Notes
 pub mod Noticing

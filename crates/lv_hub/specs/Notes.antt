@@ -7,7 +7,7 @@ use Rattle.lv_bodies.specs.declared.kinds.Shown.{Shown}
 use Rattle.lv_standing.specs.declared.queries.Query.{Query}
 use Rattle.lv_standing.specs.Queries.{AreNotesOf, query_refusal, watch_answer}
 use Rattle.lv_hub.specs.declared.told.Told.{Told}
-use Rattle.lv_history.specs.Counting.{ShareState, having_seen}
+use Rattle.lv_hub.specs.Counting.{ShareState, having_seen}
 use Rattle.lv_hub.specs.Renewing.{IsRun}
 
 -- why a subscriber refuses a query, want of memory apart: it has at most 64

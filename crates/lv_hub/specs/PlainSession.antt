@@ -18,7 +18,7 @@ use Rattle.lv_lines.specs.declared.lines.Line.TheVariants.{Nothing, Bad, Do}
 use Rattle.lv_lines.specs.Grammar.{line_of}
 use Rattle.lv_lines.specs.Texts.{answer_text, bad_text, numbered, receipt_text, refused_text, scan_text}
 use Rattle.lv_transcript.specs.declared.log_heading.LogHeading.{LogHeading}
-use Rattle.lv_history.specs.Counting.{ShareState}
+use Rattle.lv_hub.specs.Counting.{ShareState}
 use Rattle.lv_history.specs.Numbering.{told_number}
 use Rattle.lv_script.specs.PlainScript.{scan_by}
 

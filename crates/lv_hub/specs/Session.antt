@@ -15,7 +15,7 @@ use Rattle.lv_transcript.specs.declared.claimed.Claimed.{Claimed}
 use Rattle.lv_transcript.specs.declared.log_heading.LogHeading.{LogHeading}
 use Rattle.lv_hub.specs.declared.kept_answers.KeptAnswers.{KeptAnswers}
 use Rattle.lv_hub.specs.declared.kept_answers.KeptAnswers.TheVariants.{Listed}
-use Rattle.lv_history.specs.Counting.{ShareState}
+use Rattle.lv_hub.specs.Counting.{ShareState}
 use Rattle.lv_history.specs.Numbering.{told_number}
 use Rattle.lv_hub.specs.PlainSession.{PlainSessionStep, Seen, session_line_of}
 use Rattle.lv_hub.specs.Renewing.{IsRun}

@@ -8,7 +8,7 @@ use Rattle.lv_transcript.specs.declared.claimed.Claimed.{Claimed}
 use Rattle.lv_transcript.specs.declared.log_heading.LogHeading.{LogHeading}
 use Rattle.lv_transcript.specs.Transcript.{transcript_text}
 use Rattle.lv_hub.specs.declared.told.Told.{Told}
-use Rattle.lv_history.specs.Counting.{ShareState}
+use Rattle.lv_hub.specs.Counting.{ShareState}
 use Rattle.lv_standing.specs.Queries.{AreNotesOf, watch_answer}
 use Rattle.lv_hub.specs.Notes.{EndedState}
 use Rattle.lv_hub.specs.Noticing.{NoticesState, WatcherState, Watches, WritesMore, told_text}

@@ -3,13 +3,14 @@ ghost use Rattle.std.specs.Prelude.{◌≡◌, ◌≤◌, ◌^◌, length, map};
 ghost use mathlib.Core.List.{IsPrefix};
 ghost use Rattle.lv_standing.specs.Queries.{watch_answer};
 ghost use Rattle.lv_standing.specs.QuerySets.{with_answers};
-ghost use Rattle.lv_history.specs.Counting.{having_seen};
+ghost use Rattle.lv_hub.specs.Counting.{having_seen};
 ghost use Rattle.lv_hub.specs.Renewing.{IsRun};
 
 use crate::desks::Desk;
 use crate::hubs::Hub;
+use crate::shares::Share;
 use lv_bodies::{Kind, Shown, Six};
-use lv_history::{Share, WithBody};
+use lv_history::WithBody;
 use lv_standing::{Askable, Query, QuerySet};
 use std::sync::Wait;
 

@@ -15,7 +15,7 @@ ghost use Rattle.lv_live.specs.State.{HasClaim, HasDelivery, SameRefresh, node_a
 ghost use Rattle.lv_standing.specs.Queries.{IsValue};
 ghost use Rattle.lv_tree.specs.Kinds.{AreReady};
 ghost use Rattle.lv_transcript.specs.Transcript.{AreAccepted, IsTrueAnswer, greatest};
-ghost use Rattle.lv_history.specs.Counting.{Counts, having_seen};
+ghost use Rattle.lv_hub.specs.Counting.{Counts, having_seen};
 ghost use Rattle.lv_hub.specs.declared.log_entry.LogEntry.TheVariants as logged;
 ghost use Rattle.lv_hub.specs.Logging.{CameSince, HasPlace, entry_of, with_entry};
 ghost use Rattle.lv_hub.specs.Renewing.{IsClosed, IsMadeOf, IsOfOneVector, IsRun, IsVector, LastsAs, lasting, opened_limits, receipt_with, renewed_after, vector_limits};
@@ -23,11 +23,12 @@ ghost use Rattle.lv_hub.specs.Told.{Delivers, VouchedBy, history_of, receipt_at,
 ghost use Rattle.lv_hub.specs.Work.{left_asleep, makes_work};
 
 use crate::log_entry::LogEntry;
+use crate::shares::Share;
 use crate::tap::{Came, Tap};
 use lv_bodies::{Automaton, Body, Kind};
 use lv_edits::{Edit, Receipt};
 use lv_geometry::{Limits, Refusal};
-use lv_history::{Head, HistoryPrefix, Opened, Share, WithBody};
+use lv_history::{Head, HistoryPrefix, Opened, WithBody};
 use lv_live::Live;
 use lv_reduce::Stretch;
 use lv_refresh::{Job, Outcome};

@@ -9,7 +9,7 @@ ghost use Rattle.lv_transcript.specs.Fronts.{AreTrueAfter, Entry, IsWholeFront, 
 ghost use Rattle.lv_transcript.specs.Transcribing.{front_bytes_of};
 ghost use Rattle.lv_transcript.specs.Transcript.{ended};
 ghost use Rattle.lv_hub.specs.AsScripts.{ScriptedStep};
-ghost use Rattle.lv_history.specs.Counting.{ShareState};
+ghost use Rattle.lv_hub.specs.Counting.{ShareState};
 ghost use Rattle.lv_hub.specs.Noticing.{NoticesState, WatcherState};
 ghost use Rattle.lv_history.specs.Numbering.{from_the_first};
 ghost use Rattle.lv_hub.specs.PlainSession.{PlainSessionStep, Seen, TrueReply};

@@ -9,9 +9,10 @@ ghost use Rattle.lv_hub.specs.Watchers.{AllTellLast, TakesWatchers, TellsLast};
 
 use crate::ended::Ended;
 use crate::notices::Notices;
+use crate::shares::Share;
 use crate::watchers::Watcher;
 use lv_bodies::Six;
-use lv_history::{Share, WithBody};
+use lv_history::WithBody;
 use lv_live::Live;
 use lv_transcript::LogHeading;
 use std::alloc::{AllocError, Global};

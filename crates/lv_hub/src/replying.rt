@@ -8,7 +8,7 @@ ghost use Rattle.lv_lines.specs.Texts.{scan_text};
 ghost use Rattle.lv_script.specs.PlainScript.{scan_by};
 ghost use Rattle.lv_transcript.specs.declared.claimed.Claimed.{Claimed};
 ghost use Rattle.lv_transcript.specs.Transcript.{IsTrueAnswer};
-ghost use Rattle.lv_history.specs.Counting.{Counts, having_seen};
+ghost use Rattle.lv_hub.specs.Counting.{Counts, having_seen};
 ghost use Rattle.lv_history.specs.Numbering.{told_number};
 ghost use Rattle.lv_hub.specs.Renewing.{IsOfOneVector};
 ghost use Rattle.lv_hub.specs.Replying.{SessionCommandAnswer, SessionLineAnswer, TellsEdit, TellsReduction, TellsScan};
@@ -18,10 +18,11 @@ ghost use Rattle.lv_hub.specs.Told.{EditTold, ValueTold};
 use crate::hubs::Hub;
 use crate::kept_answers::KeptAnswers;
 use crate::session_logs::SessionLog;
+use crate::shares::Share;
 use lv_bodies::{Kind, Six};
 use lv_edits::{Edit, Receipt};
 use lv_geometry::Refusal;
-use lv_history::{Share, WithBody, told_number};
+use lv_history::{WithBody, told_number};
 use lv_script::{
     Asked, Claimed, Command, Fault, LINE, Line, ReplyBuffer, Slice, put_answer, put_bad,
     put_receipt_at, put_refusal, put_running_scan,

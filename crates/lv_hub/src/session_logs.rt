@@ -5,8 +5,9 @@ ghost use Rattle.lv_hub.specs.Logging.{WereRecorded};
 
 use crate::hubs::Hub;
 use crate::operation_log::{Begun, OperationLog};
+use crate::shares::Share;
 use lv_bodies::Six;
-use lv_history::{Share, WithBody};
+use lv_history::WithBody;
 use lv_script::Fault;
 use lv_transcript::LogWriter;
 use std::sync::{Mutex, Wait};

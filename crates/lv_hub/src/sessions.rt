@@ -6,15 +6,16 @@ ghost use Rattle.lv_lines.specs.Replies.{LinesServed};
 ghost use Rattle.lv_transcript.specs.declared.claimed.Claimed.{Claimed};
 ghost use Rattle.lv_transcript.specs.Transcript.{AreInOrder, IsTrueAnswer};
 ghost use Rattle.std.specs.List.Sorted.{IsPermutation};
-ghost use Rattle.lv_history.specs.Counting.{ShareState};
+ghost use Rattle.lv_hub.specs.Counting.{ShareState};
 ghost use Rattle.lv_hub.specs.PlainSession.{PlainSessionStep, seen_by};
 ghost use Rattle.lv_hub.specs.Replying.{TellsLine};
 ghost use Rattle.lv_hub.specs.Session.{KeepTies, SessionState, SessionStep, most_listed, session_at};
 
 use crate::replying::{SessionPlace, answer_line, make_room};
 use crate::session_logs::SessionLog;
+use crate::shares::Share;
 use lv_bodies::Six;
-use lv_history::{Share, WithBody};
+use lv_history::WithBody;
 use lv_script::{Claimed, Fault, LineHandler, MOST_READ, ReplyBuffer, read_line, serve_lines};
 use std::alloc::AllocError;
 use std::io::{Read, Write};

@@ -7,10 +7,11 @@ ghost use Rattle.lv_hub.specs.Renewing.{IsRun};
 
 use crate::ended::Ended;
 use crate::hubs::Hub;
+use crate::shares::Share;
 use crate::told::Told;
 use lv_bodies::Six;
 use lv_geometry::Refusal;
-use lv_history::{Share, WithBody};
+use lv_history::WithBody;
 use lv_standing::{Note, Query, QuerySet};
 use std::alloc::Global;
 use std::marker::Model;

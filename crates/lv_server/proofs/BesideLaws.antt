@@ -9,7 +9,7 @@ use Rattle.lv_lines.specs.declared.fault.Fault.{Fault}
 use Rattle.lv_transcript.specs.declared.claimed.Claimed.{Claimed}
 use Rattle.lv_transcript.specs.declared.log_heading.LogHeading.{LogHeading}
 use Rattle.lv_hub.proofs.TruthLaws.{all_true_of_more}
-use Rattle.lv_history.specs.Counting.{ShareState}
+use Rattle.lv_hub.specs.Counting.{ShareState}
 use Rattle.lv_hub.specs.Noticing.{NoticesState, WatcherState}
 use Rattle.lv_hub.specs.Watchers.{AllTellLast, AreWatchedFrom, ClosesTelling, LeftState, TakesWatchers, left_by}
 use Rattle.lv_server.specs.Served.{Sides}

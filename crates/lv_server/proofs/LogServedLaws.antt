@@ -19,7 +19,7 @@ use Rattle.lv_transcript.specs.Fronts.{AreTrueAfter, Entry, IsFrontOf, edits_in,
 use Rattle.lv_transcript.specs.Logs.{HasLog, LogThere, edits_there, log_of_edits, log_text, pushed, pushes_of_elements}
 use Rattle.lv_transcript.specs.Transcribing.{front_bytes_of}
 use Rattle.lv_transcript.specs.Transcript.{ended}
-use Rattle.lv_history.specs.Counting.{ShareState}
+use Rattle.lv_hub.specs.Counting.{ShareState}
 use Rattle.lv_hub.specs.Logging.{EndsInFile, WroteWhole, heading_after, log_after}
 use Rattle.lv_hub.specs.Noticing.{NoticesState}
 use Rattle.lv_hub.specs.PlainSession.{Seen}

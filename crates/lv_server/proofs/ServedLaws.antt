@@ -21,7 +21,7 @@ use Rattle.lv_lines.specs.Replies.{LinesServed}
 use Rattle.lv_edits.specs.History.{History}
 use Rattle.lv_edits.specs.Kept.{IsLegalInLimits}
 use Rattle.lv_transcript.specs.Transcript.{AreAccepted, IsSoundTranscript, IsTrueAnswer, Transcribes, greatest, transcript_text}
-use Rattle.lv_history.specs.Counting.{AreTogether, ShareState}
+use Rattle.lv_hub.specs.Counting.{AreTogether, ShareState}
 use Rattle.lv_hub.specs.Session.{KeepTies, SessionState, SessionStep, session_at}
 use Rattle.lv_hub.specs.Renewing.{IsClosed, IsOfOneVector}
 use Rattle.lv_server.specs.Served.{AreHeld, FailsToServe, Served, Sides, Transcript, answered_to, ended_well}

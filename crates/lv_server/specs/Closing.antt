@@ -4,7 +4,7 @@ use mathlib.Core.List.{IsPrefix}
 use Rattle.lv_geometry.specs.Bounds.{Bounds}
 use Rattle.lv_edits.specs.declared.edit.Edit.{Edit}
 use Rattle.lv_transcript.specs.declared.log_heading.LogHeading.{LogHeading}
-use Rattle.lv_history.specs.Counting.{ShareState}
+use Rattle.lv_hub.specs.Counting.{ShareState}
 use Rattle.lv_transcript.specs.Logs.{LogThere}
 use Rattle.lv_hub.specs.Logging.{EndsInFile}
 use Rattle.lv_hub.specs.Noticing.{NoticesState}

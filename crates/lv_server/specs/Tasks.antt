@@ -7,7 +7,7 @@ use Rattle.lv_transcript.specs.declared.log_heading.LogHeading.{LogHeading}
 use Rattle.lv_geometry.specs.Bounds.{Bounds}
 use Rattle.lv_lines.specs.Replies.{LinesServed}
 use Rattle.lv_transcript.specs.Transcript.{IsTrueAnswer}
-use Rattle.lv_history.specs.Counting.{ShareState}
+use Rattle.lv_hub.specs.Counting.{ShareState}
 use Rattle.lv_hub.specs.Session.{SessionState, SessionStep, session_at}
 use Rattle.lv_server.specs.Served.{AreHeld, Sides, answered_to, counted_by, ended_well}
 

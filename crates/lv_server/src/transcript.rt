@@ -5,7 +5,7 @@ ghost use mathlib.Core.List.{IsPrefix};
 ghost use Rattle.lv_transcript.specs.Joined.{in_a_row};
 ghost use Rattle.lv_transcript.specs.Transcribing.{IsUnused};
 ghost use Rattle.lv_transcript.specs.Transcript.{AreAccepted, IsTrueAnswer, greatest};
-ghost use Rattle.lv_history.specs.Counting.{having_seen};
+ghost use Rattle.lv_hub.specs.Counting.{having_seen};
 ghost use Rattle.lv_transcript.specs.Logs.{MayGoOn, edits_there};
 ghost use Rattle.lv_hub.specs.Logging.{AreLasting, EndsInFile};
 ghost use Rattle.lv_hub.specs.Renewing.{IsOfOneVector};

@@ -18,7 +18,7 @@ pub use Rattle.lv_standing.specs.Queries
 pub use Rattle.lv_standing.specs.declared.queries.Query
 pub use Rattle.lv_standing.proofs.QueryLaws
 pub use Rattle.lv_hub.specs.declared.told.Told as ToldType
-pub use Rattle.lv_history.specs.Counting
+pub use Rattle.lv_hub.specs.Counting
 pub use Rattle.lv_hub.specs.Notes
 pub use Rattle.lv_hub.specs.Renewing
 pub use Rattle.lv_hub.specs.Told as Hub

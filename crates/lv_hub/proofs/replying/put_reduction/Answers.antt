@@ -3,7 +3,7 @@ use Rattle.std.proofs.Common.{◌≡◌, ◌++◌, Ok, Err, List, length, refl, 
 use Rattle.lv_geometry.specs.declared.refusals.Refusal.TheVariants.{NoMemory}
 use Rattle.lv_lines.specs.Texts.{answer_text, refused_text}
 use Rattle.lv_transcript.specs.declared.claimed.Claimed.{Claimed}
-use Rattle.lv_history.specs.Counting.{ShareState}
+use Rattle.lv_hub.specs.Counting.{ShareState}
 use Rattle.lv_history.specs.Numbering.{told_number}
 use Rattle.lv_hub.specs.Replying.{listed_of, up_to}
 use Rattle.lv_hub.specs.Session.{listed_if, session_at}

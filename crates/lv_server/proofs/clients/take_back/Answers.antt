@@ -4,7 +4,7 @@ use Rattle.std.proofs.lemmas.Iterator.Adapters.{YieldsList-from_vec}
 use Rattle.std.proofs.lemmas.Iterator.Consumers.{YieldsList-end}
 use Rattle.std.proofs.lemmas.List.{map-id}
 use Rattle.lv_transcript.specs.Transcript.{IsTrueAnswer}
-use Rattle.lv_history.specs.Counting.{AreTogether}
+use Rattle.lv_hub.specs.Counting.{AreTogether}
 use Rattle.lv_server.specs.Tasks.{listed_in}
 use Rattle.lv_transcript.specs.Joined.{in_a_row}
 use Rattle.lv_server.proofs.ServedLaws.{row_push, takes_all, takes_next, takes_none}

@@ -1,10 +1,9 @@
 //! A thread's part of a hub.
 ghost use Rattle.std.specs.Prelude.{◌≡◌, ◌+◌, ◌%◌, ◌^◌, ◌<◌, ◌≤◌, length, true};
 ghost use mathlib.Core.List.{IsPrefix};
-ghost use Rattle.lv_history.specs.Counting.{AreTogether, ShareState, having_seen};
+ghost use Rattle.lv_hub.specs.Counting.{AreTogether, ShareState, having_seen};
 
-use crate::histories::{Head, HistoryPrefix};
-use crate::naming::Naming;
+use lv_history::{Head, HistoryPrefix, Naming};
 use std::marker::Model;
 use std::sync::ledger::{Book, Share as Token};
 
@@ -12,10 +11,10 @@ use std::sync::ledger::{Book, Share as Token};
 /// share that is dropped takes its parts with it, so that the hub can't be closed any more.
 #[derive(Drop)]
 pub struct Share<N: Naming> {
-    token: Token<N>,
-    prefix: HistoryPrefix<N>,
-    parts: u64,
-    count: u64,
+    pub(crate) token: Token<N>,
+    pub(crate) prefix: HistoryPrefix<N>,
+    pub(crate) parts: u64,
+    pub(crate) count: u64,
 }
 
 impl<N: Naming> Model for Share<N> {
@@ -28,7 +27,7 @@ impl<N: Naming> Model for Share<N> {
 
 impl<N: Naming> Share<N> {
     // The share of all parts, as the ledger opens, with what it has seen.
-    pub fn whole(token: Token<N>, prefix: HistoryPrefix<N>, parts: u64) -> Share<N>
+    pub(crate) fn whole(token: Token<N>, prefix: HistoryPrefix<N>, parts: u64) -> Share<N>
         requires some { 0 < parts }
         requires parts { token.parts ≡ parts }
         requires count { token.amount ≡ 0 }
@@ -117,14 +116,14 @@ impl<N: Naming> Share<N> {
     }
 
     // Whether a prefix of the same hub has seen all that it has.
-    pub fn is_within(&self, prefix: &HistoryPrefix<N>) -> bool
+    pub(crate) fn is_within(&self, prefix: &HistoryPrefix<N>) -> bool
         ensures { result ≡ true → IsPrefix self.now.seen prefix.now }
     {
         self.prefix.begins(prefix)
     }
 
     // How many edits it has seen.
-    pub fn seen(&self) -> u64
+    pub(crate) fn seen(&self) -> u64
         ensures count { result ≡ length self.now.seen }
         ensures few { result ≤ 2 ^ 62 }
     {
@@ -132,7 +131,7 @@ impl<N: Naming> Share<N> {
     }
 
     // Sees all edits.
-    pub fn see(&mut self, head: &mut Head<N>)
+    pub(crate) fn see(&mut self, head: &mut Head<N>)
         ensures begins { IsPrefix self.old.seen head.old }
         ensures seen { self.new ≡ having_seen self.old head.old }
         ensures same { head.new ≡ head.old }
@@ -142,7 +141,7 @@ impl<N: Naming> Share<N> {
     }
 
     // Counts one edit more, in the book too.
-    pub fn enter(&mut self, book: &mut Book<N>)
+    pub(crate) fn enter(&mut self, book: &mut Book<N>)
         ensures share { self.new ≡ record self.old { count = self.old.count + 1 } }
         ensures book { book.new.total ≡ book.old.total + 1 }
     {
@@ -151,7 +150,7 @@ impl<N: Naming> Share<N> {
     }
 
     // Where it has all parts, it counts what the book does.
-    pub fn audit(&mut self, book: &mut Book<N>)
+    pub(crate) fn audit(&mut self, book: &mut Book<N>)
         requires { self.old.parts ≡ N.parts }
         ensures share { self.new ≡ self.old }
         ensures book { book.new.total ≡ book.old.total }
