@@ -25,7 +25,7 @@ LDCONFIG = ldconfig
 UNPROVED =
 ifneq ($(UNPROVED),)
 PROGRAM = build/unproved/livevec
-LIB = build/unproved/unchecked
+LIB = build/unproved
 endif
 # whether an archive was built with its proofs: one that was not has a symbol that says so
 is_proved = $(shell grep -qaF livevec_not_proved "$(LIB)/liblivevec.a" && echo no || echo yes)
@@ -41,7 +41,7 @@ help: ## lists what can be made
 	@sed -n 's/^\([a-z-]*\):.*## \(.*\)/\1|\2/p' Makefile | awk -F '|' '{ printf "make %-15s %s\n", $$1, $$2 }'
 
 try: ## runs `livevec run`, or what DO=.. says, without proofs; built once for the sources
-	@tools/unproved
+	@tools/unproved program
 	@build/unproved/livevec $(DO)
 
 build: ## proves the program, then builds it
@@ -56,16 +56,14 @@ $(PROGRAM):
 else
 .PHONY: $(PROGRAM) $(LIB)/liblivevec.a
 $(PROGRAM):
-	@tools/unproved
+	@tools/unproved program
 
 $(LIB)/liblivevec.a:
-	@CC="$(CC)" tools/unproved_library unchecked
+	@CC="$(CC)" tools/unproved library
 endif
 
-test: prove ## proofs and all that `make prove` does, then examples and pages
-	@tools/check_pages
-	@tools/timed examples "runs rows, examples and the programs on pages" "some 2 min, 2 more at first" examples/check
-	@tools/timed fits "compiles the bench's programs, whether they fit" "some 3 min" bench/check
+test: ## runs every test, row, example, page and binding, without proofs; with CRATE=.. only that crate's tests
+	@CC="$(CC)" tools/timed test$(addprefix -,$(CRATE)) "runs $(if $(CRATE),the tests of $(CRATE),every test) without proofs" "$(if $(CRATE),1 to 3 min,some 12 min on 4 processors)" tools/test $(addprefix --crate ,$(CRATE))
 
 prove: ## every proof, every wrong body, memory refused in turn; with CRATE=.. proofs and wrong bodies of that crate and those below
 ifeq ($(CRATE),)
