@@ -1,6 +1,7 @@
 /* Calls from C. `calls questions`, `searches` or `windows` does by a series what `peers.rs` does by trees and queues of its own, on the same elements,
  * ranges and indices. `calls bounds` has each baseline in itself: writes and sums of all compared with a segment tree, running sums with a loop, many
- * pushes with a copy, and four workers of a shared vector with one thread. Each line that it prints is a label, nanoseconds, and how often the work was
+ * pushes with a copy, and four workers of a shared vector with one thread. `calls pauses` has the longest single calls among 1,000,000 elements whose
+ * six kinds are all asked for, by the processor time of their thread, which other work on the machine changes little. Each line that it prints is a label, nanoseconds, and how often the work was
  * done in them; or what was answered last. */
 #include <livevec.h>
 
@@ -361,12 +362,80 @@ static void bounds(void)
         refreshes(sum);
 }
 
+static uint64_t spent(void)
+{
+    struct timespec t;
+    clock_gettime(CLOCK_THREAD_CPUTIME_ID, &t);
+    return (uint64_t)t.tv_sec * 1000000000u + (uint64_t)t.tv_nsec;
+}
+
+static uint32_t drawn(uint32_t below)
+{
+    static uint64_t number = 1;
+    return (uint32_t)pick(number = next(number), below);
+}
+
+/* Makes a call, which isn't refused, and keeps how long the longest of its sort took. */
+#define PAUSE(most, call) \
+    do { \
+        uint64_t began = spent(); \
+        must(!(call).refusal, #call); \
+        uint64_t took = spent() - began; \
+        (most) = took > (most) ? took : (most); \
+    } while (0)
+
+static void show_pause(const char *what, uint64_t most) { printf("%s: %llu 1\n", what, (unsigned long long)most); }
+
+static void vector_pauses(void)
+{
+    livevec_vector v = {0};
+    uint64_t first = 0, asked = 0, write = 0, again = 0, push = 0;
+    must(!livevec_new(&v, 17, 16777215), "a vector");
+    for (uint32_t i = 0; i < MOST; i++)
+        PAUSE(first, livevec_push(&v, drawn(1000)));
+    show_pause("vector: a push, nothing asked yet", first);
+    PAUSE(asked, livevec_ask(&v, 0, MOST));
+    show_pause("vector: the first query of all six", asked);
+    for (uint32_t i = 0; i < 5 * MOST; i++)
+        PAUSE(write, livevec_write(&v, drawn(MOST), drawn(1000)));
+    show_pause("vector: a write, all six asked before", write);
+    PAUSE(again, livevec_ask(&v, 0, MOST));
+    show_pause("vector: the query after these writes", again);
+    for (uint32_t i = MOST; i < 1048568; i++)
+        PAUSE(push, livevec_push(&v, drawn(1000)));
+    show_pause("vector: a push, all six asked before", push);
+    must(!livevec_free(&v), "its end");
+}
+
+static void series_pauses(void)
+{
+    livevec_series s = {0};
+    uint64_t asked = 0, push = 0, expiry = 0, write = 0, ignored = 0, first = 0;
+    must(!livevec_series_new(&s), "a series");
+    for (uint32_t i = 0; i < MOST; i++)
+        PAUSE(ignored, livevec_series_push(&s, drawn(1000)));
+    PAUSE(asked, livevec_series_ask(&s, 0, MOST));
+    show_pause("series: the first query of all six", asked);
+    for (uint32_t i = 0; i < 5 * MOST; i++) {
+        PAUSE(push, livevec_series_push(&s, drawn(1000)));
+        PAUSE(expiry, livevec_series_expire(&s, ++first));
+        PAUSE(write, livevec_series_write(&s, first + drawn(MOST), drawn(1000)));
+    }
+    show_pause("series: a push in a window", push);
+    show_pause("series: an expiry in a window", expiry);
+    show_pause("series: a write in a window", write);
+    livevec_free_series(&s);
+}
+
 int main(int count, char **words)
 {
     static const uint64_t sizes[] = {1000, 65536, 1000000};
-    must(count == 2, "the part: questions, searches, windows or bounds");
+    must(count == 2, "the part: questions, searches, windows, bounds or pauses");
     if (!strcmp(words[1], "bounds")) {
         bounds();
+    } else if (!strcmp(words[1], "pauses")) {
+        vector_pauses();
+        series_pauses();
     } else if (!strcmp(words[1], "windows")) {
         show_window(LIVEVEC_SUM);
         show_window(LIVEVEC_GREATEST);

@@ -11,13 +11,12 @@ import sys
 
 HERE = os.path.dirname(os.path.abspath(__file__))
 OUT, TOP, WORKSPACE = f"{HERE}/out", os.path.dirname(HERE), f"{HERE}/out/rattle"
-# of each: its words once it is built, which warms it up; the libraries that it names, the last of which is built first; and those below them
-THREADED = "lv_geometry lv_bodies lv_edits lv_reduce lv_machine lv_board", "lv_store lv_summary lv_refresh lv_live lv_tree lv_series lv_standing lv_lines lv_transcript lv_script"
+# of each: its words once it is built, which warms it up; and the libraries that it names, the last of which is built first
 PROGRAMS = {
-    "figures": (["--", "folds"], "lv_geometry lv_bodies lv_store lv_edits lv_summary lv_refresh lv_reduce lv_live lv_tree lv_standing", ""),
-    "window": (["--", "unasked"], "lv_bodies lv_tree lv_series", "lv_geometry lv_store lv_edits"),
-    "board": ([], *THREADED),
-    "soak": ([], *THREADED),
+    "figures": (["--", "folds"], "lv_geometry lv_bodies lv_store lv_edits lv_summary lv_refresh lv_reduce lv_live lv_tree lv_standing"),
+    "window": (["--", "unasked"], "lv_bodies lv_tree lv_series"),
+    "board": ([], "lv_geometry lv_bodies lv_edits lv_reduce lv_machine lv_board"),
+    "soak": ([], "lv_geometry lv_bodies lv_edits lv_reduce lv_machine lv_board"),
 }
 
 
@@ -29,14 +28,23 @@ def linked(source, target):
         shutil.copy2(source, target)
 
 
+def with_below(names, known):
+    """Some libraries with those below them, by the lines of crates.txt."""
+    below = {line.split(":")[0].split()[0]: line.split(":")[1].split() for line in known if ":" in line}
+    found = set(names)
+    while more := {it for name in found for it in below[name] if it in below} - found:
+        found |= more
+    return found
+
+
 def lay_out(program):
     """Lays a program out as a crate. What is shared lies in figures/: a program gets what it names."""
-    _, libraries, below = PROGRAMS[program]
+    _, libraries = PROGRAMS[program]
     crate, known = f"{WORKSPACE}/crates/{program}", open(f"{TOP}/crates.txt").read().splitlines()
+    names = with_below(libraries.split(), known)
     put_away(program)
     os.makedirs(f"{crate}/src")
     shutil.copy(f"{TOP}/HANDLES", WORKSPACE)
-    names = f"{libraries} {below}".split()
     with open(f"{WORKSPACE}/crates.txt", "w") as crates:
         crates.writelines(f"{line}\n" for line in [f"{program}: anyhow {libraries}", *(line for line in known if line.split(":")[0] in names)])
     for folder in (f"crates/{name}/{part}" for name in names for part in ("src", "specs", "proofs", "out/rlib")):
@@ -73,7 +81,7 @@ def ran(words, folder):
 
 def prove(program):
     """Proves and builds a program."""
-    words, libraries, _ = PROGRAMS[program]
+    words, libraries = PROGRAMS[program]
     is_built, said = ran(["rt", "lib"], f"{TOP}/crates/{libraries.split()[-1]}")
     print(f"proves and builds bench/{program}: some 10 min at first, less where little changed", file=sys.stderr, flush=True)
     try:
