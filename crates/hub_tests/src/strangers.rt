@@ -3,7 +3,7 @@ ghost use Rattle.std.specs.Prelude.{◌≡◌, Some};
 
 use crate::common::*;
 use crate::same::assert_same;
-use lv_bodies::{Automaton, Body, Sum};
+use lv_bodies::{Automaton, Sum};
 use lv_geometry::{Limits, Refusal};
 use lv_hub::*;
 use lv_reduce::Scan;
@@ -23,48 +23,63 @@ struct FirstJob {
     x: i64,
 }
 
-impl<B: Body> AtHub<B> for FirstJob {
-    type Seen = Result<Outcome<B>, Fail>;
+impl AtHub<Sum> for FirstJob {
+    type Seen = Result<Outcome<Sum>, Fail>;
 
-    fn meet<N: WithBody<B>, R: Wait + Abort>(
+    fn meet<N: WithBody<Sum>, R: Wait + Abort>(
         &self,
         rt: &R,
         _alloc: Global,
-        hub: &Hub<B, N>,
+        hub: &Hub<Sum, N>,
         share: Share<N>,
-    ) -> (Share<N>, Result<Outcome<B>, Fail>) {
+    ) -> (Share<N>, Result<Outcome<Sum>, Fail>) {
         let mut share = share;
         push_all(rt, hub, &mut share, 8, self.x);
         (share, next_outcome(rt, hub))
     }
 }
 
-// The outcome of the first job of a hub of eight equal elements.
-fn first_outcome<B: Body, R: Wait + Abort>(
+impl AtHub<Automaton> for FirstJob {
+    type Seen = Result<Outcome<Automaton>, Fail>;
+
+    fn meet<N: WithBody<Automaton>, R: Wait + Abort>(
+        &self,
+        rt: &R,
+        _alloc: Global,
+        hub: &Hub<Automaton, N>,
+        share: Share<N>,
+    ) -> (Share<N>, Result<Outcome<Automaton>, Fail>) {
+        let mut share = share;
+        push_all(rt, hub, &mut share, 8, self.x);
+        (share, next_outcome(rt, hub))
+    }
+}
+
+// The outcome of the first job of a hub of eight elements 1, by an automaton.
+fn outcome_by<R: Wait + Abort>(
     rt: &R,
     alloc: Global,
-    body: B,
-    x: i64,
-) -> Result<Outcome<B>, Fail> {
-    let (outcome, counted, live) = at_hub(rt, alloc, body, &FirstJob { x });
+    body: Automaton,
+) -> Result<Outcome<Automaton>, Fail> {
+    let (outcome, counted, live) = at_hub(rt, alloc, body, &FirstJob { x: 1 });
     assert_counted(rt, counted, live, 8);
     outcome
 }
 
 // Gives an outcome to a hub of eight elements 1.
 #[derive(Drop)]
-struct Given<B: Body> {
-    outcome: Outcome<B>,
+struct Given {
+    outcome: Outcome<Automaton>,
 }
 
-impl<B: Body> AtHub<B> for Given<B> {
+impl AtHub<Automaton> for Given {
     type Seen = Result<Accepted, Refusal>;
 
-    fn meet<N: WithBody<B>, R: Wait + Abort>(
+    fn meet<N: WithBody<Automaton>, R: Wait + Abort>(
         &self,
         rt: &R,
         _alloc: Global,
-        hub: &Hub<B, N>,
+        hub: &Hub<Automaton, N>,
         share: Share<N>,
     ) -> (Share<N>, Result<Accepted, Refusal>) {
         let mut share = share;
@@ -73,13 +88,13 @@ impl<B: Body> AtHub<B> for Given<B> {
     }
 }
 
-// What a hub of eight elements 1 answers where it is given an outcome.
-fn answer_to<B: Body, R: Wait + Abort>(
+// What a hub of eight elements 1 answers where it is given an outcome, by the program's automaton.
+fn answer_to<R: Wait + Abort>(
     rt: &R,
     alloc: Global,
-    body: B,
-    outcome: Outcome<B>,
+    outcome: Outcome<Automaton>,
 ) -> Result<Accepted, Refusal> {
+    let body = Automaton::program();
     let (answer, counted, live) = at_hub(rt, alloc, body, &Given { outcome });
     assert_counted(rt, counted, live, 8);
     answer
@@ -179,7 +194,9 @@ fn one_hub_of_two<N: WithBody<Sum>, R: Threads + Wait + Abort + Sync>(
 
 #[test]
 fn two_hubs(rt: HostRuntime) -> Result<(), Fail> {
-    let strange = first_outcome(&rt, rt.alloc(), Sum, 2)?;
+    let (strange, counted, live) = at_hub(&rt, rt.alloc(), Sum, &FirstJob { x: 2 });
+    assert_counted(&rt, counted, live, 8);
+    let strange = strange?;
     one_hub_of_two::<Brand, _>(
         &rt,
         rt.alloc(),
@@ -193,8 +210,8 @@ fn two_hubs(rt: HostRuntime) -> Result<(), Fail> {
 
 #[test]
 fn equal_contents_are_no_stranger(rt: HostRuntime) -> Result<(), Fail> {
-    let outcome = first_outcome(&rt, rt.alloc(), Sum, 1)?;
-    let answer = answer_to(&rt, rt.alloc(), Sum, outcome);
+    let outcome = outcome_by(&rt, rt.alloc(), Automaton::program())?;
+    let answer = answer_to(&rt, rt.alloc(), outcome);
     assert_same(&rt, &answer, &Ok(Accepted::Installed));
     Ok(())
 }
@@ -215,8 +232,8 @@ fn adding() -> Result<Automaton, Refusal> {
 
 #[test]
 fn an_outcome_by_another_table_is_a_stranger(rt: HostRuntime) -> Result<(), Fail> {
-    let outcome = first_outcome(&rt, rt.alloc(), adding()?, 1)?;
-    let answer = answer_to(&rt, rt.alloc(), Automaton::program(), outcome);
+    let outcome = outcome_by(&rt, rt.alloc(), adding()?)?;
+    let answer = answer_to(&rt, rt.alloc(), outcome);
     assert_same(&rt, &answer, &Err(Refusal::Stranger));
     Ok(())
 }
