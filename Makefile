@@ -63,7 +63,7 @@ $(LIB)/liblivevec.a:
 endif
 
 test: ## runs every test, row, example, page and binding, without proofs; with CRATE=.. only that crate's tests
-	@CC="$(CC)" tools/timed test$(addprefix -,$(CRATE)) "runs $(if $(CRATE),the tests of $(CRATE),every test) without proofs" "$(if $(CRATE),1 to 3 min,some 12 min on 4 processors)" tools/test $(addprefix --crate ,$(CRATE))
+	@CC="$(CC)" tools/timed test$(addprefix -,$(CRATE)) "runs $(if $(CRATE),the tests of $(CRATE),every test) without proofs" "$(if $(CRATE),1 to 3 min,some 8 min on 4 processors)" tools/test $(addprefix --crate ,$(CRATE))
 
 prove: ## every proof, every wrong body, memory refused in turn; with CRATE=.. proofs and wrong bodies of that crate and those below
 ifeq ($(CRATE),)
