@@ -1,6 +1,6 @@
 //! Tests of two sessions at a hub: they share one history.
 ghost use Rattle.std.specs.Prelude.{◌≡◌, ◌<◌, Some, true};
-ghost use Rattle.lv_hub.specs.Numbering.{from_the_first};
+ghost use Rattle.lv_history.specs.Numbering.{from_the_first};
 
 use crate::common::place_of;
 use crate::same::assert_same;

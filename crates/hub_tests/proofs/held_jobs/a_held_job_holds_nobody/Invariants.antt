@@ -1,6 +1,6 @@
 -- The ghosts that are handed on in `a_held_job_holds_nobody`: whose ledger, names and body the hub has.
 use Rattle.std.proofs.Common.{Some, true}
-use Rattle.lv_hub.specs.Numbering.{from_the_first}
+use Rattle.lv_history.specs.Numbering.{from_the_first}
 use Rattle.hub_tests.proofs.held_jobs.a_held_job_holds_nobody.Given as goal
 
 abbrev pub ghosts-hold_a_job-N-Ledger : goal.ghosts-hold_a_job-N-Ledger

@@ -1,6 +1,6 @@
 -- The ghosts that are handed on in `assert_held_scan`: whose ledger, names and body the hub has.
 use Rattle.std.proofs.Common.{Some, true}
-use Rattle.lv_hub.specs.Numbering.{from_the_first}
+use Rattle.lv_history.specs.Numbering.{from_the_first}
 use Rattle.hub_tests.proofs.held_scans.assert_held_scan.Given as goal
 
 abbrev pub ghosts-hold_a_scan-N-Ledger : goal.ghosts-hold_a_scan-N-Ledger

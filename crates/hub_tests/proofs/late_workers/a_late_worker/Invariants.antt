@@ -1,6 +1,6 @@
 -- The ghosts that are handed on in `a_late_worker`: whose ledger, names and body the hub has.
 use Rattle.std.proofs.Common.{Some, true}
-use Rattle.lv_hub.specs.Numbering.{from_the_first}
+use Rattle.lv_history.specs.Numbering.{from_the_first}
 use Rattle.hub_tests.proofs.late_workers.a_late_worker.Given as goal
 
 abbrev pub ghosts-late_worker-N-Ledger : goal.ghosts-late_worker-N-Ledger

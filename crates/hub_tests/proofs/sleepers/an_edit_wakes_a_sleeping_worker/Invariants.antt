@@ -1,6 +1,6 @@
 -- The ghosts that are handed on in `an_edit_wakes_a_sleeping_worker`: whose ledger, names and body the hub has.
 use Rattle.std.proofs.Common.{Some, true}
-use Rattle.lv_hub.specs.Numbering.{from_the_first}
+use Rattle.lv_history.specs.Numbering.{from_the_first}
 use Rattle.hub_tests.proofs.sleepers.an_edit_wakes_a_sleeping_worker.Given as goal
 
 abbrev pub ghosts-woken-N-Ledger : goal.ghosts-woken-N-Ledger

@@ -1,6 +1,6 @@
 -- The ghosts that are handed on in `dismissed_workers_end`: whose ledger, names and body the hub has.
 use Rattle.std.proofs.Common.{Some, true}
-use Rattle.lv_hub.specs.Numbering.{from_the_first}
+use Rattle.lv_history.specs.Numbering.{from_the_first}
 use Rattle.hub_tests.proofs.sleepers.dismissed_workers_end.Given as goal
 
 abbrev pub ghosts-dismissed-N-Ledger : goal.ghosts-dismissed-N-Ledger

@@ -1,6 +1,6 @@
 -- The ghosts that are handed on in `two_hubs`: whose ledger, names and body the hub has.
 use Rattle.std.proofs.Common.{Some, true}
-use Rattle.lv_hub.specs.Numbering.{from_the_first}
+use Rattle.lv_history.specs.Numbering.{from_the_first}
 use Rattle.hub_tests.proofs.strangers.two_hubs.Given as goal
 
 abbrev pub ghosts-one_hub_of_two-N-Ledger : goal.ghosts-one_hub_of_two-N-Ledger

@@ -1,6 +1,6 @@
 -- The ghosts that are handed on in `totals_over_threads`: whose ledger, names and body the hub has.
 use Rattle.std.proofs.Common.{Some, true}
-use Rattle.lv_hub.specs.Numbering.{from_the_first}
+use Rattle.lv_history.specs.Numbering.{from_the_first}
 use Rattle.hub_tests.proofs.totals.totals_over_threads.Given as goal
 
 abbrev pub ghosts-total-N-Ledger : goal.ghosts-total-N-Ledger
