@@ -67,7 +67,7 @@ test: ## runs every test, row, example, page and binding, without proofs; with C
 
 prove: ## every proof, every wrong body, memory refused in turn; with CRATE=.. proofs and wrong bodies of that crate and those below
 ifeq ($(CRATE),)
-	@CC="$(CC)" tools/timed prove "proves all crates, tries the wrong bodies, refuses memory in turn" "an hour or more at first, 5 min where nothing has changed" tools/prove
+	@CC="$(CC)" tools/timed prove "proves all crates, tries the wrong bodies, refuses memory in turn" "some 70 min on 4 processors" tools/prove
 else
 	@tools/timed prove-$(CRATE) "proves $(CRATE) and what lies below it, tries their wrong bodies" "1 to 60 min, by how high the crate stands" tools/prove $(CRATE)
 endif
