@@ -6,7 +6,7 @@ import signal
 from concurrent.futures import ProcessPoolExecutor
 
 from soak_parts.logs import Log, check_log
-from soak_parts.program import failing, library, put, ran, stop
+from soak_parts.program import but_start, failing, library, put, ran, stop
 from soak_parts.swapped import swapped
 
 # for failing_writes.c: the program is killed before the call
@@ -49,7 +49,7 @@ def step_one(room, case):
     # a server goes on with it, and a compaction does so then
     for name, next_words in (("second", ["serve", "--log", "log", "second"]), (None, ["compact", "log"])):
         then = ran(next_words, folder)
-        if then.returncode or then.stderr and not then.stderr.endswith(b"cut off\n"):
+        if then.returncode or but_start(then.stderr) and not but_start(then.stderr).endswith(b"cut off\n"):
             stop(f"{case}, then {next_words}: status {then.returncode}, {then.stderr!r}")
         now = check_log(f"{folder}/log", [f"{folder}/{name}.out"] if name else [], log.last())
         if now.list() != log.list() + [1, 1] or now.last() != log.last() + 2 or name and now.told != [log.last() + 1, log.last() + 2]:
