@@ -79,4 +79,4 @@ def steps(room):
         stop(f"no more than {min(counts)} calls were counted: {runs[counts.index(min(counts))]}")
     kills = sum(count for count, run in zip(counts, runs) if run[2] == KILLED)
     print(f"steps: {kills} kills before a call and {sum(counts) - kills} calls that failed, of compact and of a server on {len(PLACES)} logs: each had its elements and numbers, and was gone on with")
-    print(f"steps: in {swapped(room)} other runs files were exchanged, or could not be flushed, while a log was made anew or begun: no other file was replaced or removed, and it was told")
+    print(f"steps: in {swapped(room)} other runs files were exchanged, or could not be flushed, while a log was made anew, begun or served: no other file was replaced or removed, and it was told")
