@@ -173,9 +173,9 @@ The new log is written to FILE.compacting, and gets the name FILE when it is who
 second name of FILE; the next `compact` uses these names again, and `serve --log` removes the second name.
 
 FILE is locked meanwhile. It is a usage error if it is a link, has a second name, or is locked, as by a
-server, or if FILE.1 or FILE.compacting is, or if FILE.1 is no older log. If it is no log and no prefix of a transcript, that is a
-fault, which names the first wrong line, and nothing changes. If another file has the name FILE before
-it is replaced, that is a fault, and nothing is replaced.";
+server, or if FILE.1 or FILE.compacting is, or if FILE.1 is no older log. If it is no log and no prefix
+of a transcript, that is a fault, which names the first wrong line, and nothing changes. If another file
+has the name FILE before it is replaced, that is a fault, and nothing is replaced.";
 
 /// What `board` does.
 pub const BOARD: &str =
