@@ -119,8 +119,8 @@ pub fn serve_logged_files<
 }
 
 // Whether a log's name no longer leads to it at its end, which is told.
-fn is_lost<C: Clock + Copy, R: Eprint + LogFolder>(
-    file: Option<AnnouncedFile<'_, &R, StoredLog<'_, C, &R>>>,
+fn is_lost<'a, C: Clock + Copy, R: Eprint + LogFolder>(
+    file: Option<AnnouncedFile<'a, &'a R, StoredLog<'a, C, &'a R>>>,
 ) -> bool {
     match file {
         Some(mut file) => file.see_name().is_err(),
