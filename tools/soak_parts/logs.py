@@ -5,7 +5,7 @@ import signal
 import subprocess
 import time
 
-from soak_parts.program import PROGRAM, SEED, knob, made_by, put, session, stop, told, whole_lines
+from soak_parts.program import PROGRAM, SEED, but_start, knob, made_by, put, session, stop, told, whole_lines
 
 KILLS = knob("SOAK_KILLS", 100)
 SIGNALS = (signal.SIGKILL, signal.SIGTERM, signal.SIGINT)
@@ -91,7 +91,8 @@ def compact(room, dice, took):
 
 
 def check_end(process, printed, said):
-    """Sees that a server with a log ended well or by a signal, and said nothing but that a line was cut off."""
+    """Sees that a server with a log ended well or by a signal, and said nothing but with what it begins, and that a line was cut off."""
+    said = but_start(said)
     if process.returncode > 0 or printed or said.count(b"\n") != said.count(b"cut off\n"):
         stop(f"serve --log ended with {process.returncode}, after {printed[:100]!r} and {said[:200]!r}")
 

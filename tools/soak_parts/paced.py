@@ -3,7 +3,7 @@ import os
 import subprocess
 import time
 
-from soak_parts.program import stop
+from soak_parts.program import but_start, stop
 
 
 class Paced:
@@ -21,8 +21,9 @@ class Paced:
             self.process = subprocess.Popen(words, env=env, stdin=subprocess.DEVNULL, stdout=printed, stderr=said)
 
     def has_said(self):
-        """Whether standard error has anything."""
-        return os.path.getsize(self.said) > 0
+        """Whether standard error has anything but with what the server begins."""
+        with open(self.said, "rb") as said:
+            return but_start(said.read()) != b""
 
     def replies(self, at):
         """How many replies a session has."""
@@ -57,7 +58,7 @@ class Paced:
         stop(f"{self.names}: the server {what} after {self.longest} s: {self.counts} of {self.sent} replies, {open(self.said).read()!r}")
 
     def end(self):
-        """Ends the sessions, and says with which status the server ended and what it said."""
+        """Ends the sessions, and says with which status the server ended and what it said but with what it begins."""
         for line in self.lines:
             os.close(line)
         self.lines = []
@@ -65,7 +66,8 @@ class Paced:
             if self.process.poll() is not None:
                 break
         self.close()
-        return self.process.returncode, open(self.said, "rb").read()
+        with open(self.said, "rb") as said:
+            return self.process.returncode, but_start(said.read())
 
     def kill(self):
         """Kills the server."""

@@ -1,5 +1,6 @@
 """What the parts of the soak share: the knobs, the program and what it answers, lines of a session, a plain list, and what files and logs have."""
 import os
+import re
 import subprocess
 import sys
 import time
@@ -28,6 +29,14 @@ def ran(words, folder=None, data=None, seconds=600, **more):
         return subprocess.run([PROGRAM, *words], cwd=folder, capture_output=True, timeout=seconds, **given, **more)
     except subprocess.TimeoutExpired:
         stop(f"{words} has not ended after {seconds} s")
+
+
+STARTS = re.compile(rb"livevec: (makes '.*'|goes on with '.*': \d+ updates in all, \d+ elements)\n")
+
+
+def but_start(said):
+    """What the program said on standard error, without the line in which `serve --log` says with what it begins."""
+    return STARTS.sub(b"", said)
 
 
 def told(words, data=b"", seconds=600):

@@ -8,7 +8,7 @@ from array import array
 
 from soak_parts.cut_off import KILLS
 from soak_parts.logs import MADE, QUERIES, SIGNALS, Log, check_end, check_log
-from soak_parts.program import PROGRAM, SEED, knob, make, put, ran, session, stop, whole_lines
+from soak_parts.program import PROGRAM, SEED, but_start, knob, make, put, ran, session, stop, whole_lines
 
 EDITS, SESSIONS = knob("SOAK_EDITS", 40000000), 16
 
@@ -95,7 +95,7 @@ def worn(room):
             file.writelines(lines_of(dice, EDITS // SESSIONS))
     put("watch all sum 0 1048568\nwatch last best last 50\n", f"{room}/w")
     served = ran(["serve", "--log", f"{room}/log", "--watch", f"{room}/w", *names], seconds=7200)
-    if served.returncode or served.stdout or served.stderr:
+    if served.returncode or served.stdout or but_start(served.stderr):
         stop(f"serve --log ended with {served.returncode}, {served.stderr[:200]!r}")
     # which session made the update of a number: then its lines, in turn, are the updates
     by = bytearray(EDITS + 1)

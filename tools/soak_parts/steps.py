@@ -6,7 +6,7 @@ import signal
 from concurrent.futures import ProcessPoolExecutor
 
 from soak_parts.logs import Log, check_log
-from soak_parts.program import failing, library, put, ran, stop
+from soak_parts.program import but_start, failing, library, put, ran, stop
 from soak_parts.swapped import swapped
 
 # for failing_writes.c: the program is killed before the call
@@ -49,7 +49,7 @@ def step_one(room, case):
     # a server goes on with it, and a compaction does so then
     for name, next_words in (("second", ["serve", "--log", "log", "second"]), (None, ["compact", "log"])):
         then = ran(next_words, folder)
-        if then.returncode or then.stderr and not then.stderr.endswith(b"cut off\n"):
+        if then.returncode or but_start(then.stderr) and not but_start(then.stderr).endswith(b"cut off\n"):
             stop(f"{case}, then {next_words}: status {then.returncode}, {then.stderr!r}")
         now = check_log(f"{folder}/log", [f"{folder}/{name}.out"] if name else [], log.last())
         if now.list() != log.list() + [1, 1] or now.last() != log.last() + 2 or name and now.told != [log.last() + 1, log.last() + 2]:
@@ -79,4 +79,4 @@ def steps(room):
         stop(f"no more than {min(counts)} calls were counted: {runs[counts.index(min(counts))]}")
     kills = sum(count for count, run in zip(counts, runs) if run[2] == KILLED)
     print(f"steps: {kills} kills before a call and {sum(counts) - kills} calls that failed, of compact and of a server on {len(PLACES)} logs: each had its elements and numbers, and was gone on with")
-    print(f"steps: in {swapped(room)} other runs files were exchanged, or could not be flushed, while a log was made anew or begun: no other file was replaced or removed, and it was told")
+    print(f"steps: in {swapped(room)} other runs files were exchanged, or could not be flushed, while a log was made anew, begun or served: no other file was replaced or removed, and it was told")

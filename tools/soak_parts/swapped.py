@@ -1,4 +1,4 @@
-"""Cases of the part `steps`: what lies in the folder of a log is exchanged, locked or served by another program right while a log is made anew or begun."""
+"""Cases of the part `steps`: what lies in the folder of a log is exchanged, locked or served by another program right while a log is made anew or begun, or while it is served."""
 import errno
 import os
 import resource
@@ -6,12 +6,15 @@ import shutil
 import subprocess
 import time
 
+from soak_parts.logs import check_log
+from soak_parts.paced import Paced
 from soak_parts.program import PROGRAM, failing, put, ran, stop, text_at
 
 # for failing_writes.c: nothing goes wrong
 PASSES = -4
 LOG = "livevec 2 0 0\nj push 5\nj push 6\nj pop\n"
 OTHER = "livevec 2 7 1\nj push 777\n"
+LOST = b"livevec: 'log' can't be written, and no session goes on: this name no longer leads to the log\n"
 COMPACT, DROP = ["compact", "log"], ["compact", "--drop-old", "log"]
 SERVE, SERVE_DROP = (["serve", *more, "--compact-at", "1", "--log", "log", "session"] for more in ([], ["--drop-old"]))
 # what is done at the first flush of the new log, which name it takes, and what has that name then: a file's text, or none
@@ -38,12 +41,14 @@ def meanwhile(room, folder, words, call, at, runs, how=PASSES, **more):
 
 
 def swap(room, words, runs, name, wanted):
-    """A name leads elsewhere once the new log is whole: nothing is replaced, which is told, and what was made is removed."""
+    """A name leads elsewhere once the new log is whole: nothing is replaced, which is told, and what was made is removed. A server whose log it was ends, and tells of no update."""
     folder = folder_of(room, "swap")
     it = meanwhile(room, folder, words, "fsync", 1, runs)
     served = words[0] == "serve"
     said = f"'{name}' is no longer the file that was {'opened' if name == 'log' else 'made'} here".encode()
-    if it.returncode != (0 if served else 1) or said not in it.stderr or (b"livevec: the log isn't made anew: " if served else b"livevec: fault 14\n") not in it.stderr:
+    ends = not served or name == "log"
+    wanted_too = [said] + [b"livevec: the log isn't made anew: "] * served + [b"livevec: fault 14\n"] * ends + [LOST] * (ends and served)
+    if it.returncode != ends or not all(text in it.stderr for text in wanted_too) or served and text_at(f"{folder}/session.out") != "edit 4 at 1\n" * (not ends):
         stop(f"{words}, meanwhile `{runs}`: status {it.returncode}, {it.stdout!r}, {it.stderr!r}")
     if text_at(f"{folder}/{name}") != wanted or name == "log" and os.path.lexists(f"{folder}/log.compacting") or os.path.islink(f"{folder}/log") != runs.startswith("ln"):
         stop(f"{words}, meanwhile `{runs}`: {name} has {text_at(f'{folder}/{name}')!r}, beside {os.listdir(folder)}")
@@ -141,6 +146,30 @@ def written_since(room, words):
     shutil.rmtree(folder)
 
 
+def lost_while_served(room, runs, wanted):
+    """A log is moved, replaced or removed while it is served: some lines later, and within some seconds, the server ends, and each update that it told of is in the file that it had."""
+    folder = folder_of(room, "lost")
+    log, kept, first = (f"{folder}/{name}" for name in ("log", "kept", "first"))
+    server = Paced([PROGRAM, "serve", "--log", log, first], folder, [first])
+    if not server.turn([["push 1"]]):
+        stop(f"a server said {text_at(server.said)!r}")
+    os.link(log, kept)
+    subprocess.run(runs, shell=True, cwd=folder, check=True)
+    came = time.monotonic()
+    while server.turn([["push 2"]]):
+        if time.monotonic() - came > 5:
+            stop(f"`{runs}` while a log is served: nothing was said of it for 5 s")
+        time.sleep(0.01)
+    status, said = server.end()
+    now = None if os.path.islink(log) else text_at(log)
+    if status != 1 or LOST.replace(b"log", log.encode(), 1) not in said or b"livevec: fault 14\n" not in said or now != wanted:
+        stop(f"`{runs}` while a log is served: status {status}, {said!r}, {now!r}")
+    there = check_log(kept, [f"{first}.out"], 3)
+    if there.told != list(range(4, 4 + len(there.told))) or there.last() < 4:
+        stop(f"`{runs}` while a log is served: {there.told} were told of, and {there.last()} is the last")
+    shutil.rmtree(folder)
+
+
 def swapped(room):
     """Each of these. Says how many."""
     cases = [(words, *case) for words in (COMPACT, DROP, SERVE, SERVE_DROP) for case in SWAPS]
@@ -152,4 +181,7 @@ def swapped(room):
     sorts = ([], ["--transcript", "kept"], ["--log", "log"])
     for words in sorts:
         written_since(room, words)
-    return len(cases) + len(others) + len(sorts)
+    losses = (("mv log moved", None), ("rm log", None), ("mv other log", OTHER), ("mv log moved && ln -s moved log", None))
+    for case in losses:
+        lost_while_served(room, *case)
+    return len(cases) + len(others) + len(sorts) + len(losses)

@@ -6,7 +6,7 @@ import time
 
 from soak_parts.logs import Log, check_log
 from soak_parts.paced import Paced
-from soak_parts.program import PROGRAM, ROUNDS, SEED, put, ran, receipts, session, stop
+from soak_parts.program import PROGRAM, ROUNDS, SEED, but_start, put, ran, receipts, session, stop
 
 LOCKED = b"is locked, as by a server that writes it"
 
@@ -74,7 +74,7 @@ def at_once(folder, dice, turn):
         name = words[3] if words[0] == "serve" else None
         if process.returncode == 2 and LOCKED in said and not (name and os.path.exists(f"{folder}/{name}.out")):
             away += 1
-        elif process.returncode == 0 and not said:
+        elif process.returncode == 0 and not but_start(said):
             served += 1
             told += receipts([f"{folder}/{name}.out"]) if name else []
         else:

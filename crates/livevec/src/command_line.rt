@@ -153,6 +153,7 @@ pub fn kept(matches: &ArgMatches<'_>) -> LogPlan {
             .unwrap_or(COMPACT_AT)
             .into(),
         drops_old: matches.get_flag("drop-old"),
+        must_exist: matches.get_flag("must-exist"),
     }
 }
 

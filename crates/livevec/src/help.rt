@@ -94,11 +94,12 @@ session. A turn that finds no task counts too, so give workers more turns for lo
 
 Each FILE and its FILE.out are opened in order before a thread starts. The first one that can't be
 opened is the fault, and then no file has changed. No FILE.out is emptied before all are open. It is a
-usage error if a FILE.out is a link, locked by another program, as a log is that is served, or another
-name of a file that is read or written here, standard streams included.
+usage error if a FILE.out is a link, has a second name, is locked by another program, as a log is that
+is served, or is another name of a file that is read or written here, standard streams included.
 
 The transcript goes to standard output: the updates, then each answered reduction in the order of
-updates. `livevec audit` accepts it. If a session ends with a fault, no transcript is written.
+updates. `livevec audit` accepts it. If a session ends with a fault, no transcript is written. If standard
+output is a file, standard error says once before it gets more than 1073741824 bytes.
 
 With --transcript FILE each accepted update and each answered reduction is also written to FILE, before
 its reply is written, in real order and in complete lines. FILE is opened after the others, locked, and
@@ -112,19 +113,22 @@ the most that `livevec audit` reads, standard error says so once.
 
 With --log FILE the record is the store: `serve` begins with the updates of FILE and appends the new
 ones, each before its reply, and nothing goes to standard output. Their numbers go on from FILE's, also
-after `livevec compact`. With --log-answers answers are appended too. FILE is made if it isn't there,
-opened after the others, and locked before it is read; the usage errors are those of --transcript. If
-its last line isn't complete, that line is cut off, and standard error says so. If another line is
-wrong, or --buckets and --edits reject an update, that is a fault, which names the line, and no file has
-changed. A transcript is no log: `livevec compact FILE` makes a log of it. If FILE can't be written, or
-would become longer than 4294967293 bytes, standard error says so at once, no session goes on, and that
-is a fault at the end.
+after `livevec compact`. With --log-answers answers are appended too. FILE is made if it isn't there, for
+its owner alone, opened before the others, and locked before it is read; the usage errors are those of
+--transcript. With --must-exist it is a fault if FILE isn't there or has no whole line. Standard error
+says how many updates and elements there are. If the last line isn't complete, that line is cut off, and
+standard error says so; if it has more than 120 bytes, that is a fault. If another line is wrong, or
+--buckets and --edits reject an update, that is a fault, which names the line, and no file has changed.
+A transcript is no log: `livevec compact FILE` makes a log of it. If FILE can't be written, would become
+longer than 4294967293 bytes, or was removed, renamed or replaced, standard error says so at once, no
+session goes on, and that is a fault at the end.
 
 The log is made anew, of the elements that there are, as `livevec compact` does it, before the updates
 of its vector are used up, or once it has as many bytes as --compact-at says and is twice as long as
 when it was made anew last. Clients notice nothing, and numbers go on. The old file is kept as FILE.1
-unless --drop-old is given. If that fails, standard error says why, and the log stays as it is. With
---edits below 16777215 no log is made anew, and updates end there.
+unless --drop-old is given; at the start it is a usage error if a FILE.1 is there that is no older log,
+one whose updates all come before FILE's. If a log can't be made anew, standard error says why, and the
+log stays as it is. With --edits below 16777215 no log is made anew, and updates end there.
 
 With --watch FILE, up to 4 times, a subscriber runs next to the sessions. FILE has at most 64 lines
 `watch NAME KIND LO HI`, blank lines and comments. `last N` in place of LO HI means the last N elements,
@@ -163,15 +167,15 @@ elements that there are after all its updates. The next update has the number th
 and `livevec serve --log FILE` continues from it. One line on standard output says what was done. If the
 last line of FILE isn't whole, it is left out, and standard error says so.
 
-What was there is kept as FILE.1, in place of a regular file with that name, unless --drop-old is given.
+What was there is kept as FILE.1, in place of an older log with that name, unless --drop-old is given.
 The new log is written to FILE.compacting, and gets the name FILE when it is whole and on the disk. So if
 `compact` is killed, FILE is the old file or the new one. FILE.compacting may be left, or FILE.1 as a
 second name of FILE; the next `compact` uses these names again, and `serve --log` removes the second name.
 
 FILE is locked meanwhile. It is a usage error if it is a link, has a second name, or is locked, as by a
-server, or if FILE.1 or FILE.compacting is. If it is no log and no prefix of a transcript, that is a
-fault, which names the first wrong line, and nothing changes. If another file has the name FILE before
-it is replaced, that is a fault, and nothing is replaced.";
+server, or if FILE.1 or FILE.compacting is, or if FILE.1 is no older log. If it is no log and no prefix
+of a transcript, that is a fault, which names the first wrong line, and nothing changes. If another file
+has the name FILE before it is replaced, that is a fault, and nothing is replaced.";
 
 /// What `board` does.
 pub const BOARD: &str =
@@ -207,8 +211,9 @@ If you try a line again, other sessions may have changed the vector in the meant
 
 Each FILE and its FILE.out are opened in order before a thread starts. The first one that can't be
 opened is the fault, and then no file has changed. No FILE.out is emptied before all are open. It is a
-usage error if a FILE.out is a link, locked by another program, as a log is that is served, or another
-name of a file that is read or written here, standard streams included. If several sessions have faults, the first file's is reported.";
+usage error if a FILE.out is a link, has a second name, is locked by another program, as a log is that
+is served, or is another name of a file that is read or written here, standard streams included. If
+several sessions have faults, the first file's is reported.";
 
 /// What `schedule` does.
 pub const SCHEDULE: &str =

@@ -25,6 +25,9 @@ const NUMBERS: [&str; 8] = [
     "compact-at",
 ];
 
+// The flags that say something of a log.
+const OF_LOGS: [&str; 2] = ["log-answers", "must-exist"];
+
 // The options that say how a log is made anew while it is served.
 const OF_LOGS_MADE_ANEW: [&str; 2] = ["compact-at", "drop-old"];
 
@@ -101,8 +104,10 @@ fn idle_in<'a>(matches: &ArgMatches<'a>) -> Option<Misuse<'a>> {
     if matches.get_flag("sync") && !is_recorded {
         return Some(Misuse::Without("sync", "--transcript or --log"));
     }
-    if matches.get_flag("log-answers") && !is_logged {
-        return Some(Misuse::Without("log-answers", "--log"));
+    for name in &OF_LOGS {
+        if matches.get_flag(name) && !is_logged {
+            return Some(Misuse::Without(name, "--log"));
+        }
     }
     for name in &OF_LOGS_MADE_ANEW {
         if is_given(matches, name) {

@@ -181,6 +181,10 @@ pub const SERVE: Mode = Mode {
             "Goes on from this log, and writes updates there as they come: it is the store",
             &["transcript", "answers"],
         ),
+        Argument::Flag(
+            "must-exist",
+            "Makes no log: a --log that isn't there is a fault",
+        ),
         Argument::Flag("log-answers", "Writes answers to the log too"),
         Argument::Range(COMPACT_AT_BYTES),
         Argument::Flag(

@@ -3,11 +3,14 @@
 ghost use Rattle.std.specs.Prelude.{◌≡◌};
 
 use crate::escaped::Escaped;
+use crate::log_places::LogFolder;
+use crate::stored_log::StoredLog;
 use lv_lines::{Fault, MOST_NUMBERED, MOST_READ};
 use lv_transcript::{LogHeading, LogWriter};
 use std::alloc::Global;
 use std::io;
 use std::io::{Error, Write};
+use std::time::Clock;
 
 // How many bytes `livevec audit` reads at most.
 const MOST_AUDITED: u64 = MOST_READ as u64;
@@ -17,7 +20,8 @@ const MOST_AUDITED: u64 = MOST_READ as u64;
 #[derive(Drop)]
 pub struct AnnouncedFile<'a, E: Copy, F: Drop> {
     errors: E,
-    name: &'a str,
+    // None for standard output.
+    name: Option<&'a str>,
     file: F,
     is_told: bool,
     // How many bytes it takes until it is too long for `livevec audit`.
@@ -31,7 +35,7 @@ impl<'a, E: Eprint + Copy, F: Write + Drop> AnnouncedFile<'a, E, F> {
     {
         AnnouncedFile {
             errors,
-            name,
+            name: Some(name),
             file,
             is_told: false,
             room: MOST_AUDITED,
@@ -44,10 +48,23 @@ impl<'a, E: Eprint + Copy, F: Write + Drop> AnnouncedFile<'a, E, F> {
     {
         AnnouncedFile {
             errors,
-            name,
+            name: Some(name),
             file,
             is_told: false,
             room: u64::MAX,
+        }
+    }
+
+    /// Standard output, which a transcript is written to. Its failure is told at the end, and that it becomes long is told if it is a file.
+    pub fn of_output(errors: E, is_file: bool, file: F) -> AnnouncedFile<'a, E, F>
+        ensures { result.file ≡ file }
+    {
+        AnnouncedFile {
+            errors,
+            name: None,
+            file,
+            is_told: true,
+            room: if is_file { MOST_AUDITED } else { u64::MAX },
         }
     }
 
@@ -59,7 +76,7 @@ impl<'a, E: Eprint + Copy, F: Write + Drop> AnnouncedFile<'a, E, F> {
             return;
         }
         self.is_told = true;
-        let name = Escaped(self.name);
+        let name = Escaped(self.name.unwrap_or(""));
         let _ = eprintln!(self.errors;
             "livevec: '{name}' can't be written, and no session goes on: {error}"
         );
@@ -73,10 +90,29 @@ impl<'a, E: Eprint + Copy, F: Write + Drop> AnnouncedFile<'a, E, F> {
             return;
         }
         self.room = u64::MAX;
-        let name = Escaped(self.name);
+        let (before, name, behind) = match self.name {
+            Some(name) => ("'", name, "'"),
+            None => ("", "standard output", ""),
+        };
+        let name = Escaped(name);
         let _ = eprintln!(self.errors;
-            "livevec: '{name}' becomes longer than {MOST_AUDITED} bytes: `livevec audit` reads no more, but `livevec audit --front` reads up to {MOST_NUMBERED}"
+            "livevec: {before}{name}{behind} becomes longer than {MOST_AUDITED} bytes: `livevec audit` reads no more, but `livevec audit --front` reads up to {MOST_NUMBERED}"
         );
+    }
+}
+
+impl<'a, E: Eprint + Copy, C: Clock + Copy, R: Eprint + LogFolder> AnnouncedFile<
+    'a,
+    E,
+    StoredLog<'a, C, &'a R>,
+> {
+    /// Sees that the log's name leads to the file that was written. If not, that is told, unless a failure was.
+    pub fn see_name(&mut self) -> io::Result<()> {
+        let seen = self.file.see_name();
+        if let Err(error) = &seen {
+            self.tell(error);
+        }
+        seen
     }
 }
 

@@ -1,6 +1,6 @@
 //! Which file a name leads to, or an open file is.
 
-use std::fs::{Files, Metadata, OpenOptions, metadata};
+use std::fs::{Files, Metadata, OpenFile, OpenOptions, metadata};
 use std::io;
 use std::os::unix::fs::MetadataExt;
 
@@ -17,6 +17,26 @@ impl Identity {
         Identity {
             device: metadata.dev(),
             inode: metadata.ino(),
+        }
+    }
+}
+
+/// Which file was looked at, and how long it was then.
+#[derive(Clone, Copy, PartialEq)]
+pub struct SeenFile {
+    identity: Identity,
+    length: u64,
+}
+
+impl SeenFile {
+    /// A file that is open, if it can be looked at.
+    pub fn of<F: OpenFile>(file: &F) -> Option<SeenFile> {
+        match file.metadata() {
+            Ok(found) => Some(SeenFile {
+                identity: Identity::of(&found),
+                length: found.len(),
+            }),
+            Err(_) => None,
         }
     }
 }

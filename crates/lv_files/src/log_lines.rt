@@ -1,11 +1,12 @@
-//! In which lines of a log its updates are.
+//! In which lines of a log its updates are, and how many these are.
 
 use crate::program_error::{ProgramError, Reason};
-use lv_lines::Fault;
+use lv_lines::{Fault, MOST_NUMBERED};
+use lv_transcript::read_front;
 use std::alloc::Global;
 use std::fs::File;
 use std::io;
-use std::io::{BufRead, BufReader, Error, ErrorKind, Seek, SeekFrom};
+use std::io::{BufRead, BufReader, Error, ErrorKind, Read, Seek, SeekFrom};
 
 /// The line of an update, by its number in the log that is open as the file of a number. Lines and updates are counted from 1, and the file is read again up
 /// to that line. If that fails, the fault is `ReadFault`.
@@ -43,4 +44,67 @@ fn count_to<R: BufRead>(lines: &mut R, update: u32) -> io::Result<u32> {
         }
     }
     Err(Error::from(ErrorKind::UnexpectedEof))
+}
+
+/// The number of the last update of a log, or of a front of a transcript, that is open at its start: how many updates came before it, and how many of its whole lines are updates
+/// that don't stand for elements. Lines are told by their first letter, and not looked at otherwise. None if its first line isn't that of a log or of a
+/// transcript, if it has fewer updates than elements, or if it can't be read.
+pub fn last_number(alloc: Global, file: &File) -> Result<Option<u64>, ProgramError> {
+    let Ok(mut lines) = BufReader::new(alloc, file) else {
+        return Err(ProgramError::memory());
+    };
+    let Some((base, elements)) = numbers_before(alloc, &mut lines)? else {
+        return Ok(None);
+    };
+    let Ok((updates, is_last)) = count_updates(&mut lines) else {
+        return Ok(None);
+    };
+    let torn = u64::from(is_last && !is_ended(file));
+    match updates.saturating_sub(torn).checked_sub(elements.into()) {
+        Some(behind) => Ok(base.checked_add(behind)),
+        None => Ok(None),
+    }
+}
+
+// What the first line says: how many updates came before the file, and how many of its updates stand for elements. None if no log and no transcript begins so.
+fn numbers_before<R: BufRead>(
+    alloc: Global,
+    lines: &mut R,
+) -> Result<Option<(u64, u32)>, ProgramError> {
+    let Ok(first) = lines.fill_buf() else {
+        return Ok(None);
+    };
+    let found = match read_front(alloc, MOST_NUMBERED, first) {
+        Ok(found) => found,
+        Err(Fault::NoMemory) => return Err(ProgramError::memory()),
+        Err(_) => return Ok(None),
+    };
+    match found.heading {
+        Some(heading) => Ok(Some((heading.base, heading.elements))),
+        // it counts the first line of a transcript, and no line that is wrong
+        None if found.whole > 0 => Ok(Some((0, 0))),
+        None => Ok(None),
+    }
+}
+
+// How many lines are updates, and whether the last line is one.
+fn count_updates<R: BufRead>(lines: &mut R) -> io::Result<(u64, bool)> {
+    let mut updates = 0u64;
+    let mut is_last = false;
+    for _ in 0..u64::MAX {
+        let Some(letter) = lines.fill_buf()?.first().copied() else {
+            break;
+        };
+        is_last = letter == b'j';
+        updates = updates.saturating_add(is_last.into());
+        lines.skip_until(b'\n')?;
+    }
+    Ok((updates, is_last))
+}
+
+// Whether a file's last line is whole.
+fn is_ended(file: &File) -> bool {
+    let mut file = file;
+    let mut last = [0u8; 1];
+    file.seek(SeekFrom::End(-1)).is_ok() && file.read_exact(&mut last).is_ok() && last == *b"\n"
 }

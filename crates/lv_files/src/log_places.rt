@@ -1,8 +1,9 @@
 //! A log in whose place another comes: where the new one is made, and where the old one is kept.
 
 use crate::folders::{COMPACTING, Found, KEPT, beside, found_at, sync_folder};
-use crate::identity::{Identity, standard_files};
+use crate::identity::{Identity, SeenFile, standard_files};
 use crate::log_file::open_locked;
+use crate::log_lines::last_number;
 use crate::output_file::{Access, OutputFile, Use};
 use crate::program_error::{ProgramError, Reason};
 use lv_lines::Fault;
@@ -19,6 +20,8 @@ pub struct LogPlaces<'a> {
     // FILE.compacting, which the new one is until it is whole.
     made: String,
     drops_old: bool,
+    // Which file under FILE.1 is an older log, which the old file may take the place of.
+    older: Option<SeenFile>,
     // Which of the files it is.
     number: usize,
 }
@@ -36,8 +39,39 @@ impl<'a> LogPlaces<'a> {
             kept: beside(alloc, name, KEPT)?,
             made: beside(alloc, name, COMPACTING)?,
             drops_old,
+            older: None,
             number,
         })
+    }
+
+    /// Looks whether an older log is there where the old file is to be kept: one whose updates come before those of the log, which has so many before it. Which file that is
+    /// is remembered, since only it may be removed.
+    pub fn look<R: Files<File = File>>(
+        &mut self,
+        rt: &R,
+        alloc: Global,
+        log: Identity,
+        base: u64,
+    ) -> Result<(), ProgramError> {
+        self.older = None;
+        let [kept, _] = self.found(rt);
+        if kept == Found::Nothing || kept == Found::Regular(log) {
+            return Ok(());
+        }
+        let Ok((file, _)) = open_beside(rt, self.kept.as_str()) else {
+            return Ok(());
+        };
+        if let Some(last) = last_number(alloc, &file)? {
+            if last <= base {
+                self.older = SeenFile::of(&file);
+            }
+        }
+        Ok(())
+    }
+
+    /// Remembers that the old file, which is open, is where it is to be kept.
+    pub fn remember(&mut self, old: &File) {
+        self.older = SeenFile::of(old);
     }
 
     /// What is where the old file is to be kept, if it is to be, and where the new one is made.
@@ -51,7 +85,7 @@ impl<'a> LogPlaces<'a> {
     }
 
     /// Sees that nothing but regular files are there, which nobody has locked and no standard stream reads or writes, and none of them is the log itself,
-    /// but for FILE.1: a replacement that was killed may have left it that name.
+    /// but for FILE.1: a replacement that was killed may have left it that name. Otherwise FILE.1 must be the older log that was found there.
     pub fn see<R: Files<File = File>>(&self, rt: &R, log: Identity) -> Result<(), ProgramError> {
         let [kept, made] = self.found(rt);
         if let Some(reason) = self.kept_clash(rt, kept, log) {
@@ -77,10 +111,12 @@ impl<'a> LogPlaces<'a> {
                 if standard_files(rt).contains(&Some(identity)) {
                     return Some(Reason::KeptUsed);
                 }
-                if is_locked(rt, self.kept.as_str()) {
-                    return Some(Reason::KeptLocked);
+                match self.open_older(rt) {
+                    Ok(_) | Err(Reason::Unopened) => None,
+                    Err(Reason::RecordLocked) => Some(Reason::KeptLocked),
+                    Err(Reason::KeptOther) => Some(Reason::KeptOther),
+                    Err(_) => Some(Reason::KeptUnseen),
                 }
-                None
             }
             Found::Else => Some(Reason::KeptTaken),
             Found::TooLong => Some(Reason::KeptLong),
@@ -126,9 +162,16 @@ impl<'a> LogPlaces<'a> {
             return Err(self.fault(Reason::Moved));
         }
         let made = self.made.as_str();
-        self.clear(rt, made, Reason::CompactingLocked, Reason::Uncompacted)?;
+        let there = open_beside(rt, made);
+        self.clear(
+            rt,
+            made,
+            there,
+            Reason::CompactingLocked,
+            Reason::Uncompacted,
+        )?;
         let how = Access {
-            purpose: Use::Private,
+            purpose: Use::Store,
             makes: true,
         };
         let Ok((file, output)) = OutputFile::make(rt, how, made) else {
@@ -140,16 +183,27 @@ impl<'a> LogPlaces<'a> {
         }
     }
 
-    // Takes away what is in the way under a name beside the log, if something is, while it is locked. Why that can't be is one of two reasons: another has
+    // Opens and locks what is where the old file is to be kept. It must be the older log that was found there, as long as it was then.
+    fn open_older<R: Files<File = File>>(&self, rt: &R) -> Result<(File, OutputFile), Reason> {
+        let (file, output) = open_beside(rt, self.kept.as_str())?;
+        let seen = SeenFile::of(&file);
+        if seen.is_some() && seen == self.older {
+            return Ok((file, output));
+        }
+        Err(Reason::KeptOther)
+    }
+
+    // Takes away what is in the way under a name beside the log, if something was opened there, while it is locked. Why that can't be is one of two reasons: another has
     // locked it, or it stays.
     fn clear<R: Files<File = File>>(
         &self,
         rt: &R,
         name: &str,
+        there: Result<(File, OutputFile), Reason>,
         locked: Reason,
         stays: Reason,
     ) -> Result<(), ProgramError> {
-        match open_beside(rt, name) {
+        match there {
             Ok((file, output)) => {
                 let is_gone = output.is_taken_away(rt, name);
                 drop(file);
@@ -235,7 +289,13 @@ impl<'a> LogPlaces<'a> {
             Found::Nothing => Reason::Unkept,
             _ => Reason::UnkeptAndGone,
         };
-        self.clear(rt, kept, Reason::KeptLocked, Reason::Unkept)?;
+        self.clear(
+            rt,
+            kept,
+            self.open_older(rt),
+            Reason::KeptLocked,
+            Reason::Unkept,
+        )?;
         if hard_link(rt, self.name, kept).is_err() {
             return Err(self.fault(unkept));
         }
@@ -264,6 +324,9 @@ impl<'a> LogPlaces<'a> {
 /// What is done in the folder of a log when another comes in its place. A trait without types of its own, as `Files` has them: so a log that is
 /// sent to a thread may use it.
 pub trait LogFolder {
+    /// Whether the log's name leads to this file, and not by a link.
+    fn is_named(&self, places: &LogPlaces<'_>, log: OutputFile) -> bool;
+
     /// Sees that nothing is in the way, and makes the new file.
     fn make(
         &self,
@@ -289,6 +352,10 @@ pub trait LogFolder {
 }
 
 impl<R: Files<File = File>> LogFolder for R {
+    fn is_named(&self, places: &LogPlaces<'_>, log: OutputFile) -> bool {
+        log.is_named(self, places.name)
+    }
+
     fn make(
         &self,
         places: &LogPlaces<'_>,

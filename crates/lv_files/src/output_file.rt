@@ -18,10 +18,8 @@ const PRIVATE: u32 = 0o600;
 pub enum Use {
     /// It is written.
     Written,
-    /// It is read, and written at its end only.
+    /// It is read, and written at its end only. If it is made, nobody but its owner may open it.
     Store,
-    /// The same, and if it is made, nobody but its owner may open it.
-    Private,
     /// Nothing is read or written there: it is locked, and taken away.
     Locked,
 }
@@ -43,9 +41,6 @@ impl Access {
                 how.write(true);
             }
             Use::Store => {
-                how.read(true).append(true);
-            }
-            Use::Private => {
                 how.read(true).append(true).mode(PRIVATE);
             }
             Use::Locked => {

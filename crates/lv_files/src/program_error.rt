@@ -53,8 +53,15 @@ pub enum Reason {
     MisspeltLog(u32),
     #[error("' is a transcript and no log: `livevec compact` makes a log of it")]
     NoLog,
-    #[error("' is a log with more than 2^62 updates before it, which can't be continued")]
+    #[error("' is a log with 2^62 updates before it, or more, so no update can be numbered behind it")]
     HighBase,
+    /// So many bytes behind the last whole line.
+    #[error("' is no log: {0} bytes stand behind its last line end, and no line is so long")]
+    LongEnd(u64),
+    #[error("' isn't there, and --must-exist is given")]
+    Missing,
+    #[error("' has no whole line, and --must-exist is given")]
+    Blank,
     /// An update of a log, by its number in the file, and by its line.
     #[error("' is a log whose update {0}, in line {1}, is rejected within --buckets and --edits: {2}")]
     OverLimits(u32, u32, Refusal),
@@ -93,6 +100,8 @@ pub enum Reason {
     Standard,
     #[error(".out' is a link, and replies don't go through one: remove it")]
     Link,
+    #[error(".out' has a second name (a hard link), and replies don't go under two: remove it, or rename it")]
+    RepliesNames,
     #[error(".out' is locked, as by a server that writes it: rename one of the two")]
     Locked,
     #[error(".out' was made here, and another program has written to it since: rename one of the two")]
@@ -113,6 +122,8 @@ pub enum Reason {
     KeptLong,
     #[error(".1' can't be looked at, and would have what was there before: name another file, or give --drop-old")]
     KeptUnseen,
+    #[error(".1' is there and no older log of this one, and would have what was there before: remove it, rename it, or give --drop-old")]
+    KeptOther,
     #[error(".1' is locked, as by a server that writes it, and would have what was there before: name another file, or give --drop-old")]
     KeptLocked,
     #[error(".compacting' is there and no regular file: remove it")]
@@ -136,12 +147,12 @@ impl Reason {
     pub fn is_clash(self) -> bool {
         match self {
             Reason::Twice | Reason::Replies | Reason::Shared | Reason::Standard => true,
-            Reason::Link | Reason::Locked => true,
+            Reason::Link | Reason::RepliesNames | Reason::Locked => true,
             Reason::Written | Reason::Exchanged => true,
             Reason::RecordTaken | Reason::RecordLink => true,
             Reason::RecordNames | Reason::RecordLocked => true,
             Reason::KeptTaken | Reason::KeptLong | Reason::KeptUnseen => true,
-            Reason::KeptLocked | Reason::KeptUsed => true,
+            Reason::KeptOther | Reason::KeptLocked | Reason::KeptUsed => true,
             Reason::CompactingTaken | Reason::CompactingSame => true,
             Reason::CompactingLong | Reason::CompactingUnseen => true,
             Reason::CompactingLocked | Reason::CompactingUsed => true,

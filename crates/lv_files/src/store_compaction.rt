@@ -26,7 +26,7 @@ pub struct Compacted {
 }
 
 /// Makes a log of the elements that there are after all updates of the log of this name, or of the front of a transcript, in its place; the
-/// next update has the number that it would have had. What was there is kept as FILE.1, in place of another regular file there, unless it is dropped. Nobody
+/// next update has the number that it would have had. What was there is kept as FILE.1, in place of an older log there, unless it is dropped. Nobody
 /// serves it meanwhile: it is locked. Standard error says how many bytes behind its last whole line are left out.
 ///
 /// The new log is written and flushed to the disk under another name, FILE.compacting, and takes the name when it is whole. So a kill leaves the old file or the new
@@ -46,7 +46,8 @@ pub fn compact_file<C: Clock + Copy, R: Eprint + Files<File = File>>(
         return Err(clash(Reason::Standard));
     }
     store.check_front()?;
-    let places = LogPlaces::of(alloc, name, 0, drops_old)?;
+    let mut places = LogPlaces::of(alloc, name, 0, drops_old)?;
+    places.look(rt, alloc, store.output.identity, store.base())?;
     places.see(rt, store.output.identity)?;
     let (file, output) = places.make(rt, store.output)?;
     let file = LogFile {

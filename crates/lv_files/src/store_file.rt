@@ -1,6 +1,6 @@
 //! The log that a server goes on from: how it is opened and looked at, and how it begins.
 
-ghost use Rattle.std.specs.Prelude.{◌≡◌, ◌≤◌, ◌^◌, IfOk, OnOk, nat_eq, true};
+ghost use Rattle.std.specs.Prelude.{◌≡◌, ◌<◌, ◌≤◌, ◌^◌, IfOk, OnOk, nat_eq, true};
 ghost use Rattle.lv_files.specs.Stores.{IsFit, IsRightStore, MayStart};
 ghost use Rattle.lv_transcript.specs.Logs.{base_of};
 
@@ -15,14 +15,19 @@ use crate::waited::Waited;
 use lv_edits::{Edit, Edits};
 use lv_geometry::{Limits, Refusal};
 use lv_lines::{Fault, MOST_NUMBERED};
-use lv_transcript::{FoundFront, FrontVerdict, LogHeading, read_front, write_log};
+use lv_transcript::{
+    FoundFront, FrontVerdict, LogHeading, compacted_heading, read_front, write_log,
+};
 use std::alloc::Global;
 use std::fs::{File, Files, OpenFile};
 use std::io::{Read, Seek, SeekFrom, Write};
 use std::time::Clock;
 
-// How many updates come before a log at most that is gone on with.
-const HIGHEST_BASE: u64 = 4_611_686_018_427_387_904;
+// Fewer updates than these come before a log that is gone on with: else none could be numbered behind it.
+const MOST_NUMBERS: u64 = 4_611_686_018_427_387_904;
+
+// How many bytes a line has at most, without its LF.
+const LONGEST_LINE: u64 = 120;
 
 // How a log begins before which nothing came.
 const NEW: LogHeading = LogHeading {
@@ -75,7 +80,8 @@ pub struct StartedLog<F: Drop> {
 }
 
 impl StoreFile {
-    /// Opens the file of this name and number, which is made where it isn't there, if that is wanted, and locks it before it is read. Nothing of it changes.
+    /// Opens the file of this name and number, which is made where it isn't there, if that is wanted, and locks it before it is read. Nothing of it changes. One that is made may be
+    /// opened by its owner alone.
     ///
     /// It is a clash where it is a link, has a second name, or is locked, and `WriteFault` where it can't be opened otherwise. What can't be read is `ReadFault`, as is a file that is no front; but
     /// what is found there is for the caller to judge. A file that was made here is removed then, before it is unlocked.
@@ -127,6 +133,22 @@ impl StoreFile {
         self.output.without(rt, name, left, error)
     }
 
+    /// How many updates came before it.
+    pub fn base(&self) -> u64 {
+        match self.found.heading {
+            Some(heading) => heading.base,
+            None => 0,
+        }
+    }
+
+    /// Sees that it has a whole line, where none is to be made.
+    pub fn check_there(&self) -> Result<(), ProgramError> {
+        if self.is_blank() {
+            return Err(ProgramError::new(Fault::ReadFault, Reason::Blank, self.number));
+        }
+        Ok(())
+    }
+
     /// Whether nothing but a part of a first line is there.
     fn is_blank(&self) -> bool {
         self.found.whole == 0 && self.found.heading.is_none()
@@ -150,7 +172,7 @@ impl StoreFile {
     }
 
     /// Sees so, and that it has a whole line, or nothing but a part of the first line of a new log: any other file without a line is none that was made
-    /// here, and its first line is the wrong one.
+    /// here, and its first line is the wrong one. What stands behind its last whole line may be a line that was cut off, so it is no longer than one.
     pub fn check_front(&mut self) -> Result<(), ProgramError>
         ensures same { self.new.found ≡ self.old.found }
         ensures fit { OnOk result (IsFit self.old.found) }
@@ -158,6 +180,10 @@ impl StoreFile {
         self.check_lines()?;
         if self.is_blank() && !self.is_first_line_torn() {
             return Err(ProgramError::new(Fault::ReadFault, Reason::MisspeltLog(1), self.number));
+        }
+        let torn = self.length.saturating_sub(self.found.whole);
+        if torn > LONGEST_LINE {
+            return Err(ProgramError::new(Fault::ReadFault, Reason::LongEnd(torn), self.number));
         }
         Ok(())
     }
@@ -235,6 +261,7 @@ impl StoreFile {
             return Err(self.without(rt, name, error));
         }
         let number = self.number;
+        let is_new = self.found.heading.is_none();
         let started = self.with_heading(clock, rt, alloc, name, syncs)?;
         if syncs {
             if let Err(error) = sync_folder(rt, name, number) {
@@ -244,6 +271,7 @@ impl StoreFile {
                 return Err(error);
             }
         }
+        tell_of_start(rt, name, &started, is_new);
         Ok(started)
     }
 
@@ -348,10 +376,10 @@ fn first_refused(alloc: Global, updates: &[Edit], limits: Limits) -> Option<(u32
 
 // Whether the updates behind a file that begins so can be numbered.
 fn has_low_base(heading: Option<LogHeading>) -> bool
-    ensures { result ≡ true → base_of heading ≤ 2 ^ 62 }
+    ensures { result ≡ true → base_of heading < 2 ^ 62 }
 {
     match heading {
-        Some(heading) => heading.base <= HIGHEST_BASE,
+        Some(heading) => heading.base < MOST_NUMBERS,
         None => true,
     }
 }
@@ -456,4 +484,19 @@ fn tell_of_cut<R: Eprint>(rt: &R, name: &str, length: u64, whole: u64) {
             length - whole
         );
     }
+}
+
+// Tells with what a server begins: a log that it makes, or one that has so many updates in all, by their numbers, and so many elements at its end.
+fn tell_of_start<R: Eprint, F: Drop>(rt: &R, name: &str, log: &StartedLog<F>, is_new: bool)
+    requires { log.now.heading.base ≤ 2 ^ 62 }
+{
+    let name = Escaped(name);
+    if is_new {
+        let _ = eprintln!(rt; "livevec: makes '{name}'");
+        return;
+    }
+    let LogHeading { base, elements } = compacted_heading(Some(log.heading), &log.edits);
+    let _ = eprintln!(rt;
+        "livevec: goes on with '{name}': {base} updates in all, {elements} elements"
+    );
 }

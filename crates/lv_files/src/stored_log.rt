@@ -15,6 +15,8 @@ use std::io::{Error, ErrorKind, Write};
 use std::time::Clock;
 use std::{io, mem};
 
+const MOVED: &str = "this name no longer leads to the log";
+
 /// How the log of a server is kept.
 #[derive(Clone, Copy)]
 pub struct LogPlan {
@@ -24,6 +26,8 @@ pub struct LogPlan {
     pub compact_at: u64,
     /// Whether the old file needn't be kept then.
     pub drops_old: bool,
+    /// Whether it must be there already.
+    pub must_exist: bool,
 }
 
 /// The log of a server. It is made anew, in another file that takes its place, once it has so many bytes and is twice as long as when it was made last.
@@ -42,8 +46,10 @@ pub struct StoredLog<'a, C: Copy, E: Copy> {
     due: u64,
     // Whether it was told that it can't be made anew.
     is_told: bool,
-    // Whether the file may be lost, since its name may not be on the disk.
+    // Whether the file may be lost, since its name may not be on the disk, or leads elsewhere.
     is_lost: bool,
+    // The last second, by the clock, in which it was seen that its name leads to it.
+    seen_at: Option<u64>,
 }
 
 impl<'a, C: Clock + Copy, R: Eprint + LogFolder> StoredLog<'a, C, &'a R> {
@@ -68,7 +74,30 @@ impl<'a, C: Clock + Copy, R: Eprint + LogFolder> StoredLog<'a, C, &'a R> {
             due: least,
             is_told: false,
             is_lost: false,
+            seen_at: None,
         }
+    }
+
+    /// Sees that the log's name leads to the file that is written. If not, what is written may be lost, and nothing more is written.
+    pub fn see_name(&mut self) -> io::Result<()> {
+        if self.rt.is_named(&self.places, self.output) {
+            return Ok(());
+        }
+        self.is_lost = true;
+        Err(Error::new(ErrorKind::NotFound, MOVED))
+    }
+
+    // Sees so once a second at most.
+    fn see_name_again(&mut self) -> io::Result<()> {
+        let second = match self.clock.monotonic() {
+            Ok(time) => Some(time.as_secs()),
+            Err(_) => None,
+        };
+        if second.is_some() && second == self.seen_at {
+            return Ok(());
+        }
+        self.seen_at = second;
+        self.see_name()
     }
 
     // Makes another file of these elements, and puts it in place of the one that there is. If that fails, this one stays.
@@ -90,7 +119,9 @@ impl<'a, C: Clock + Copy, R: Eprint + LogFolder> StoredLog<'a, C, &'a R> {
         let mut log = Waited::new(self.clock, file);
         match self.fill_and_replace(alloc, heading, elements, &mut log, output) {
             Ok(()) => {
-                drop(mem::replace(&mut self.file, log));
+                let old = mem::replace(&mut self.file, log);
+                self.places.remember(&old.stream().file);
+                drop(old);
                 self.output = output;
                 self.sync_name();
                 Ok(())
@@ -148,7 +179,8 @@ impl<'a, C: Clock + Copy, R: Eprint + LogFolder> StoredLog<'a, C, &'a R> {
     }
 }
 
-impl<'a, C: Clock + Copy, E: Copy> Write for StoredLog<'a, C, E> {
+/// Before a flush is done, it is seen once a second at most that the log's name leads to the file: so no reply tells of what is written to another.
+impl<'a, C: Clock + Copy, R: Eprint + LogFolder> Write for StoredLog<'a, C, &'a R> {
     fn write(&mut self, buf: &[u8]) -> io::Result<usize> {
         if self.is_lost {
             return Err(Error::from(ErrorKind::Other));
@@ -160,7 +192,8 @@ impl<'a, C: Clock + Copy, E: Copy> Write for StoredLog<'a, C, E> {
         if self.is_lost {
             return Err(Error::from(ErrorKind::Other));
         }
-        self.file.flush()
+        self.file.flush()?;
+        self.see_name_again()
     }
 }
 

@@ -7,8 +7,8 @@ use crate::opened_client::{open_all, open_with_log};
 use crate::server::{Plan, serve};
 use lv_bodies::Kind;
 use lv_files::{
-    AnnouncedFile, LogFolder, LogPlan, Names, ProgramError, Reason, StartedLog, Waited, is_written,
-    open_input, standard_files,
+    AnnouncedFile, LogFolder, LogPlan, Names, ProgramError, Reason, StartedLog, StoredLog, Waited,
+    is_written, open_input, standard_files,
 };
 use lv_geometry::Limits;
 use lv_script::{Fault, FrontVerdict, Unrestored, restore_script};
@@ -35,7 +35,9 @@ pub fn serve_files<
 ) -> Result<(), ProgramError> {
     let (Clients { streams, watches }, file) = open_all(clock, rt, alloc, names)?;
     let file = announced(rt, names, file);
-    match serve(rt, alloc, plan, &[], streams, watches, file, writer) {
+    let is_file = standard_files(rt)[1].is_some();
+    let mut output = AnnouncedFile::of_output(rt, is_file, writer);
+    match serve(rt, alloc, plan, &[], streams, watches, file, &mut output) {
         Ok((streams, file, watched)) => {
             let ended = first_unwritten(&watched);
             drop((streams, file, watched));
@@ -104,11 +106,25 @@ pub fn serve_logged_files<
     drop(edits);
     match served {
         Ok((streams, file, watched)) => {
+            let is_lost = is_lost(file);
             let ended = first_unwritten(&watched);
-            drop((streams, file, watched));
+            drop((streams, watched));
+            if is_lost {
+                return Err(ProgramError::new(Fault::WriteFault, Reason::Log, names.clients));
+            }
             ended
         }
         Err(error) => Err(about_log(error, names)),
+    }
+}
+
+// Whether a log's name no longer leads to it at its end, which is told.
+fn is_lost<'a, C: Clock + Copy, R: Eprint + LogFolder>(
+    file: Option<AnnouncedFile<'a, &'a R, StoredLog<'a, C, &'a R>>>,
+) -> bool {
+    match file {
+        Some(mut file) => file.see_name().is_err(),
+        None => false,
     }
 }
 

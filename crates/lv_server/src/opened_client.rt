@@ -79,9 +79,9 @@ pub fn open_all<C: Clock + Copy, R: Files<File = File>>(
     }
 }
 
-/// Opens each file and that of its replies likewise, and the log that a server goes on from, which comes last, is locked before it is read, and begins, or has
-/// a torn line cut off, once all are found fit. It is so where it has whole lines that are a log, whose updates keep to these limits, or is new. One that
-/// may be made anew has nothing in its way beside it.
+/// Opens each file and that of its replies likewise, behind the log that a server goes on from: this is locked before all else, and before it is read, so a second server on it is turned
+/// away at once. It begins, or has a torn line cut off, once all are found fit. It is so where it has whole lines that are a log, whose updates keep to these limits,
+/// or is new, if one may be made. One that may be made anew has nothing in its way beside it.
 pub fn open_with_log<'a, C: Clock + Copy, R: Eprint + Files<File = File> + LogFolder>(
     clock: C,
     rt: &'a R,
@@ -99,7 +99,8 @@ pub fn open_with_log<'a, C: Clock + Copy, R: Eprint + Files<File = File> + LogFo
     ensures { IfOk result (λ opened. MayStart opened.1.heading opened.1.edits.journal) }
 {
     let (clients, mut all) = room_for(alloc, names)?;
-    match open_and_start(clock, rt, alloc, limits, kept, names, &mut all) {
+    let store = open_store(clock, rt, alloc, kept, names)?;
+    match open_and_start(clock, rt, alloc, limits, kept, names, store, &mut all) {
         Ok(log) => {
             let clients = empty_all(clock, all, clients, names.sessions)?;
             Ok((clients, log))
@@ -134,8 +135,7 @@ fn open_and_ask<R: Files<File = File>>(
     names: Names<'_>,
     all: &mut Vec<OpenedClient<File>>,
 ) -> Result<Option<(File, OutputFile)>, ProgramError> {
-    open_each(rt, alloc, names.of_clients(), all)?;
-    ask_each(alloc, all.as_mut_slice(), names.sessions)?;
+    open_asked(rt, alloc, names, all)?;
     match names.of_record() {
         Some(name) => match open_unshared(rt, names, name, all) {
             Ok(opened) => Ok(Some(opened)),
@@ -148,7 +148,45 @@ fn open_and_ask<R: Files<File = File>>(
     }
 }
 
-// Opens them, reads what subscribers ask, and opens and begins the log. One that was made here and can't begin is taken away, before it is unlocked.
+// Opens them, and reads what subscribers ask.
+fn open_asked<R: Files<File = File>>(
+    rt: &R,
+    alloc: Global,
+    names: Names<'_>,
+    all: &mut Vec<OpenedClient<File>>,
+) -> Result<(), ProgramError> {
+    open_each(rt, alloc, names.of_clients(), all)?;
+    ask_each(alloc, all.as_mut_slice(), names.sessions)
+}
+
+// Opens and locks the log, which is made if that is allowed.
+fn open_store<C: Clock + Copy, R: Files<File = File>>(
+    clock: C,
+    rt: &R,
+    alloc: Global,
+    kept: LogPlan,
+    names: Names<'_>,
+) -> Result<StoreFile, ProgramError>
+    ensures { IfOk result (λ store. IsRightStore store.found) }
+{
+    let name = names.of_record().unwrap_or("");
+    match StoreFile::open(clock, rt, alloc, name, names.clients, !kept.must_exist) {
+        Ok(store) => Ok(store),
+        Err(error) => Err(unfound(error, kept.must_exist)),
+    }
+}
+
+// The same error, where a log that isn't there was not to be made.
+fn unfound(error: ProgramError, must_exist: bool) -> ProgramError {
+    match error.reason {
+        Reason::Unopened if must_exist => {
+            ProgramError::new(error.fault, Reason::Missing, error.file)
+        }
+        _ => error,
+    }
+}
+
+// Opens the clients' files, reads what subscribers ask, and begins the log. One that was made here and can't begin is taken away, before it is unlocked.
 fn open_and_start<'a, C: Clock + Copy, R: Eprint + Files<File = File> + LogFolder>(
     clock: C,
     rt: &'a R,
@@ -156,15 +194,16 @@ fn open_and_start<'a, C: Clock + Copy, R: Eprint + Files<File = File> + LogFolde
     limits: Limits,
     kept: LogPlan,
     names: Names<'a>,
+    store: StoreFile,
     all: &mut Vec<OpenedClient<File>>,
 ) -> Result<StartedLog<StoredLog<'a, C, &'a R>>, ProgramError>
+    requires { IsRightStore store.found }
     ensures { IfOk result (λ log. MayStart log.heading log.edits.journal) }
 {
-    open_each(rt, alloc, names.of_clients(), all)?;
-    ask_each(alloc, all.as_mut_slice(), names.sessions)?;
-    let name = names.of_record().unwrap_or("");
-    let store = StoreFile::open(clock, rt, alloc, name, names.clients, true)?;
-    start(clock, rt, alloc, limits, kept, names, store, all)
+    match open_asked(rt, alloc, names, all) {
+        Ok(()) => start(clock, rt, alloc, limits, kept, names, store, all),
+        Err(error) => Err(store.without(rt, names.of_record().unwrap_or(""), error)),
+    }
 }
 
 // Begins the log, once it is seen that no client reads or writes it, and that it is fit.
@@ -210,9 +249,13 @@ fn see_log<'a, R: Files<File = File>>(
     }
     lock_replies(rt, all)?;
     store.check_log(alloc, limits)?;
+    if kept.must_exist {
+        store.check_there()?;
+    }
     let name = names.of_record().unwrap_or("");
-    let places = LogPlaces::of(alloc, name, names.clients, kept.drops_old)?;
+    let mut places = LogPlaces::of(alloc, name, names.clients, kept.drops_old)?;
     if lasts(limits) {
+        places.look(rt, alloc, store.output.identity, store.base())?;
         see_places(rt, &places, store.output.identity, all)?;
     }
     Ok(places)
@@ -405,12 +448,13 @@ fn see_transcript<R: Files<File = File>>(
     Ok(())
 }
 
-// Locks each file of replies until it is closed, and sees that its name leads to it still and that nobody has written to one that was made here. So none is
-// the log or the transcript of another server, nor becomes it.
+// Locks each file of replies until it is closed, and sees that its name leads to it still, that it has no other name, and that nobody has written to one that was made here. So
+// none is the log or the transcript of another server, nor becomes it.
 fn lock_replies<R: Files>(rt: &R, all: &[OpenedClient<File>]) -> Result<(), ProgramError> {
     for opened in all {
         let reason = match lost_by(opened) {
             None if !opened.output.is_named(rt, opened.name.as_str()) => Some(Reason::Exchanged),
+            None if has_more_names(&opened.replies) => Some(Reason::RepliesNames),
             reason => reason,
         };
         if let Some(reason) = reason {
@@ -429,6 +473,14 @@ fn lost_by(opened: &OpenedClient<File>) -> Option<Reason> {
         return Some(Reason::Written);
     }
     None
+}
+
+// Whether a file has a second name, where that can be told.
+fn has_more_names(file: &File) -> bool {
+    match names_of(file) {
+        Ok(count) => count > 1,
+        Err(_) => false,
+    }
 }
 
 // Whether another has locked a file. If not, it is locked from now on, where locks are to be had.
