@@ -11,7 +11,8 @@
                     -3   the program is killed before the call
                     -4   nothing goes wrong
    FAILING_RUNS    a command that runs before the call, if it is given
-   FAILING_TOLD    a file that is made when the call comes */
+   FAILING_TOLD    a file that is made when the call comes
+   FAILING_COUNTED a file that gets a byte with each call that is counted */
 #define _GNU_SOURCE
 #include <dlfcn.h>
 #include <errno.h>
@@ -57,12 +58,25 @@ static int how(void)
     return number ? atoi(number) : EIO;
 }
 
+/* Adds a byte to a file. */
+static void add_byte(const char *name)
+{
+    ssize_t (*real)(int, const void *, size_t) = (ssize_t (*)(int, const void *, size_t))dlsym(RTLD_NEXT, "write");
+    int file = open(name, O_CREAT | O_APPEND | O_WRONLY, 0600);
+    if (real(file, "x", 1) != 1)
+        _exit(77);
+    close(file);
+}
+
 /* Counts a call of a sort, by a descriptor or by a name (-1). How many calls after the one that is to go wrong it is, or a negative number. */
 static long since_due(const char *call, int fd)
 {
-    const char *at = getenv("FAILING_AT"), *told = getenv("FAILING_TOLD"), *runs = getenv("FAILING_RUNS");
+    const char *at = getenv("FAILING_AT"), *told = getenv("FAILING_TOLD"), *runs = getenv("FAILING_RUNS"), *counted = getenv("FAILING_COUNTED");
     int kept = errno;
-    long since = at && is_counted(call) && (fd < 0 || is_watched(fd)) ? atomic_fetch_add(&calls, 1) + 1 - atol(at) : -1;
+    int counts = at && is_counted(call) && (fd < 0 || is_watched(fd));
+    long since = counts ? atomic_fetch_add(&calls, 1) + 1 - atol(at) : -1;
+    if (counts && counted)
+        add_byte(counted);
     if (since == 0 && told)
         close(open(told, O_CREAT | O_WRONLY, 0600));
     if (since == 0 && runs && (unsetenv("LD_PRELOAD"), system(runs)) != 0)

@@ -10,7 +10,9 @@ use lv_geometry::{Limits, Refusal};
 use lv_hub::*;
 use lv_live::Live;
 use lv_refresh::Outcome;
+use lv_script::Fault;
 use lv_summary::Accepted;
+use lv_transcript::LogWriter;
 use std::alloc::Global;
 use std::marker::Brand;
 use std::process::Abort;
@@ -96,6 +98,21 @@ pub(crate) fn place_of<'a, N: WithBody<Six>, R: Wait>(
         numbers: from_the_first(),
         keeps: KeptAnswers::Listed(usize::MAX),
     }
+}
+
+// Closes a hub, and ends its log by all edits. Gives the file, and how the log ended.
+pub(crate) fn end_log<N: WithBody<Six>, K: Begun, W: LogWriter + Drop>(
+    hub: Hub<Six, N>,
+    share: Share<N>,
+    log: OperationLog<N, W, K>,
+) -> (W, Result<(), Fault>)
+    requires { share.parts ≡ N.parts }
+{
+    let mut share = share;
+    log.show(&mut share);
+    let (live, edits) = hub.finish(share);
+    drop(live);
+    log.end(&edits)
 }
 
 // Pushes equal elements in turn, and sees that each is accepted.

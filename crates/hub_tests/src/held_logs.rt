@@ -164,22 +164,6 @@ fn hold_two<N: WithBody<Six> + Send + Sync, K: Begun + Send + Sync, R: Threads +
 // What the file of a log has got once its hub is closed, and how the log ended.
 type Written = (Vec<u8>, Result<(), Fault>);
 
-// Closes a hub, and ends its log by all edits.
-fn end_log<N: WithBody<Six>, K: Begun>(
-    hub: Hub<Six, N>,
-    share: Share<N>,
-    log: OperationLog<N, HeldFile<'_>, K>,
-) -> Written
-    requires { share.parts ≡ N.parts }
-{
-    let mut share = share;
-    log.show(&mut share);
-    let (live, edits) = hub.finish(share);
-    drop(live);
-    let (file, ended) = log.end(&edits);
-    (file.bytes, ended)
-}
-
 // What a session heard, what the hub answered meanwhile, and what was written.
 type Held = (Heard, Asked, Written);
 
@@ -215,7 +199,8 @@ fn hold_logged<N: WithBody<Six> + Send + Sync, K: Begun + Send + Sync, R: Thread
             let log = Mutex::new(log);
             let places = (place_of(rt, alloc, &hub), place_of(rt, alloc, &hub));
             let (share, one, other) = hold_two(rt, places, &log, share, stage);
-            Ok((one, other, end_log(hub, share, log.into_inner())))
+            let (file, ended) = end_log(hub, share, log.into_inner());
+            Ok((one, other, (file.bytes, ended)))
         }
         Err(error) => {
             drop(hub);

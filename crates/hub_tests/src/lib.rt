@@ -7,6 +7,8 @@
 #[cfg(test)]
 mod common;
 #[cfg(test)]
+mod counted_flushes;
+#[cfg(test)]
 mod failing_streams;
 #[cfg(test)]
 mod held_jobs;

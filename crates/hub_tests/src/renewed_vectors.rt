@@ -2,6 +2,7 @@
 ghost use Rattle.std.specs.Prelude.{◌≡◌, ◌≤◌, ◌^◌, [], IfOk, None, Some, false};
 ghost use Rattle.lv_hub.specs.Renewing.{lasting};
 
+use crate::common::end_log;
 use crate::same::assert_same;
 use lv_bodies::Six;
 use lv_geometry::Limits;
@@ -125,21 +126,6 @@ fn hear_all<N: WithBody<Six>, K: Begun, R: Wait + Abort>(
     hear(held, theirs, FOURTH);
     hear(held, mine, FIFTH);
     hear(held, theirs, SIXTH);
-}
-
-// Closes a hub, and ends its log by all edits. Gives the file, and how the log ended.
-fn end_log<N: WithBody<Six>, K: Begun>(
-    hub: Hub<Six, N>,
-    share: Share<N>,
-    log: OperationLog<N, ShortFile, K>,
-) -> (ShortFile, Result<(), Fault>)
-    requires { share.parts ≡ N.parts }
-{
-    let mut share = share;
-    log.show(&mut share);
-    let (live, edits) = hub.finish(share);
-    drop(live);
-    log.end(&edits)
 }
 
 // A hub whose vector may be made anew, and its log, behind one without entries.

@@ -102,17 +102,17 @@ as_many_edits limits renewed capacity edits h stands one = ap (λ h. length h.jo
 -- ---- what came for a log
 
 -- what was handed over came since the edit of the hub's vector
-pub came_after : (from : Option ℕ) (renewed : ℕ) (result : Option Came) (journal edits : List Edit) (entries : List LogEntry) → result ≡ option_map (λ from. record { from = from; renewed = renewed }) from → journal ≡ renewed_after renewed edits
+pub came_after : (from : Option ℕ) (renewed given : ℕ) (result : Option Came) (journal edits : List Edit) (entries : List LogEntry) → result ≡ option_map (λ from. record { from = from; renewed = renewed; given = given }) from → journal ≡ renewed_after renewed edits
     → IfSome from (λ from. CameSince journal from (map entry_of entries)) → IfSome result (λ came. CameSince (renewed_after came.renewed edits) came.from (map entry_of entries))
-came_after None renewed result journal edits entries is journal_is came =
+came_after None renewed given result journal edits entries is journal_is came =
     subst (λ (o : Option Came). IfSome o (λ came. CameSince (renewed_after came.renewed edits) came.from (map entry_of entries))) (sym is) tt
-came_after (Some from) renewed result journal edits entries is journal_is came =
+came_after (Some from) renewed given result journal edits entries is journal_is came =
     subst (λ (o : Option Came). IfSome o (λ came. CameSince (renewed_after came.renewed edits) came.from (map entry_of entries))) (sym is)
     (subst (λ (es : List Edit). CameSince es from (map entry_of entries)) journal_is came)
 
-pub renewed_before : (from : Option ℕ) (renewed : ℕ) (result : Option Came) (edits : List Edit) → result ≡ option_map (λ from. record { from = from; renewed = renewed }) from → renewed ≤ length edits → IfSome result (λ came. came.renewed ≤ length edits)
-renewed_before None renewed result edits is some = subst (λ (o : Option Came). IfSome o (λ came. came.renewed ≤ length edits)) (sym is) tt
-renewed_before (Some from) renewed result edits is some = subst (λ (o : Option Came). IfSome o (λ came. came.renewed ≤ length edits)) (sym is) some
+pub renewed_before : (from : Option ℕ) (renewed given : ℕ) (result : Option Came) (edits : List Edit) → result ≡ option_map (λ from. record { from = from; renewed = renewed; given = given }) from → renewed ≤ length edits → IfSome result (λ came. came.renewed ≤ length edits)
+renewed_before None renewed given result edits is some = subst (λ (o : Option Came). IfSome o (λ came. came.renewed ≤ length edits)) (sym is) tt
+renewed_before (Some from) renewed given result edits is some = subst (λ (o : Option Came). IfSome o (λ came. came.renewed ≤ length edits)) (sym is) some
 
 -- ---- elements that were copied
 

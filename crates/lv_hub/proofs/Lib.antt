@@ -4,6 +4,7 @@ mod AsScriptsLaws
 mod AskingLaws
 mod BeginLaws
 mod DeskLaws
+mod HeldLaws
 pub mod LogLaws
 mod NoticeLaws
 pub mod Noticed

@@ -36,31 +36,31 @@ use Rattle.lv_hub.proofs.RenewalLaws.{renewed_never, renewed_prefix}
 -- ---- entries
 
 -- the edits among entries, and others behind them
-edits_in_both : (first second : List Entry) → edits_in (first ++ second) ≡ edits_in first ++ edits_in second
+pub edits_in_both : (first second : List Entry) → edits_in (first ++ second) ≡ edits_in first ++ edits_in second
 edits_in_both [] second = refl
 edits_in_both (inl e ∷ first) second = ap (λ (es : List Edit). e ∷ es) (edits_in_both first second)
 edits_in_both (inr answer ∷ first) second = edits_in_both first second
 
 -- the last answer among entries, and others behind them
-last_of_both : (last : ℕ) (first second : List Entry) → last_after last (first ++ second) ≡ last_after (last_after last first) second
+pub last_of_both : (last : ℕ) (first second : List Entry) → last_after last (first ++ second) ≡ last_after (last_after last first) second
 last_of_both last [] second = refl
 last_of_both last (inl e ∷ first) second = last_of_both last first second
 last_of_both last (inr answer ∷ first) second = last_of_both answer.edit first second
 
 -- what is true behind true entries is true with them
-true_both : (before : List Edit) (last : ℕ) (first second : List Entry) → AreTrueAfter before last first → AreTrueAfter (before ++ edits_in first) (last_after last first) second → AreTrueAfter before last (first ++ second)
+pub true_both : (before : List Edit) (last : ℕ) (first second : List Entry) → AreTrueAfter before last first → AreTrueAfter (before ++ edits_in first) (last_after last first) second → AreTrueAfter before last (first ++ second)
 true_both before last [] second holds later = subst (λ (es : List Edit). AreTrueAfter es last second) (append-nil before) later
 true_both before last (inl e ∷ first) second holds later =
     (holds.0, holds.1, true_both (before ++ e ∷ []) last first second holds.2 (subst (λ (es : List Edit). AreTrueAfter es (last_after last first) second) (sym (append_assoc before (e ∷ []) (edits_in first))) later))
 true_both before last (inr answer ∷ first) second holds later = (holds.0, holds.1, true_both before answer.edit first second holds.2 later)
 
 -- what is true behind an answer is true behind one that is no later
-true_sooner : (before : List Edit) (last sooner : ℕ) (entries : List Entry) → sooner ≤ last → AreTrueAfter before last entries → AreTrueAfter before sooner entries
+pub true_sooner : (before : List Edit) (last sooner : ℕ) (entries : List Entry) → sooner ≤ last → AreTrueAfter before last entries → AreTrueAfter before sooner entries
 true_sooner before last sooner [] le holds = tt
 true_sooner before last sooner (inl e ∷ entries) le holds = (holds.0, holds.1, true_sooner (before ++ e ∷ []) last sooner entries le holds.2)
 true_sooner before last sooner (inr answer ∷ entries) le holds = (omega (arith, le, holds.0), holds.1, holds.2)
 
-last_sooner : (last sooner : ℕ) (entries : List Entry) → sooner ≤ last → last_after sooner entries ≤ last_after last entries
+pub last_sooner : (last sooner : ℕ) (entries : List Entry) → sooner ≤ last → last_after sooner entries ≤ last_after last entries
 last_sooner last sooner [] le = le
 last_sooner last sooner (inl e ∷ entries) le = last_sooner last sooner entries le
 last_sooner last sooner (inr answer ∷ entries) le = omega arith
@@ -74,7 +74,7 @@ accepted_later before (e ∷ first) rest accepted =
 -- ---- what came since
 
 -- the edits of a journal: those before, and those that came since
-all_edits : (journal : List Edit) (from : ℕ) (entries : List Entry) → CameSince journal from entries → take from journal ++ edits_in entries ≡ journal
+pub all_edits : (journal : List Edit) (from : ℕ) (entries : List Entry) → CameSince journal from entries → take from journal ++ edits_in entries ≡ journal
 all_edits journal from entries came = ap (λ (es : List Edit). take from journal ++ es) came.edits_are ∙ take-append-drop from journal
 
 -- nothing
@@ -120,7 +120,7 @@ taps_answer (Some t) journal answer holds now taps =
     subst (CameSince journal t.from) (sym (map-append entry_of t.entries (logged.Answer answer ∷ []))) (came_answer journal t.from (map entry_of t.entries) answer holds now taps)
 
 -- a tap without entries, from the last edit on
-pub taps_none : (tap : Option TapState) (journal : List Edit) (edits : ℕ) → edits ≡ length journal → IfSome tap (λ t. t ≡ record { from = edits; entries = []; room = t.room }) → IfSome tap (Taps journal)
+pub taps_none : (tap : Option TapState) (journal : List Edit) (edits : ℕ) → edits ≡ length journal → IfSome tap (λ t. t ≡ record { from = edits; entries = []; room = t.room; given = t.given }) → IfSome tap (Taps journal)
 taps_none None journal edits last none = tt
 taps_none (Some t) journal edits last none =
     subst (Taps journal) (sym none) (subst (λ (n : ℕ). CameSince journal n []) (sym last) (came_none journal))
@@ -172,7 +172,7 @@ stays_a_log heading there entries edits sound same holds =
 -- ---- the log
 
 -- the beginning of a list, taken
-take_begin : (xs ys : List Edit) → IsPrefix xs ys → take (length xs) ys ≡ xs
+pub take_begin : (xs ys : List Edit) → IsPrefix xs ys → take (length xs) ys ≡ xs
 take_begin xs ys more =
     ap (take (length xs)) (sym more.1) ∙ take-append-le (length xs) xs more.0 (omega arith) ∙ take_length xs
   where
@@ -181,7 +181,7 @@ take_begin xs ys more =
     take_length (x ∷ xs) = ap (λ (es : List Edit). x ∷ es) (take_length xs)
 
 -- where nothing is held, and no write has failed, a text was written
-all_written : (start : Option (List ℕ)) (s : WritingState) (text : List ℕ) → s.failed ≡ false → s.held ≡ [] → WroteOrHolds s.failed start s.contents s.held text → Appends start s.contents text
+pub all_written : (start : Option (List ℕ)) (s : WritingState) (text : List ℕ) → s.failed ≡ false → s.held ≡ [] → WroteOrHolds s.failed start s.contents s.held text → Appends start s.contents text
 all_written start s text fine none wrote =
     Writes-all start s.contents text (subst (λ (held : List ℕ). Writes start [] s.contents held text) none (sent s.failed fine wrote))
   where
@@ -190,8 +190,8 @@ all_written start s text fine none wrote =
 
 module _ (log : Option LogThere) (start : Option (List ℕ)) where
   -- of a hub that has the edits that were there
-  pub log_begins : (written : WritingState) (seen : List Edit) → MayGoOn log → seen ≡ edits_there log → WasGivenOf (heading_of log) (there_of log) start [] written → IsLogOf log start record { written = written; seen = seen }
-  log_begins written seen goes same given = record {
+  unfoldable pub log_begins : (written : WritingState) (seen : List Edit) (taken : ℕ) → MayGoOn log → seen ≡ edits_there log → WasGivenOf (heading_of log) (there_of log) start [] written → IsLogOf log start record { written = written; seen = seen; taken = taken }
+  log_begins written seen taken goes same given = record {
     entries = [];
     goes_on = goes;
     given = given;
@@ -201,8 +201,8 @@ module _ (log : Option LogThere) (start : Option (List ℕ)) where
   }
 
   -- what came since was given
-  pub log_more : (s : LogState) (journal : List Edit) (entries : List Entry) (written : WritingState) → IsLogOf log start s → IsPrefix s.seen journal → CameSince journal (length s.seen) entries → Adds s.written entries written → IsLogOf log start record { written = written; seen = journal }
-  log_more s journal entries written was more came gives =
+  unfoldable pub log_more : (s : LogState) (journal : List Edit) (entries : List Entry) (written : WritingState) (taken : ℕ) → IsLogOf log start s → IsPrefix s.seen journal → CameSince journal (length s.seen) entries → Adds s.written entries written → IsLogOf log start record { written = written; seen = journal; taken = taken }
+  log_more s journal entries written taken was more came gives =
       let there : List Edit = edits_there log in
       let seen : take (length s.seen) journal ≡ s.seen = take_begin s.seen journal more in
       let before : take (length s.seen) journal ≡ there ++ edits_in was.entries = seen ∙ sym was.edits_are in
@@ -220,7 +220,7 @@ module _ (log : Option LogThere) (start : Option (List ℕ)) where
       }
 
   -- what is held was written, or that failed
-  pub log_rests : (s : LogState) (written : WritingState) → IsLogOf log start s → Adds s.written [] written → IsLogOf log start record s { written = written }
+  unfoldable pub log_rests : (s : LogState) (written : WritingState) → IsLogOf log start s → Adds s.written [] written → IsLogOf log start record s { written = written }
   log_rests s written was rests = record {
     entries = was.entries;
     goes_on = was.goes_on;
@@ -239,7 +239,7 @@ module _ (log : Option LogThere) (start : Option (List ℕ)) where
   }
 
   -- where nothing is held and no write has failed, all that it was given is written
-  pub log_all : (s : LogState) → s.written.failed ≡ false → s.written.held ≡ [] → IsLogOf log start s → HasAll log start s.written.contents s.seen
+  unfoldable pub log_all : (s : LogState) → s.written.failed ≡ false → s.written.held ≡ [] → IsLogOf log start s → HasAll log start s.written.contents s.seen
   log_all s fine none was = record {
     entries = was.entries;
     edits_are = was.edits_are;
@@ -368,9 +368,9 @@ count_of_all numbers heading edits elements is list = ap (λ (h : LogHeading). h
 
 module _ (made : Option (List ℕ)) (limits : Bounds) (numbers : LogHeading) (log : Option LogThere) (start : Option (List ℕ)) where
   -- which file it is, from the edits after which the vector was made anew
-  abbrev Which : ℕ → Option LogThere → Option (List ℕ) → List Edit → Type 0
-  Which renewed there begun taken =
-      ((renewed ≡ 0) × (there ≡ log) × (begun ≡ start))
+  abbrev Which : ℕ → Option LogThere → Option (List ℕ) → ℕ → List Edit → Type 0
+  Which renewed there begun earlier taken =
+      ((renewed ≡ 0) × (there ≡ log) × (begun ≡ start) × (earlier ≡ 0))
       ⊎ ((limits ≡ lasting limits)
       × (there ≡ Some (log_of_edits record { base = told_number numbers renewed; elements = length (list_of taken) } (map Push (list_of taken))))
       × HasLog made record { base = told_number numbers renewed; elements = length (list_of taken) } (list_of taken) begun)
@@ -382,7 +382,8 @@ module _ (made : Option (List ℕ)) (limits : Bounds) (numbers : LogHeading) (lo
     some = omega (arith, file.some, prefix_length seen edits more);
     there = file.there;
     begun = file.begun;
-    which = subst (Which file.renewed file.there file.begun) (sym (same_taken file.renewed seen edits file.some more)) file.which;
+    earlier = file.earlier;
+    which = subst (Which file.renewed file.there file.begun file.earlier) (sym (same_taken file.renewed seen edits file.some more)) file.which;
   }
     where
       same_taken : (n : ℕ) (seen edits : List Edit) → n ≤ length seen → IsPrefix seen edits → take n edits ≡ take n seen
@@ -390,52 +391,64 @@ module _ (made : Option (List ℕ)) (limits : Bounds) (numbers : LogHeading) (lo
 
   -- the first one begins
   pub in_file_begins : (is_log : Bool) (written : WritingState) (seen : List Edit) → is_log ≡ is_some log → MayGoOn log → seen ≡ edits_there log → WasGivenOf (heading_of log) (there_of log) start [] written
-      → IsLogInFile made limits numbers log start 0 0 is_log record { written = written; seen = seen }
+      → IsLogInFile made limits numbers log start 0 0 0 is_log record { written = written; seen = seen; taken = 0 }
+  unfolding log_begins
   in_file_begins is_log written seen behind goes same given = record {
-    file = record { renewed = 0; some = omega arith; there = log; begun = start; which = inl (refl, refl, refl) };
+    file = record { renewed = 0; some = omega arith; there = log; begun = start; earlier = 0; which = inl (refl, refl, refl, refl) };
     renewed_is = refl;
     elements_are = ap length list_of_none;
+    earlier_is = refl;
     behind = behind;
-    given = subst (λ (es : List Edit). IsLogOf log start record { written = written; seen = es }) (sym (renewed_never seen)) (log_begins log start written seen goes same given);
+    given = log_begins log start written (renewed_after 0 seen) 0 goes (renewed_never seen ∙ same) given;
+    counted = refl;
   }
 
   -- what the log keeps in numbers of its file
-  pub in_file_some : (renewed elements : ℕ) (is_log : Bool) (s : LogState) → IsLogInFile made limits numbers log start renewed elements is_log s → renewed ≤ length s.seen
-  in_file_some renewed elements is_log s was = omega (arith, was.file.some, was.renewed_is)
+  pub in_file_some : (renewed elements earlier : ℕ) (is_log : Bool) (s : LogState) → IsLogInFile made limits numbers log start renewed elements earlier is_log s → renewed ≤ length s.seen
+  in_file_some renewed elements earlier is_log s was = omega (arith, was.file.some, was.renewed_is)
 
-  pub in_file_elements : (renewed elements : ℕ) (is_log : Bool) (s : LogState) → IsLogInFile made limits numbers log start renewed elements is_log s → elements ≡ length (list_of (take renewed s.seen))
-  in_file_elements renewed elements is_log s was = sym was.elements_are ∙ ap (λ (n : ℕ). length (list_of (take n s.seen))) was.renewed_is
+  pub in_file_elements : (renewed elements earlier : ℕ) (is_log : Bool) (s : LogState) → IsLogInFile made limits numbers log start renewed elements earlier is_log s → elements ≡ length (list_of (take renewed s.seen))
+  in_file_elements renewed elements earlier is_log s was = sym was.elements_are ∙ ap (λ (n : ℕ). length (list_of (take n s.seen))) was.renewed_is
 
   -- what came since was given
-  pub in_file_more : (renewed elements : ℕ) (is_log : Bool) (s : LogState) (edits : List Edit) (entries : List Entry) (written : WritingState) → IsLogInFile made limits numbers log start renewed elements is_log s → IsPrefix s.seen edits
-      → CameSince (renewed_after renewed edits) (length (renewed_after renewed s.seen)) entries → Adds s.written entries written → IsLogInFile made limits numbers log start renewed elements is_log record { written = written; seen = edits }
-  unfolding file_more
-  in_file_more renewed elements is_log s edits entries written was more came gives =
+  pub in_file_more : (renewed elements earlier : ℕ) (is_log : Bool) (s : LogState) (edits : List Edit) (entries : List Entry) (written : WritingState) → IsLogInFile made limits numbers log start renewed elements earlier is_log s → IsPrefix s.seen edits
+      → CameSince (renewed_after renewed edits) (length (renewed_after renewed s.seen)) entries → Adds s.written entries written
+      → IsLogInFile made limits numbers log start renewed elements earlier is_log record { written = written; seen = edits; taken = s.taken + length entries }
+  unfolding file_more log_more
+  in_file_more renewed elements earlier is_log s edits entries written was more came gives =
       let n = was.file.renewed in
       let since = subst (λ (m : ℕ). CameSince (renewed_after m edits) (length (renewed_after m s.seen)) entries) (sym was.renewed_is) came in
+      let many : was.file.earlier + length (was.given.entries ++ entries) ≡ s.taken + length entries = omega (arith, was.counted, length-append was.given.entries entries) in
       record {
         file = file_more s.seen edits more was.file;
         renewed_is = was.renewed_is;
         elements_are = ap (λ (es : List Edit). length (list_of es)) (ap (take n) (sym more.1) ∙ take-append-le n s.seen more.0 was.file.some) ∙ was.elements_are;
+        earlier_is = was.earlier_is;
         behind = was.behind;
-        given = log_more was.file.there was.file.begun record { written = s.written; seen = renewed_after n s.seen } (renewed_after n edits) entries written was.given (renewed_prefix n s.seen edits was.file.some more) since gives;
+        given = log_more was.file.there was.file.begun record { written = s.written; seen = renewed_after n s.seen; taken = s.taken } (renewed_after n edits) entries written (s.taken + length entries) was.given (renewed_prefix n s.seen edits was.file.some more) since gives;
+        counted = many;
       }
 
   -- what is held was written, or that failed
-  pub in_file_rests : (renewed elements : ℕ) (is_log : Bool) (s : LogState) (written : WritingState) → IsLogInFile made limits numbers log start renewed elements is_log s → Adds s.written [] written
-      → IsLogInFile made limits numbers log start renewed elements is_log record { written = written; seen = s.seen }
-  in_file_rests renewed elements is_log s written was rests = record {
+  pub in_file_rests : (renewed elements earlier : ℕ) (is_log : Bool) (s : LogState) (written : WritingState) → IsLogInFile made limits numbers log start renewed elements earlier is_log s → Adds s.written [] written
+      → IsLogInFile made limits numbers log start renewed elements earlier is_log record { written = written; seen = s.seen; taken = s.taken }
+  unfolding log_rests
+  in_file_rests renewed elements earlier is_log s written was rests = record {
     file = was.file;
     renewed_is = was.renewed_is;
     elements_are = was.elements_are;
+    earlier_is = was.earlier_is;
     behind = was.behind;
-    given = log_rests was.file.there was.file.begun record { written = s.written; seen = renewed_after was.file.renewed s.seen } written was.given rests;
+    given = log_rests was.file.there was.file.begun record { written = s.written; seen = renewed_after was.file.renewed s.seen; taken = s.taken } written was.given rests;
+    counted = was.counted;
   }
 
   -- a file was begun anew, and what writes it holds nothing
-  pub in_file_anew : (is_log : Bool) (heading : LogHeading) (elements : List ℤ) (edits : List Edit) (contents : Option (List ℕ)) (s : WriterState) → is_log ≡ true
-      → BeginsAnew limits numbers edits heading elements → HasLog made heading elements contents → s.held ≡ [] → s.failed ≡ false → IsLogInFile made limits numbers log start (length edits) heading.elements is_log record { written = state_with contents s; seen = edits }
-  in_file_anew is_log heading elements edits contents s behind begins has none fine =
+  pub in_file_anew : (is_log : Bool) (heading : LogHeading) (elements : List ℤ) (edits : List Edit) (taken : ℕ) (contents : Option (List ℕ)) (s : WriterState) → is_log ≡ true
+      → BeginsAnew limits numbers edits heading elements → HasLog made heading elements contents → s.held ≡ [] → s.failed ≡ false
+      → IsLogInFile made limits numbers log start (length edits) heading.elements taken is_log record { written = state_with contents s; seen = edits; taken = taken }
+  unfolding log_begins
+  in_file_anew is_log heading elements edits taken contents s behind begins has none fine =
       let n = length edits in
       let xs : List ℤ = list_of (take n edits) in
       let first : LogHeading = heading_after numbers n edits in
@@ -452,59 +465,63 @@ module _ (made : Option (List ℕ)) (limits : Bounds) (numbers : LogHeading) (lo
       (subst (λ (failed : Bool). WasGivenOf (Some first) (Some there.entries) contents [] record { contents = contents; held = []; failed = failed }) (sym fine)
       (unused (Some first) (Some there.entries) contents [] refl)) in
       record {
-        file = record { renewed = n; some = omega arith; there = Some there; begun = contents; which = inr (begins.lasts, refl, has_of) };
+        file = record { renewed = n; some = omega arith; there = Some there; begun = contents; earlier = taken; which = inr (begins.lasts, refl, has_of) };
         renewed_is = refl;
         elements_are = sym (ap (λ (h : LogHeading). h.elements) begins.heading_is);
+        earlier_is = refl;
         behind = behind;
-        given = log_begins (Some there) contents (state_with contents s) (renewed_after n edits) goes (renewed_all edits ∙ sym (edits_of_edits (map Push xs))) begun;
+        given = log_begins (Some there) contents (state_with contents s) (renewed_after n edits) taken goes (renewed_all edits ∙ sym (edits_of_edits (map Push xs))) begun;
+        counted = omega arith;
       }
 
   -- what a log has written is a front
-  pub in_file_front : (renewed elements : ℕ) (is_log : Bool) (s : LogState) → IsLogInFile made limits numbers log start renewed elements is_log s → HasFrontOfFile made limits numbers log start s.written.contents s.seen
-  in_file_front renewed elements is_log s was = record {
+  pub in_file_front : (renewed elements earlier : ℕ) (is_log : Bool) (s : LogState) → IsLogInFile made limits numbers log start renewed elements earlier is_log s → HasFrontOfFile made limits numbers log start s.written.contents s.seen
+  in_file_front renewed elements earlier is_log s was = record {
     file = was.file;
-    front = log_front was.file.there was.file.begun record { written = s.written; seen = renewed_after was.file.renewed s.seen } was.given;
+    front = log_front was.file.there was.file.begun record { written = s.written; seen = renewed_after was.file.renewed s.seen; taken = s.taken } was.given;
   }
 
   -- once nothing is held, and no write has failed, it has written all edits
-  pub in_file_all : (renewed elements : ℕ) (is_log : Bool) (s : LogState) → s.written.failed ≡ false → s.written.held ≡ [] → IsLogInFile made limits numbers log start renewed elements is_log s
-      → HasAllOfFile made limits numbers log start s.written.contents s.seen
-  in_file_all renewed elements is_log s fine none was = record {
+  pub in_file_all : (renewed elements earlier : ℕ) (is_log : Bool) (s : LogState) → s.written.failed ≡ false → s.written.held ≡ [] → IsLogInFile made limits numbers log start renewed elements earlier is_log s
+      → HasAllOfFile made limits numbers log start s.written.contents s.seen s.taken
+  unfolding log_all
+  in_file_all renewed elements earlier is_log s fine none was = record {
     file = was.file;
-    all = log_all was.file.there was.file.begun record { written = s.written; seen = renewed_after was.file.renewed s.seen } fine none was.given;
+    all = log_all was.file.there was.file.begun record { written = s.written; seen = renewed_after was.file.renewed s.seen; taken = s.taken } fine none was.given;
+    counted = was.counted;
   }
 
   -- so these edits were recorded
-  pub were_recorded : (edits all : List Edit) (contents : Option (List ℕ)) → IsPrefix edits all → HasAllOfFile made limits numbers log start contents all → WereRecorded made limits numbers log start edits
-  were_recorded edits all contents begins has = record { then_all = all; contents = contents; begins = begins; has = has }
+  pub were_recorded : (edits all : List Edit) (entries taken : ℕ) (contents : Option (List ℕ)) → IsPrefix edits all → entries ≤ taken → HasAllOfFile made limits numbers log start contents all taken → WereRecorded made limits numbers log start edits entries
+  were_recorded edits all entries taken contents begins many has = record { then_all = all; contents = contents; taken = taken; begins = begins; many = many; has = has }
 
   -- how it ends that has all edits, or that hasn't
-  pub in_file_ends : (renewed elements : ℕ) (is_log : Bool) (s : LogState) (edits : List Edit) (contents : Option (List ℕ)) (result : Result Unit Fault) (was : IsLogInFile made limits numbers log start renewed elements is_log s) → IsPrefix s.seen edits
+  pub in_file_ends : (renewed elements earlier : ℕ) (is_log : Bool) (s : LogState) (edits : List Edit) (contents : Option (List ℕ)) (result : Result Unit Fault) (was : IsLogInFile made limits numbers log start renewed elements earlier is_log s) → IsPrefix s.seen edits
       → length s.seen ≡ length edits → ((entries : List Entry) → WasGivenOf (heading_of was.file.there) (there_of was.file.there) was.file.begun entries s.written → EndsText was.file.there was.file.begun contents entries result)
       → EndsInFile made limits numbers log start contents edits result
   unfolding file_more
-  in_file_ends renewed elements is_log s edits contents result was begins all ends =
+  in_file_ends renewed elements earlier is_log s edits contents result was begins all ends =
       let n = was.file.renewed in
       let same : s.seen ≡ edits = prefix_whole s.seen edits begins (omega (arith, all)) in
       record {
         file = file_more s.seen edits begins was.file;
-        ends = log_ends was.file.there was.file.begun record { written = s.written; seen = renewed_after n s.seen } (renewed_after n edits) contents result was.given (renewed_prefix n s.seen edits was.file.some begins) (ap (λ (es : List Edit). length (renewed_after n es)) same) ends;
+        ends = log_ends was.file.there was.file.begun record { written = s.written; seen = renewed_after n s.seen; taken = s.taken } (renewed_after n edits) contents result was.given (renewed_prefix n s.seen edits was.file.some begins) (ap (λ (es : List Edit). length (renewed_after n es)) same) ends;
       }
 
-  pub in_file_ends_short : (renewed elements : ℕ) (is_log : Bool) (s : LogState) (edits : List Edit) (contents : Option (List ℕ)) (result : Result Unit Fault) (fault : Fault) (was : IsLogInFile made limits numbers log start renewed elements is_log s)
+  pub in_file_ends_short : (renewed elements earlier : ℕ) (is_log : Bool) (s : LogState) (edits : List Edit) (contents : Option (List ℕ)) (result : Result Unit Fault) (fault : Fault) (was : IsLogInFile made limits numbers log start renewed elements earlier is_log s)
       → IsPrefix s.seen edits → ((entries : List Entry) → WasGivenOf (heading_of was.file.there) (there_of was.file.there) was.file.begun entries s.written → EndsText was.file.there was.file.begun contents entries result)
       → EndsInFile made limits numbers log start contents edits (Err fault)
   unfolding file_more
-  in_file_ends_short renewed elements is_log s edits contents result fault was begins ends =
+  in_file_ends_short renewed elements earlier is_log s edits contents result fault was begins ends =
       let n = was.file.renewed in
       record {
         file = file_more s.seen edits begins was.file;
-        ends = log_ends_short was.file.there was.file.begun record { written = s.written; seen = renewed_after n s.seen } (renewed_after n edits) contents result was.given (renewed_prefix n s.seen edits was.file.some begins) ends;
+        ends = log_ends_short was.file.there was.file.begun record { written = s.written; seen = renewed_after n s.seen; taken = s.taken } (renewed_after n edits) contents result was.given (renewed_prefix n s.seen edits was.file.some begins) ends;
       }
 
 -- ---- the log of a hub of one vector, which has one file
 
-first_file : (made : Option (List ℕ)) (limits : Bounds) (numbers : LogHeading) (log : Option LogThere) (start : Option (List ℕ)) (edits : List Edit) → IsOfOneVector limits → (file : LogFile made limits numbers log start edits) → (file.renewed ≡ 0) × (file.there ≡ log) × (file.begun ≡ start)
+first_file : (made : Option (List ℕ)) (limits : Bounds) (numbers : LogHeading) (log : Option LogThere) (start : Option (List ℕ)) (edits : List Edit) → IsOfOneVector limits → (file : LogFile made limits numbers log start edits) → (file.renewed ≡ 0) × (file.there ≡ log) × (file.begun ≡ start) × (file.earlier ≡ 0)
 first_file made limits numbers log start edits one file = first_of file.which
   where
     first_of : {A B C : Type 0} → A ⊎ ((limits ≡ lasting limits) × B × C) → A

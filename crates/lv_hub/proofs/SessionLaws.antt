@@ -1,5 +1,5 @@
 -- Conversations whatever they give.
-use Rattle.std.proofs.Common.{◌≡◌, ℕ, Option, Result, Ok, Err, MatchResult, IfOk, List}
+use Rattle.std.proofs.Common.{◌≡◌, ℕ, Option, Result, Ok, Err, MatchResult, IfOk, OnOk, List}
 use Rattle.lv_lines.specs.declared.fault.Fault.{Fault}
 use Rattle.lv_lines.specs.declared.fault.Fault.TheVariants.{NoMemory, ReadFault, TooLong, WriteFault}
 use Rattle.lv_lines.specs.Replies.{LinesServed}
@@ -19,3 +19,9 @@ pub given_as : {T U : Type 0} (P : U → Type 0) (ended : Result T Fault) (given
     → P given → IfOk result P
 given_as P (Ok x) given result is holds = rw is holds
 given_as P (Err fault) given result is holds = rw is tt
+
+-- what is so where one ended well
+pub done_as : {T U : Type 0} (P : Type 0) (ended : Result T Fault) (given : U) (result : Result U Fault) → MatchResult ended (λ x. result ≡ Ok given) (λ fault. result ≡ Err fault)
+    → OnOk ended P → OnOk result P
+done_as P (Ok x) given result is holds = rw is holds
+done_as P (Err fault) given result is holds = rw is holds

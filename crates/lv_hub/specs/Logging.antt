@@ -1,6 +1,6 @@
 -- The log of a hub: what came since it was written last, where its file begins, and what it has.
 use Rattle.std.proofs.Common.{inl, inr}
-use Rattle.std.specs.Prelude.{◌≡◌, ◌⊎◌, ℕ, ℤ, ◌+◌, ◌≤◌, ◌^◌, All, Bool, true, false, is_some, Option, Some, None, Result, Ok, Err, List, [], ◌∷◌, ◌++◌, drop, length, map, take}
+use Rattle.std.specs.Prelude.{◌≡◌, ◌⊎◌, ℕ, ℤ, ◌+◌, ◌<◌, ◌≤◌, ◌^◌, All, Bool, true, false, is_some, Option, Some, None, Result, Ok, Err, List, [], ◌∷◌, ◌++◌, drop, length, map, take}
 use Rattle.lv_geometry.specs.Bounds.{Bounds}
 use Rattle.lv_geometry.specs.Elements.{IsElement}
 use Rattle.lv_edits.specs.declared.edit.Edit.{Edit}
@@ -39,19 +39,20 @@ pub record CameSince (journal : List Edit) (from : ℕ) (entries : List Entry) :
   pub all_true : AreTrueAfter (take from journal) from entries
   pub in_time : last_after from entries ≤ length journal
 
--- a tap: from which edit on it has entries, those, and for how many it has room
+-- a tap: from which edit on it has entries, those, for how many it has room, and how many entries came in all, with those that others had before
 pub record TapState : Type 0 where
   pub from : ℕ
   pub entries : List LogEntry
   pub room : ℕ
+  pub given : ℕ
 
 -- there is room for one more
 abbrev pub HasPlace : TapState → Type 0
-HasPlace t = length t.entries + 1 ≤ t.room
+HasPlace t = (length t.entries + 1 ≤ t.room) × (t.given + 1 < 2 ^ 64)
 
 -- a tap with one entry more
 abbrev pub with_entry : LogEntry → TapState → TapState
-with_entry entry t = record t { entries = t.entries ++ entry ∷ [] }
+with_entry entry t = record t { entries = t.entries ++ entry ∷ []; given = t.given + 1 }
 
 -- a tap of a journal has what came since its edit
 abbrev pub Taps : List Edit → TapState → Type 0
@@ -59,10 +60,15 @@ Taps journal t = CameSince journal t.from (map entry_of t.entries)
 
 -- ---- what the file has
 
--- a log: what was written and is held, and the beginning of the hub's edits that it was given
+-- a log: what was written and is held, the beginning of the hub's edits that it was given, and how many entries it was given in all: edits, and answers
 pub record LogState : Type 0 where
   pub written : WritingState
   pub seen : List Edit
+  pub taken : ℕ
+
+-- nothing is held back, unless a write has failed
+abbrev pub HoldsNothing : WritingState → Type 0
+HoldsNothing s = s.failed ≡ false → s.held ≡ []
 
 -- the text that is written behind what was there, with these entries: that of a transcript has its last line too
 abbrev pub text_behind : Option LogThere → List Entry → List ℕ
@@ -143,40 +149,47 @@ pub record MayBeginAnew (log : Option LogThere) (s : LogState) : Type 0 where
   pub sent : s.written.held ≡ []
   pub fine : s.written.failed ≡ false
 
--- the file of the log of a hub that has come to some edits: what was there already, and what its writer had got then. It is the one that the hub began with; or else the
--- vector was made anew after the first so many edits, and with it the file
+-- the file of the log of a hub that has come to some edits: what was there already, what its writer had got then, and how many entries the files before it were given. It is
+-- the one that the hub began with; or else the vector was made anew after the first so many edits, and with it the file
 pub record LogFile (made : Option (List ℕ)) (limits : Bounds) (numbers : LogHeading) (log : Option LogThere) (start : Option (List ℕ)) (edits : List Edit) : Type 0 where
   pub renewed : ℕ
   pub some : renewed ≤ length edits
   pub there : Option LogThere
   pub begun : Option (List ℕ)
-  pub which : ((renewed ≡ 0) × (there ≡ log) × (begun ≡ start))
+  pub earlier : ℕ
+  pub which : ((renewed ≡ 0) × (there ≡ log) × (begun ≡ start) × (earlier ≡ 0))
       ⊎ ((limits ≡ lasting limits) × (there ≡ Some (log_after numbers renewed edits)) × HasLog made (heading_after numbers renewed edits) (list_of (take renewed edits)) begun)
 
--- a log that was given what a hub has come to: its file was begun anew after so many of those edits, with so many elements, and was given what the vector has since
-pub record IsLogInFile (made : Option (List ℕ)) (limits : Bounds) (numbers : LogHeading) (log : Option LogThere) (start : Option (List ℕ)) (renewed elements : ℕ) (is_log : Bool) (s : LogState) : Type 0 where
+-- a log that was given what a hub has come to: its file was begun anew after so many of those edits, with so many elements, and after so many entries, and was given what the
+-- vector has since. All that it was given was counted
+pub record IsLogInFile (made : Option (List ℕ)) (limits : Bounds) (numbers : LogHeading) (log : Option LogThere) (start : Option (List ℕ)) (renewed elements earlier : ℕ) (is_log : Bool) (s : LogState) : Type 0 where
   pub file : LogFile made limits numbers log start s.seen
   pub renewed_is : file.renewed ≡ renewed
   pub elements_are : length (list_of (take file.renewed s.seen)) ≡ elements
+  pub earlier_is : file.earlier ≡ earlier
   pub behind : is_log ≡ is_some file.there
-  pub given : IsLogOf file.there file.begun record { written = s.written; seen = renewed_after file.renewed s.seen }
+  pub given : IsLogOf file.there file.begun record { written = s.written; seen = renewed_after file.renewed s.seen; taken = s.taken }
+  pub counted : file.earlier + length given.entries ≡ s.taken
 
 -- what the writer of that file has got is a front, whose edits begin those of the vector
 pub record HasFrontOfFile (made : Option (List ℕ)) (limits : Bounds) (numbers : LogHeading) (log : Option LogThere) (start contents : Option (List ℕ)) (edits : List Edit) : Type 0 where
   pub file : LogFile made limits numbers log start edits
   pub front : HasFront file.there file.begun contents (renewed_after file.renewed edits)
 
--- all edits of the hub were written in that file, or are among those that it was begun anew after
-pub record HasAllOfFile (made : Option (List ℕ)) (limits : Bounds) (numbers : LogHeading) (log : Option LogThere) (start contents : Option (List ℕ)) (edits : List Edit) : Type 0 where
+-- all edits of the hub were written in that file, or are among those that it was begun anew after; and with the entries of the files before, all that it has are so many
+pub record HasAllOfFile (made : Option (List ℕ)) (limits : Bounds) (numbers : LogHeading) (log : Option LogThere) (start contents : Option (List ℕ)) (edits : List Edit) (taken : ℕ) : Type 0 where
   pub file : LogFile made limits numbers log start edits
   pub all : HasAll file.there file.begun contents (renewed_after file.renewed edits)
+  pub counted : file.earlier + length all.entries ≡ taken
 
--- there was a time when all edits of the hub were written, and these begin them
-pub record WereRecorded (made : Option (List ℕ)) (limits : Bounds) (numbers : LogHeading) (log : Option LogThere) (start : Option (List ℕ)) (edits : List Edit) : Type 0 where
+-- there was a time when all edits of the hub were written, and these begin them; and so many entries at least, edits and answers
+pub record WereRecorded (made : Option (List ℕ)) (limits : Bounds) (numbers : LogHeading) (log : Option LogThere) (start : Option (List ℕ)) (edits : List Edit) (entries : ℕ) : Type 0 where
   pub then_all : List Edit
   pub contents : Option (List ℕ)
+  pub taken : ℕ
   pub begins : IsPrefix edits then_all
-  pub has : HasAllOfFile made limits numbers log start contents then_all
+  pub many : entries ≤ taken
+  pub has : HasAllOfFile made limits numbers log start contents then_all taken
 
 -- how the log of a hub with these edits ends: in its last file
 pub record EndsInFile (made : Option (List ℕ)) (limits : Bounds) (numbers : LogHeading) (log : Option LogThere) (start contents : Option (List ℕ)) (edits : List Edit) (result : Result Unit Fault) : Type 0 where

@@ -31,6 +31,11 @@ pub record SessionState : Type 0 where
 abbrev pub session_at : ShareState → List Claimed → SessionState
 session_at share answers = record { count = share.count; seen = share.seen; answers = answers }
 
+-- a session as it is held: its state, and up to which entry its log has to have those of the hub before what it was answered may be told
+pub record HeldSession : Type 0 where
+  pub session : SessionState
+  pub entry : ℕ
+
 -- what the plain interpreter keeps of it
 abbrev pub kept_by : SessionState → Seen
 kept_by s = record { edits = s.seen; made = s.count }

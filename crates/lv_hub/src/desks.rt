@@ -240,7 +240,13 @@ impl<B: Body, N: WithBody<B>> Desk<B, N> {
         ensures { self.new ≡ self.old }
     {
         let edits = u64::from(self.live.edit());
-        self.tap = Some(Tap::new(edits, entries));
+        let given = given_to(&self.tap);
+        self.tap = Some(Tap::new(edits, given, entries));
+    }
+
+    /// How many entries came for a log in all: edits, and answers.
+    pub fn given(&self) -> u64 {
+        given_to(&self.tap)
     }
 
     /// Lets a prefix see all edits, and hands over what came since an edit, whose number is given, by a list without entries that takes
@@ -260,9 +266,10 @@ impl<B: Body, N: WithBody<B>> Desk<B, N> {
         let grown = self.head.grown(prefix);
         *prefix = grown;
         let renewed = self.renewed;
+        let given = given_to(&self.tap);
         let edits = u64::from(self.live.edit());
         let from = hand_over(&mut self.tap, edits, entries);
-        came_from(from, renewed)
+        came_from(from, renewed, given)
     }
 
     /// Puts a vector in place of its own, which has just the elements that there are after the edits that a prefix has seen, as pushes, if there are no more
@@ -318,7 +325,8 @@ impl<B: Body, N: WithBody<B>> Desk<B, N> {
         mem::swap(&mut self.kinds, kinds);
         self.renewed = renewed;
         self.capacity = capacity;
-        self.tap = Some(Tap::new(edits, entries));
+        let given = given_to(&self.tap);
+        self.tap = Some(Tap::new(edits, given, entries));
     }
 
     /// Copies the elements, where a prefix has seen all edits. Refused with `Stranger` where there are more of them, else with `NoMemory`.
@@ -600,12 +608,16 @@ fn greater(one: u32, other: u32) -> u32
     if one < other { other } else { one }
 }
 
-// What was handed over by a vector that was made anew after so many edits.
-fn came_from(from: Option<u64>, renewed: u64) -> Option<Came>
-    ensures { result ≡ option_map (λ from. record { from = from; renewed = renewed }) from }
+// What was handed over by a vector that was made anew after so many edits, once so many entries came in all.
+fn came_from(from: Option<u64>, renewed: u64, given: u64) -> Option<Came>
+    ensures { result ≡ option_map (λ from. record { from = from; renewed = renewed; given = given }) from }
 {
     match from {
-        Some(from) => Some(Came { from, renewed }),
+        Some(from) => Some(Came {
+            from,
+            renewed,
+            given,
+        }),
         None => None,
     }
 }
@@ -630,6 +642,16 @@ fn has_place(tap: &Option<Tap>) -> bool
     match tap {
         Some(tap) => tap.has_place(),
         None => true,
+    }
+}
+
+// How many entries came for a log in all: none, where there is no log.
+fn given_to(tap: &Option<Tap>) -> u64
+    ensures { IfSome tap.now (λ t. result ≡ t.given) }
+{
+    match tap {
+        Some(tap) => tap.given(),
+        None => 0,
     }
 }
 
@@ -681,7 +703,7 @@ fn hand_over(tap: &mut Option<Tap>, edits: u64, entries: &mut Vec<LogEntry>) -> 
     requires { entries.old.items ≡ [] }
     ensures from { result ≡ option_map (λ t. t.from) tap.old }
     ensures entries { IfSome tap.old (λ t. entries.new.items ≡ t.entries) }
-    ensures left { IfSome tap.new (λ t. t ≡ record { from = edits; entries = []; room = t.room }) }
+    ensures left { IfSome tap.new (λ t. t ≡ record { from = edits; entries = []; room = t.room; given = t.given }) }
 {
     match tap {
         Some(tap) => Some(tap.hand_over(edits, entries)),

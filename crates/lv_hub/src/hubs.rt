@@ -289,12 +289,13 @@ impl<B: Body, N: WithBody<B>> Hub<B, N> {
         Some(answer)
     }
 
-    /// The same as `value`, and the answer is kept for the log, where there is one. None where that has no room for it; nothing has changed
-    /// then.
+    /// The same as `value`, and the answer is kept for the log, where there is one: `entry` becomes its number among the log's entries, up to which a log
+    /// has to have them before the answer is told. None where the log has no room for it; nothing has changed then.
     pub fn try_value<R: Wait>(
         &self,
         rt: &R,
         share: &mut Share<N>,
+        entry: &mut u64,
         kind: Kind,
         lo: u32,
         hi: u32,
@@ -303,13 +304,16 @@ impl<B: Body, N: WithBody<B>> Hub<B, N> {
         ensures number { IsOfOneVector N.limits → IfSome result (λ answer. IfOk answer (λ answered. answered.edit ≡ length share.new.seen)) }
         ensures share { share.new ≡ having_seen share.old share.new.seen }
         ensures unchanged { result ≡ None → share.new ≡ share.old }
+        ensures unlogged { result ≡ None → entry.new ≡ entry.old }
     {
         let mut desk = self.desk.lock(rt);
         if !desk.has_place() {
             return None;
         }
         desk.show(share);
-        Some(desk.value_logged(kind, lo, hi))
+        let answer = desk.value_logged(kind, lo, hi);
+        *entry = desk.given();
+        Some(answer)
     }
 
     // The vector's body.

@@ -1,6 +1,6 @@
 //! Subscribers that have ended, and what they tell last.
 
-ghost use Rattle.std.specs.Prelude.{◌≡◌, ◌≤◌, ◌^◌, IfOk, List, [], length, map, vec_capacity, vec_len};
+ghost use Rattle.std.specs.Prelude.{◌≡◌, ◌≤◌, ◌^◌, IfOk, List, [], false, length, map, vec_capacity, vec_len};
 ghost use Rattle.lv_edits.specs.declared.edit.Edit.{Edit};
 ghost use Rattle.lv_edits.specs.History.{list_of};
 ghost use Rattle.lv_edits.specs.Kept.{IsLegalInLimits};
@@ -68,6 +68,7 @@ impl<F: Write + Drop> Left<F> {
         requires legal { IsLegalInLimits live.old.history }
         requires few { edit ≤ 2 ^ 62 }
         ensures last { (edits : List Edit) → length edits ≡ edit → list_of live.old.history.journal ≡ list_of edits → TellsLast edits self result.notices }
+        ensures unrecorded { is_recorded ≡ false → result.notices.contents ≡ self.notices.contents }
         ensures same { SameLive live.old live.new }
     {
         let Left {
@@ -108,6 +109,7 @@ impl<F: Write + Drop> Leaving<F> {
         requires none { self.watched.items ≡ [] }
         requires room { vec_len self.left ≤ vec_capacity self.watched }
         ensures last { (edits : List Edit) → length edits ≡ edit → list_of live.old.history.journal ≡ list_of edits → AllTellLast edits self.left.items (map (λ w. w.notices) result.items) }
+        ensures unrecorded { is_recorded ≡ false → map (λ w. w.notices.contents) result.items ≡ map (λ l. l.notices.contents) self.left.items }
         ensures same { SameLive live.old live.new }
     {
         let Leaving { left, mut watched } = self;

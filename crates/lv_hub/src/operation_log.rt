@@ -1,5 +1,5 @@
 //! The operation log of a hub: its edits and its sessions' answers, written in the order of time.
-ghost use Rattle.std.specs.Prelude.{◌≡◌, ◌≤◌, ◌^◌, ◌∷◌, ℕ, [], All, Bool, IfErr, IfOk, IfSome, List, OnOk, Option, None, Some, false, is_some, length, map, take, true};
+ghost use Rattle.std.specs.Prelude.{◌≡◌, ◌+◌, ◌≤◌, ◌^◌, ◌∷◌, ℕ, [], All, Bool, IfErr, IfOk, IfSome, List, OnOk, Option, None, Some, false, is_some, length, map, take, true};
 ghost use mathlib.Core.List.{IsPrefix};
 ghost use Rattle.lv_geometry.specs.Bounds.{Bounds};
 ghost use Rattle.lv_geometry.specs.Elements.{IsElement};
@@ -9,7 +9,7 @@ ghost use Rattle.lv_transcript.specs.Fronts.{Entry};
 ghost use Rattle.lv_transcript.specs.Transcribing.{Adds, IsUnusedOf, WasGivenOf, state_with};
 ghost use Rattle.lv_hub.specs.Counting.{having_seen};
 ghost use Rattle.lv_transcript.specs.Logs.{LogThere, MayGoOn, edits_there, heading_of, there_of};
-ghost use Rattle.lv_hub.specs.Logging.{AreLasting, BeginsAnew, CameSince, EndsInFile, EndsText, HasAllOfFile, HasFrontOfFile, IsLogInFile, MayBeginAnew, entry_of, heading_after};
+ghost use Rattle.lv_hub.specs.Logging.{AreLasting, BeginsAnew, CameSince, EndsInFile, EndsText, HasAllOfFile, HasFrontOfFile, HoldsNothing, IsLogInFile, MayBeginAnew, entry_of, heading_after};
 ghost use Rattle.lv_history.specs.Numbering.{told_number};
 ghost use Rattle.lv_hub.specs.Renewing.{IsMadeOf, renewed_after, vector_limits};
 
@@ -60,8 +60,8 @@ impl Begun for Brand {
     ghost there = { None };
 }
 
-/// What writes the log of a hub: whoever records takes what has come since out of the hub, and writes it with no lock of the hub's held. A
-/// write that fails is its last, and from then on nothing counts as recorded. Where the hub goes on when its vector's edits are used up, the log has that vector made anew
+/// What writes the log of a hub: whoever records takes what has come since out of the hub, and writes it with no lock of the hub's held. Whoever finds
+/// that others have recorded what it waits for writes nothing. A write that fails is the log's last, and from then on nothing counts as recorded. Where the hub goes on when its vector's edits are used up, the log has that vector made anew
 /// before they are, or where its writer says that this is due, and begins its file anew with it.
 #[derive(Drop)]
 pub struct OperationLog<N: Naming, W: LogWriter + Drop, K: Begun> {
@@ -69,6 +69,9 @@ pub struct OperationLog<N: Naming, W: LogWriter + Drop, K: Begun> {
     writer: W,
     // The hub's edits that it was given.
     prefix: HistoryPrefix<N>,
+    // How many entries it was given in all, edits and answers, and how many of them went to its earlier files.
+    taken: u64,
+    earlier: u64,
     // The list that the hub gets for its entries.
     spare: Vec<LogEntry>,
     // Whether entries went elsewhere: never, where a hub has one log.
@@ -91,18 +94,18 @@ pub struct OperationLog<N: Naming, W: LogWriter + Drop, K: Begun> {
 impl<N: Naming, W: LogWriter + Drop, K: Begun> Model for OperationLog<N, W, K> {
     ghost use Rattle.std.specs.Prelude.{◌≡◌, IfSome, is_some};
     ghost use Rattle.lv_transcript.specs.Transcribing.{state_with};
-    ghost use Rattle.lv_hub.specs.Logging.{AreLasting, IsLogInFile, LogState};
+    ghost use Rattle.lv_hub.specs.Logging.{AreLasting, HoldsNothing, IsLogInFile, LogState};
 
     ghost Value = { LogState };
 
-    ghost view = { λ l. record { written = state_with (W.contents l.writer) l.transcript; seen = l.prefix } };
+    ghost view = { λ l. record { written = state_with (W.contents l.writer) l.transcript; seen = l.prefix; taken = l.taken } };
 
-    ghost invariant = { λ l. IsLogInFile W.made N.limits N.numbers K.there K.start l.renewed l.elements l.is_log (record { written = state_with (W.contents l.writer) l.transcript; seen = l.prefix }) × (l.is_log ≡ is_some K.there) × (l.numbers ≡ N.numbers) × IfSome l.lasts (AreLasting N.limits) };
+    ghost invariant = { λ l. IsLogInFile W.made N.limits N.numbers K.there K.start l.renewed l.elements l.earlier l.is_log (record { written = state_with (W.contents l.writer) l.transcript; seen = l.prefix; taken = l.taken }) × (l.is_log ≡ is_some K.there) × (l.numbers ≡ N.numbers) × IfSome l.lasts (AreLasting N.limits) × HoldsNothing (state_with (W.contents l.writer) l.transcript) };
 }
 
 impl<N: WithBody<Six>, W: LogWriter + Drop, K: Begun> OperationLog<N, W, K> {
     /// The log of a hub that has the edits of what was there, and no others, as a share has seen them: a transcript that is begun here, or what
-    /// goes on behind a log. All memory that it needs is taken here. The hub keeps what comes for it, and has no other log. Where the hub goes on when its vector's edits
+    /// goes on behind a log. All memory that it needs is taken here. A transcript's first line is written then. The hub keeps what comes for it, and has no other log. Where the hub goes on when its vector's edits
     /// are used up, the log is told that vector's limits.
     pub fn begin<R: Wait>(
         rt: &R,
@@ -122,8 +125,8 @@ impl<N: WithBody<Six>, W: LogWriter + Drop, K: Begun> OperationLog<N, W, K> {
         requires seen { share.now.seen ≡ edits_there K.there }
         ensures { IfOk result (λ l. l.seen ≡ share.now.seen) }
     {
-        let log = OperationLog::new(alloc, writer, is_log, numbers, lasts, share)?;
         let entries = Vec::with_capacity(alloc, ROOM)?;
+        let log = OperationLog::new(alloc, writer, is_log, numbers, lasts, share)?;
         hub.tap(rt, entries);
         Ok(log)
     }
@@ -146,11 +149,14 @@ impl<N: WithBody<Six>, W: LogWriter + Drop, K: Begun> OperationLog<N, W, K> {
         ensures { IfOk result (λ l. l.seen ≡ share.now.seen) }
     {
         let spare = Vec::with_capacity(alloc, ROOM)?;
-        let transcript = unused(alloc, is_log)?;
+        let mut writer = writer;
+        let transcript = with_first_line(alloc, is_log, &mut writer)?;
         Ok(OperationLog {
             transcript,
             writer,
             prefix: share.prefix(),
+            taken: 0,
+            earlier: 0,
             spare,
             missed: false,
             is_log,
@@ -164,57 +170,76 @@ impl<N: WithBody<Six>, W: LogWriter + Drop, K: Begun> OperationLog<N, W, K> {
         })
     }
 
-    /// Writes what has come since, and has the hub's vector made anew where that is due. Then the writer has got all edits, and these begin with what a share has
-    /// seen. Whatever a write comes to, the writer has got a front of the log's present file. The fault is `WriteFault`, where a write fails or has failed, or the vector
-    /// takes no more edits and can't be made anew.
+    /// Sees to it that what a share has seen is written, and as many entries as are asked for. Where others have recorded them, and the vector isn't to be made anew, it writes nothing. Else it writes what has come
+    /// since, as `make_place` does. Then the writer has got all edits, and these begin with what the share has seen. Whatever a write comes to, the writer has got a front of the
+    /// log's present file. The fault is `WriteFault`, as `make_place` has it.
     pub fn record<R: Wait>(
         &mut self,
         rt: &R,
         hub: &Hub<Six, N>,
         share: &Share<N>,
+        entries: u64,
     ) -> Result<(), Fault>
-        ensures all { OnOk result (HasAllOfFile W.made N.limits N.numbers K.there K.start self.new.written.contents self.new.seen) }
+        ensures all { OnOk result (HasAllOfFile W.made N.limits N.numbers K.there K.start self.new.written.contents self.new.seen self.new.taken) }
         ensures covers { OnOk result (IsPrefix share.now.seen self.new.seen) }
+        ensures entries { OnOk result (entries ≤ self.new.taken) }
         ensures front { HasFrontOfFile W.made N.limits N.numbers K.there K.start self.new.written.contents self.new.seen }
         ensures more { IsPrefix self.old.seen self.new.seen }
         ensures fault { IfErr result (λ fault. fault ≡ Fault.WriteFault) }
     {
-        self.write(rt, hub);
-        self.renew_if_due(rt, hub);
-        self.missed = self.missed || self.is_worn();
-        // A vector that is made anew leaves nothing to write.
-        self.flush();
-        if !self.has_all(share) {
+        if self.due().is_none() && self.has_all(share, entries) {
+            return Ok(());
+        }
+        self.write_all(rt, hub);
+        if !self.has_all(share, entries) {
             return Err(Fault::WriteFault);
         }
         Ok(())
     }
 
-    // Whether all is written, and begins with what a share has seen.
-    fn has_all(&self, share: &Share<N>) -> bool
-        requires sent { self.now.written.failed ≡ false → self.now.written.held ≡ [] }
-        ensures all { result ≡ true → HasAllOfFile W.made N.limits N.numbers K.there K.start self.now.written.contents self.now.seen }
+    /// Writes what has come since, so that the hub has room for more, and has its vector made anew where that is due. The fault is `WriteFault`, where a write fails or has
+    /// failed, or the vector takes no more edits and can't be made anew.
+    pub fn make_place<R: Wait>(&mut self, rt: &R, hub: &Hub<Six, N>) -> Result<(), Fault>
+        ensures front { HasFrontOfFile W.made N.limits N.numbers K.there K.start self.new.written.contents self.new.seen }
+        ensures more { IsPrefix self.old.seen self.new.seen }
+        ensures fault { IfErr result (λ fault. fault ≡ Fault.WriteFault) }
+    {
+        self.write_all(rt, hub);
+        if self.has_failed() {
+            return Err(Fault::WriteFault);
+        }
+        Ok(())
+    }
+
+    // Writes what has come since, and has the vector made anew where that is due.
+    fn write_all<R: Wait>(&mut self, rt: &R, hub: &Hub<Six, N>)
+        ensures { IsPrefix self.old.seen self.new.seen }
+    {
+        self.take_over(rt, hub);
+        self.renew_if_due(rt, hub);
+        self.missed = self.missed || self.is_worn();
+    }
+
+    // Whether all is written, begins with what a share has seen, and is as many entries.
+    fn has_all(&self, share: &Share<N>, entries: u64) -> bool
+        ensures all { result ≡ true → HasAllOfFile W.made N.limits N.numbers K.there K.start self.now.written.contents self.now.seen self.now.taken }
         ensures covers { result ≡ true → IsPrefix share.now.seen self.now.seen }
+        ensures entries { result ≡ true → entries ≤ self.now.taken }
         ensures front { HasFrontOfFile W.made N.limits N.numbers K.there K.start self.now.written.contents self.now.seen }
     {
         if self.has_failed() {
+            return false;
+        }
+        if self.taken < entries {
             return false;
         }
         share.is_within(&self.prefix)
     }
 
     // Takes what has come since out of the hub, and writes it.
-    fn write<R: Wait>(&mut self, rt: &R, hub: &Hub<Six, N>)
-        ensures more { IsPrefix self.old.seen self.new.seen }
-        ensures sent { self.new.written.failed ≡ false → self.new.written.held ≡ [] }
-    {
-        self.take_over(rt, hub);
-        self.flush();
-    }
-
-    // Takes what has come since out of the hub.
     fn take_over<R: Wait>(&mut self, rt: &R, hub: &Hub<Six, N>)
-        ensures { IsPrefix self.old.seen self.new.seen }
+        ensures more { IsPrefix self.old.seen self.new.seen }
+        ensures sent { HoldsNothing self.new.written }
     {
         self.spare.clear();
         let mut prefix = self.prefix.again();
@@ -222,10 +247,11 @@ impl<N: WithBody<Six>, W: LogWriter + Drop, K: Begun> OperationLog<N, W, K> {
             self.missed = true;
             return;
         };
-        let next = next_of(&self.prefix, self.renewed, self.elements);
+        let next = next_of(&self.prefix, self.renewed, self.elements, self.taken);
         let is_next = take(
             &mut self.transcript,
             &mut self.prefix,
+            &mut self.taken,
             next,
             came,
             prefix,
@@ -233,14 +259,6 @@ impl<N: WithBody<Six>, W: LogWriter + Drop, K: Begun> OperationLog<N, W, K> {
             &mut self.writer,
         );
         self.missed = self.missed || !is_next;
-    }
-
-    // Writes all that is held. Then nothing is, if no write has failed.
-    fn flush(&mut self)
-        ensures seen { self.new.seen ≡ self.old.seen }
-        ensures sent { self.new.written.failed ≡ false → self.new.written.held ≡ [] }
-    {
-        self.transcript.flush(&mut self.writer);
     }
 
     // Whether a write has failed, or something wasn't recorded. What was written is a front in any case.
@@ -306,7 +324,7 @@ impl<N: WithBody<Six>, W: LogWriter + Drop, K: Begun> OperationLog<N, W, K> {
 
     // How many edits the vector has with those that were recorded.
     fn vector_edits(&self) -> u64 {
-        let next = next_of(&self.prefix, self.renewed, self.elements);
+        let next = next_of(&self.prefix, self.renewed, self.elements, self.taken);
         next.from
     }
 
@@ -335,11 +353,11 @@ impl<N: WithBody<Six>, W: LogWriter + Drop, K: Begun> OperationLog<N, W, K> {
     fn close<R: Wait>(&mut self, rt: &R, hub: &Hub<Six, N>) -> Vec<LogEntry>
         ensures entries { result.items ≡ [] }
         ensures more { IsPrefix self.old.seen self.new.seen }
-        ensures sent { self.new.written.failed ≡ false → self.new.written.held ≡ [] }
+        ensures sent { HoldsNothing self.new.written }
     {
         self.spare.clear();
         let entries = mem::replace(&mut self.spare, Vec::new(self.alloc));
-        self.write(rt, hub);
+        self.take_over(rt, hub);
         entries
     }
 
@@ -463,6 +481,7 @@ impl<N: WithBody<Six>, W: LogWriter + Drop, K: Begun> OperationLog<N, W, K> {
             Ok(()) => {
                 self.renewed = self.prefix.count();
                 self.elements = heading.elements;
+                self.earlier = self.taken;
                 self.tried = 0;
                 true
             }
@@ -471,16 +490,18 @@ impl<N: WithBody<Six>, W: LogWriter + Drop, K: Begun> OperationLog<N, W, K> {
     }
 }
 
-// What comes next for a log that was given these edits, whose file was begun anew after so many of them with so many elements.
-fn next_of<N: Naming>(prefix: &HistoryPrefix<N>, renewed: u64, elements: u32) -> Came
+// What comes next for a log that was given these edits and so many entries, whose file was begun anew after so many of the edits with so many elements.
+fn next_of<N: Naming>(prefix: &HistoryPrefix<N>, renewed: u64, elements: u32, taken: u64) -> Came
     requires some { renewed ≤ length prefix.now }
     requires elements { elements ≡ length (list_of (take renewed prefix.now)) }
     ensures from { result.from ≡ length (renewed_after renewed prefix.now) }
     ensures renewed { result.renewed ≡ renewed }
+    ensures given { result.given ≡ taken }
 {
     Came {
         from: u64::from(elements) + (prefix.count() - renewed),
         renewed,
+        given: taken,
     }
 }
 
@@ -515,6 +536,21 @@ fn unused(alloc: Global, is_log: bool) -> Result<TranscriptWriter, AllocError>
     }
 }
 
+// The same, once the first line of a transcript is written.
+fn with_first_line<W: Write>(
+    alloc: Global,
+    is_log: bool,
+    writer: &mut W,
+) -> Result<TranscriptWriter, AllocError>
+    ensures given { IfOk result (λ transcript. (log : Option LogThere) → is_log ≡ is_some log
+        → WasGivenOf (heading_of log) (there_of log) (W.contents writer.old) [] (state_with (W.contents writer.new) transcript)) }
+    ensures sent { IfOk result (λ transcript. HoldsNothing (state_with (W.contents writer.new) transcript)) }
+{
+    let mut transcript = unused(alloc, is_log)?;
+    transcript.flush(writer);
+    Ok(transcript)
+}
+
 // Writes what is held, and a transcript's last line behind it.
 fn finish<W: Write>(transcript: TranscriptWriter, is_log: bool, writer: &mut W) -> Result<(), Fault>
     ensures ends { (log : Option LogThere) (start : Option (List ℕ)) (entries : List Entry) → is_log ≡ is_some log
@@ -542,11 +578,12 @@ fn finish_log<W: Write>(transcript: TranscriptWriter, writer: &mut W) -> Result<
     Ok(())
 }
 
-// Gives what came to a transcript writer that was given what came before, and says that it was so: if it isn't what comes next, entries are missing, and nothing is
-// given.
+// Gives what came to a transcript writer that was given what came before, has it written, and says that it was so: if it isn't what comes next, entries are missing, and
+// nothing is given.
 fn take<N: Naming, W: Write>(
     transcript: &mut TranscriptWriter,
     seen: &mut HistoryPrefix<N>,
+    taken: &mut u64,
     next: Came,
     came: Came,
     prefix: HistoryPrefix<N>,
@@ -555,25 +592,34 @@ fn take<N: Naming, W: Write>(
 ) -> bool
     requires begins { IsPrefix seen.old prefix }
     requires next { next.from ≡ length (renewed_after next.renewed seen.old) }
+    requires given { next.given ≡ taken.old }
     requires came { CameSince (renewed_after came.renewed prefix) came.from (map entry_of entries.now) }
-    ensures log { (made : Option (List ℕ)) (limits : Bounds) (numbers : LogHeading) (log : Option LogThere) (start : Option (List ℕ)) (renewed elements : ℕ) (is_log : Bool) → next.renewed ≡ renewed
-        → IsLogInFile made limits numbers log start renewed elements is_log (record { written = state_with (W.contents writer.old) transcript.old; seen = seen.old })
-        → IsLogInFile made limits numbers log start renewed elements is_log (record { written = state_with (W.contents writer.new) transcript.new; seen = seen.new }) }
+    ensures log { (made : Option (List ℕ)) (limits : Bounds) (numbers : LogHeading) (log : Option LogThere) (start : Option (List ℕ)) (renewed elements earlier : ℕ) (is_log : Bool) → next.renewed ≡ renewed
+        → IsLogInFile made limits numbers log start renewed elements earlier is_log (record { written = state_with (W.contents writer.old) transcript.old; seen = seen.old; taken = taken.old })
+        → IsLogInFile made limits numbers log start renewed elements earlier is_log (record { written = state_with (W.contents writer.new) transcript.new; seen = seen.new; taken = taken.new }) }
     ensures more { IsPrefix seen.old seen.new }
+    ensures sent { HoldsNothing (state_with (W.contents writer.old) transcript.old) → HoldsNothing (state_with (W.contents writer.new) transcript.new) }
 {
-    if !is_next(came, next) {
+    if !is_next(came, next, entries.len()) {
         return false;
     }
     give_all(transcript, entries, writer);
+    transcript.flush(writer);
     *seen = prefix;
+    *taken = came.given;
     true
 }
 
-// Whether what came is what comes next.
-fn is_next(came: Came, next: Came) -> bool
-    ensures { result ≡ true → came ≡ next }
+// Whether what came is what comes next, so many entries.
+fn is_next(came: Came, next: Came, count: usize) -> bool
+    ensures from { result ≡ true → came.from ≡ next.from }
+    ensures renewed { result ≡ true → came.renewed ≡ next.renewed }
+    ensures given { result ≡ true → came.given ≡ next.given + count }
 {
-    came.renewed == next.renewed && came.from == next.from
+    came.renewed == next.renewed
+        && came.from == next.from
+        && next.given <= came.given
+        && came.given - next.given == count as u64
 }
 
 // Gives entries to a transcript writer.

@@ -49,12 +49,14 @@ pub struct SessionPlace<'a, N: WithBody<Six>, T> {
     ghost one: { N.lists ≡ true → IsOfOneVector N.limits },
 }
 
-/// Answers a line of a session, on a hub: its share counts what is accepted, and `answers` lists the reductions, which stay true.
+/// Answers a line of a session, on a hub: its share counts what is accepted, and `answers` lists the reductions, which stay true. Up to `entry` the log has to have the hub's
+/// entries before the reply goes out, with all replies before.
 pub fn answer_line<N: WithBody<Six>, T: Wait, L: SessionLog<N>, W: Write>(
     place: &SessionPlace<'_, N, T>,
     log: &L,
     share: &mut Share<N>,
     answers: &mut Vec<Claimed>,
+    entry: &mut u64,
     number: u32,
     line: Line<Command>,
     buffer: &mut ReplyBuffer<'_, W>,
@@ -62,7 +64,7 @@ pub fn answer_line<N: WithBody<Six>, T: Wait, L: SessionLog<N>, W: Write>(
     requires room { HasRoom buffer.old.held.now LINE }
     requires all_true { All (IsTrueAnswer share.old.seen) answers.old.items }
     ensures places { SamePlaces buffer.old buffer.new }
-    ensures sent { (buffer.new.writer.now ≡ buffer.old.writer.now) ⊎ L.has_recorded log.now share.new.seen }
+    ensures sent { (buffer.new.writer.now ≡ buffer.old.writer.now) ⊎ L.has_recorded log.now share.new.seen entry.new }
     ensures ok { OnOk result ((reply : List ℕ)
         × SessionLineAnswer N.limits N.numbers N.lists (session_at share.old answers.old.items) number line reply (session_at share.new answers.new.items)
         × Puts W.contents buffer.old buffer.new reply) }
@@ -78,7 +80,7 @@ pub fn answer_line<N: WithBody<Six>, T: Wait, L: SessionLog<N>, W: Write>(
         Line::Nothing => {}
         Line::Bad => put_bad(buffer.held, number),
         Line::Do(command) => {
-            return answer(place, log, share, answers, number, command, buffer);
+            return answer(place, log, share, answers, entry, number, command, buffer);
         }
     }
     Ok(())
@@ -89,16 +91,17 @@ pub(crate) fn make_room<N: WithBody<Six>, T: Wait, L: SessionLog<N>, W: Write>(
     place: &SessionPlace<'_, N, T>,
     log: &L,
     share: &Share<N>,
+    entry: u64,
     buffer: &mut ReplyBuffer<'_, W>,
 ) -> Result<(), Fault>
     ensures places { SamePlaces buffer.old buffer.new }
-    ensures sent { (buffer.new.writer.now ≡ buffer.old.writer.now) ⊎ L.has_recorded log.now share.now.seen }
+    ensures sent { (buffer.new.writer.now ≡ buffer.old.writer.now) ⊎ L.has_recorded log.now share.now.seen entry }
     ensures ok { OnOk result (Puts W.contents buffer.old buffer.new []) }
     ensures room { OnOk result (HasRoom buffer.new.held.now LINE) }
     ensures fault { IfErr result (λ fault. (fault ≡ Fault.WriteFault) × PutsFront W.contents buffer.old buffer.new []) }
 {
     if buffer.held.capacity() - buffer.held.len() < LINE {
-        log.record(place.rt, place.hub, share)?;
+        log.record(place.rt, place.hub, share, entry)?;
         return buffer.make_room(LINE);
     }
     Ok(())
@@ -111,13 +114,14 @@ fn answer<N: WithBody<Six>, T: Wait, L: SessionLog<N>, W: Write>(
     log: &L,
     share: &mut Share<N>,
     answers: &mut Vec<Claimed>,
+    entry: &mut u64,
     number: u32,
     command: Command,
     buffer: &mut ReplyBuffer<'_, W>,
 ) -> Result<(), Fault>
     requires { HasRoom buffer.old.held.now LINE }
     ensures places { SamePlaces buffer.old buffer.new }
-    ensures sent { (buffer.new.writer.now ≡ buffer.old.writer.now) ⊎ L.has_recorded log.now share.new.seen }
+    ensures sent { (buffer.new.writer.now ≡ buffer.old.writer.now) ⊎ L.has_recorded log.now share.new.seen entry.new }
     ensures ok { OnOk result ((reply : List ℕ)
         × SessionCommandAnswer N.limits N.numbers N.lists (session_at share.old answers.old.items) number command reply (session_at share.new answers.new.items)
         × Puts W.contents buffer.old buffer.new reply) }
@@ -134,7 +138,7 @@ fn answer<N: WithBody<Six>, T: Wait, L: SessionLog<N>, W: Write>(
             Ok(())
         }
         Command::Reduce { kind, lo, hi } => {
-            put_reduction(place, log, share, answers, kind, lo, hi, buffer.held);
+            put_reduction(place, log, share, answers, entry, kind, lo, hi, buffer.held);
             Ok(())
         }
         Command::Scan {
@@ -146,6 +150,7 @@ fn answer<N: WithBody<Six>, T: Wait, L: SessionLog<N>, W: Write>(
             place,
             log,
             share,
+            *entry,
             &Asked {
                 inclusive,
                 kind,
@@ -191,7 +196,7 @@ fn last_number<N: WithBody<Six>, T: Wait>(place: &SessionPlace<'_, N, T>, share:
     told_number(place.numbers, share.seen())
 }
 
-// Makes an edit once the log has room for it: until then it is recorded. If that fails, no reply goes out any more.
+// Makes an edit once the log has room for it: until then what came is recorded. If that fails, no reply goes out any more.
 fn edit_with_place<N: WithBody<Six>, T: Wait, L: SessionLog<N>>(
     place: &SessionPlace<'_, N, T>,
     log: &L,
@@ -205,7 +210,7 @@ fn edit_with_place<N: WithBody<Six>, T: Wait, L: SessionLog<N>>(
         if let Some(answer) = place.hub.try_edit(place.rt, share, edit) {
             return answer;
         }
-        if log.record(place.rt, place.hub, share).is_err() {
+        if log.make_place(place.rt, place.hub).is_err() {
             break;
         }
     }
@@ -218,6 +223,7 @@ fn put_reduction<N: WithBody<Six>, T: Wait, L: SessionLog<N>>(
     log: &L,
     share: &mut Share<N>,
     answers: &mut Vec<Claimed>,
+    entry: &mut u64,
     kind: Kind,
     lo: u32,
     hi: u32,
@@ -232,7 +238,7 @@ fn put_reduction<N: WithBody<Six>, T: Wait, L: SessionLog<N>>(
     ensures few { vec_len answers.old ≤ most_listed place.now.keeps → vec_len answers.new ≤ most_listed place.now.keeps }
 {
     let is_kept = make_place(answers, place.keeps);
-    match value_with_place(place, log, share, is_kept, kind, lo, hi) {
+    match value_with_place(place, log, share, entry, is_kept, kind, lo, hi) {
         Ok(Answered { edit, value }) => {
             let reduction = Claimed {
                 edit,
@@ -262,12 +268,13 @@ fn make_place(answers: &mut Vec<Claimed>, keeps: KeptAnswers) -> bool
     }
 }
 
-// The value of a kind over a range. If it is to be kept, it is asked once the log has room for the answer: until then that is recorded. If
-// that fails, no reply goes out any more.
+// The value of a kind over a range. If it is to be kept, it is asked once the log has room for the answer, whose number among its entries is told: until then what came is
+// recorded. If that fails, no reply goes out any more.
 fn value_with_place<N: WithBody<Six>, T: Wait, L: SessionLog<N>>(
     place: &SessionPlace<'_, N, T>,
     log: &L,
     share: &mut Share<N>,
+    entry: &mut u64,
     is_kept: bool,
     kind: Kind,
     lo: u32,
@@ -281,10 +288,11 @@ fn value_with_place<N: WithBody<Six>, T: Wait, L: SessionLog<N>>(
         return place.hub.value(place.rt, share, kind, lo, hi);
     }
     for _ in 0..u64::MAX {
-        if let Some(answer) = place.hub.try_value(place.rt, share, kind, lo, hi) {
+        let asked = place.hub.try_value(place.rt, share, entry, kind, lo, hi);
+        if let Some(answer) = asked {
             return answer;
         }
-        if log.record(place.rt, place.hub, share).is_err() {
+        if log.make_place(place.rt, place.hub).is_err() {
             break;
         }
     }
@@ -324,12 +332,13 @@ fn put_scanned<N: WithBody<Six>, T: Wait, L: SessionLog<N>, W: Write>(
     place: &SessionPlace<'_, N, T>,
     log: &L,
     share: &mut Share<N>,
+    entry: u64,
     asked: &Asked,
     buffer: &mut ReplyBuffer<'_, W>,
 ) -> Result<(), Fault>
     requires { HasRoom buffer.old.held.now LINE }
     ensures places { SamePlaces buffer.old buffer.new }
-    ensures sent { (buffer.new.writer.now ≡ buffer.old.writer.now) ⊎ L.has_recorded log.now share.new.seen }
+    ensures sent { (buffer.new.writer.now ≡ buffer.old.writer.now) ⊎ L.has_recorded log.now share.new.seen entry }
     ensures ok { OnOk result ((reply : List ℕ)
         × ((answers : List Claimed) → TellsScan N.limits N.numbers N.lists (session_at share.old answers) asked.now.inclusive asked.now.kind asked.now.lo asked.now.hi reply (session_at share.new answers))
         × Puts W.contents buffer.old buffer.new reply) }
@@ -346,6 +355,7 @@ fn put_scanned<N: WithBody<Six>, T: Wait, L: SessionLog<N>, W: Write>(
             place,
             log,
             share,
+            entry,
             buffer,
             last_number(place, share),
             asked,
@@ -363,6 +373,7 @@ fn put_recorded_scan<N: WithBody<Six>, T: Wait, L: SessionLog<N>, W: Write>(
     place: &SessionPlace<'_, N, T>,
     log: &L,
     share: &Share<N>,
+    entry: u64,
     buffer: &mut ReplyBuffer<'_, W>,
     number: u64,
     asked: &Asked,
@@ -371,13 +382,13 @@ fn put_recorded_scan<N: WithBody<Six>, T: Wait, L: SessionLog<N>, W: Write>(
     requires can { CanFoldLong elements.now }
     requires room { HasRoom buffer.old.held.now LINE }
     ensures places { SamePlaces buffer.old buffer.new }
-    ensures sent { (buffer.new.writer.now ≡ buffer.old.writer.now) ⊎ L.has_recorded log.now share.now.seen }
+    ensures sent { (buffer.new.writer.now ≡ buffer.old.writer.now) ⊎ L.has_recorded log.now share.now.seen entry }
     ensures ok { OnOk result (Puts W.contents buffer.old buffer.new
         (scan_text number asked.now.inclusive asked.now.kind (scan_by (plain_value asked.now.kind) asked.now.inclusive elements.now))) }
     ensures fault { IfErr result (λ fault. (fault ≡ Fault.WriteFault) × PutsFront W.contents buffer.old buffer.new
         (scan_text number asked.now.inclusive asked.now.kind (scan_by (plain_value asked.now.kind) asked.now.inclusive elements.now))) }
 {
-    log.record(place.rt, place.hub, share)?;
+    log.record(place.rt, place.hub, share, entry)?;
     put_running_scan(
         buffer,
         number,

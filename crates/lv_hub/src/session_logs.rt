@@ -1,5 +1,5 @@
 //! Where what sessions do is recorded.
-ghost use Rattle.std.specs.Prelude.{◌≡◌, IfErr, IfSome, List, OnOk};
+ghost use Rattle.std.specs.Prelude.{◌≡◌, ℕ, IfErr, IfSome, List, OnOk};
 ghost use Rattle.lv_edits.specs.declared.edit.Edit.{Edit};
 ghost use Rattle.lv_hub.specs.Logging.{WereRecorded};
 
@@ -14,13 +14,24 @@ use std::sync::{Mutex, Wait};
 
 /// A record of what a hub comes to, or none.
 pub trait SessionLog<N: WithBody<Six>> {
-    // It has recorded these edits, the first of the hub: now they may be told.
-    ghost has_recorded: { Self → List Edit → Type 0 };
+    // It has recorded these edits, the first of the hub, and so many of the hub's entries, edits and answers: now they may be told.
+    ghost has_recorded: { Self → List Edit → ℕ → Type 0 };
 
-    /// Records all that the hub has come to, and so what a share of it has seen. The fault is `WriteFault`: then nothing may be told of it.
-    fn record<T: Wait>(&self, rt: &T, hub: &Hub<Six, N>, share: &Share<N>) -> Result<(), Fault>
-        ensures recorded { OnOk result (has_recorded self.now share.now.seen) }
+    /// Sees to it that what a share of the hub has seen is recorded, and as many of the hub's entries as are asked for. The fault is `WriteFault`: then nothing may be told of
+    /// it.
+    fn record<T: Wait>(
+        &self,
+        rt: &T,
+        hub: &Hub<Six, N>,
+        share: &Share<N>,
+        entries: u64,
+    ) -> Result<(), Fault>
+        ensures recorded { OnOk result (has_recorded self.now share.now.seen entries) }
         ensures fault { IfErr result (λ fault. fault ≡ Fault.WriteFault) };
+
+    /// Records all that the hub has come to, so that it has room for more. The fault is `WriteFault`: then nothing may be told of it.
+    fn make_place<T: Wait>(&self, rt: &T, hub: &Hub<Six, N>) -> Result<(), Fault>
+        ensures { IfErr result (λ fault. fault ≡ Fault.WriteFault) };
 }
 
 /// Nothing is recorded, and all may be told.
@@ -28,9 +39,19 @@ pub trait SessionLog<N: WithBody<Six>> {
 pub struct NoLog;
 
 impl<N: WithBody<Six>> SessionLog<N> for NoLog {
-    ghost has_recorded = { λ log edits. Unit {0} };
+    ghost has_recorded = { λ log edits entries. Unit {0} };
 
-    fn record<T: Wait>(&self, _rt: &T, _hub: &Hub<Six, N>, _share: &Share<N>) -> Result<(), Fault> {
+    fn record<T: Wait>(
+        &self,
+        _rt: &T,
+        _hub: &Hub<Six, N>,
+        _share: &Share<N>,
+        _entries: u64,
+    ) -> Result<(), Fault> {
+        Ok(())
+    }
+
+    fn make_place<T: Wait>(&self, _rt: &T, _hub: &Hub<Six, N>) -> Result<(), Fault> {
         Ok(())
     }
 }
@@ -38,19 +59,42 @@ impl<N: WithBody<Six>> SessionLog<N> for NoLog {
 /// One writes what others have done too: so whoever finds its own entry written writes nothing.
 impl<N: WithBody<Six>, W: LogWriter + Drop, K: Begun> SessionLog<N>
     for Mutex<OperationLog<N, W, K>> {
-    ghost has_recorded = { λ log edits. WereRecorded W.made N.limits N.numbers K.there K.start edits };
+    ghost has_recorded = { λ log edits entries. WereRecorded W.made N.limits N.numbers K.there K.start edits entries };
 
-    fn record<T: Wait>(&self, rt: &T, hub: &Hub<Six, N>, share: &Share<N>) -> Result<(), Fault> {
-        self.lock(rt).record(rt, hub, share)
+    fn record<T: Wait>(
+        &self,
+        rt: &T,
+        hub: &Hub<Six, N>,
+        share: &Share<N>,
+        entries: u64,
+    ) -> Result<(), Fault> {
+        self.lock(rt).record(rt, hub, share, entries)
+    }
+
+    fn make_place<T: Wait>(&self, rt: &T, hub: &Hub<Six, N>) -> Result<(), Fault> {
+        self.lock(rt).make_place(rt, hub)
     }
 }
 
 impl<N: WithBody<Six>, L: SessionLog<N>> SessionLog<N> for Option<&L> {
-    ghost has_recorded = { λ log edits. IfSome log (λ log. L.has_recorded log.now edits) };
+    ghost has_recorded = { λ log edits entries. IfSome log (λ log. L.has_recorded log.now edits entries) };
 
-    fn record<T: Wait>(&self, rt: &T, hub: &Hub<Six, N>, share: &Share<N>) -> Result<(), Fault> {
+    fn record<T: Wait>(
+        &self,
+        rt: &T,
+        hub: &Hub<Six, N>,
+        share: &Share<N>,
+        entries: u64,
+    ) -> Result<(), Fault> {
         match self {
-            Some(log) => log.record(rt, hub, share),
+            Some(log) => log.record(rt, hub, share, entries),
+            None => Ok(()),
+        }
+    }
+
+    fn make_place<T: Wait>(&self, rt: &T, hub: &Hub<Six, N>) -> Result<(), Fault> {
+        match self {
+            Some(log) => log.make_place(rt, hub),
             None => Ok(()),
         }
     }

@@ -9,7 +9,7 @@ ghost use Rattle.std.specs.List.Sorted.{IsPermutation};
 ghost use Rattle.lv_hub.specs.Counting.{ShareState};
 ghost use Rattle.lv_hub.specs.PlainSession.{PlainSessionStep, seen_by};
 ghost use Rattle.lv_hub.specs.Replying.{TellsLine};
-ghost use Rattle.lv_hub.specs.Session.{KeepTies, SessionState, SessionStep, most_listed, session_at};
+ghost use Rattle.lv_hub.specs.Session.{KeepTies, HeldSession, SessionState, SessionStep, most_listed, session_at};
 
 use crate::replying::{SessionPlace, answer_line, make_room};
 use crate::session_logs::SessionLog;
@@ -46,8 +46,8 @@ pub fn run_session<N: WithBody<Six>, T: Wait, L: SessionLog<N>, R: Read, W: Writ
     // Line by line the replies are those of the plain interpreter, each at some edits of the hub's.
     ensures plain { LinesServed (PlainSessionStep N.limits N.numbers) (seen_by share.old) (seen_by share.new)
         (R.remaining reader.old) (R.remaining reader.new) (W.contents writer.old) (W.contents writer.new) result }
-    // All edits that it has seen are recorded.
-    ensures recorded { OnOk result (L.has_recorded log.now share.new.seen) }
+    // All edits that it has seen are recorded, and all entries up to its last answer.
+    ensures recorded { OnOk result ((entry : ℕ) × L.has_recorded log.now share.new.seen entry) }
     ensures parts { share.new.parts ≡ share.old.parts }
     ensures more { share.old.count ≤ share.new.count }
     ensures seen { IsPrefix share.old.seen share.new.seen }
@@ -84,13 +84,13 @@ fn listed(answers: Vec<Claimed>, ended: Result<(), Fault>) -> Result<Vec<Claimed
     Ok(answers)
 }
 
-/// What a share holds when it is lent to a session, at most how many reductions that lists, and which edits its log has recorded.
+/// What a share holds when it is lent to a session, at most how many reductions that lists, and which edits and how many entries its log has recorded.
 pub trait SessionStart {
     ghost holding: { ShareState };
 
     ghost most: { ℕ };
 
-    ghost recorded: { List Edit → Type 0 };
+    ghost recorded: { List Edit → ℕ → Type 0 };
 }
 
 impl SessionStart for Brand {
@@ -98,7 +98,7 @@ impl SessionStart for Brand {
 
     ghost most = { 0 };
 
-    ghost recorded = { λ edits. Unit {0} };
+    ghost recorded = { λ edits entries. Unit {0} };
 }
 
 // Holds a session with a share, and gives the share back with the reductions that were answered.
@@ -111,8 +111,8 @@ fn hold<K: SessionStart, N: WithBody<Six>, T: Wait, L: SessionLog<N>, R: Read, W
 ) -> (Share<N>, Vec<Claimed>, Result<(), Fault>)
     requires lent { share ≡ K.holding }
     requires most { most_listed place.keeps ≡ K.most }
-    requires log { (edits : List Edit) → L.has_recorded log.now edits → K.recorded edits }
-    ensures recorded { OnOk result.2 (K.recorded result.0.seen) }
+    requires log { (edits : List Edit) (entries : ℕ) → L.has_recorded log.now edits entries → K.recorded edits entries }
+    ensures recorded { OnOk result.2 ((entry : ℕ) × K.recorded result.0.seen entry) }
     ensures lines_served { LinesServed (TellsLine N.limits N.numbers N.lists) (session_at share []) (session_at result.0 result.1.items)
         (R.remaining reader.old) (R.remaining reader.new) (W.contents writer.old) (W.contents writer.new) result.2 }
     ensures parts { result.0.parts ≡ share.parts }
@@ -125,6 +125,7 @@ fn hold<K: SessionStart, N: WithBody<Six>, T: Wait, L: SessionLog<N>, R: Read, W
         log,
         share,
         answers: Vec::new(alloc),
+        entry: 0,
         of: PhantomData,
     };
     let ended = serve_lines(MOST_READ, alloc, &mut session, reader, writer);
@@ -139,32 +140,34 @@ struct Session<'a, N: WithBody<Six>, T: Wait, L: SessionLog<N>, K: SessionStart>
     log: &'a L,
     share: Share<N>,
     answers: Vec<Claimed>,
+    // Up to which entry the log has to have those of the hub before replies go out: where answers are kept, that is the last one that this session was given.
+    entry: u64,
     of: PhantomData<K>,
 }
 
 impl<'a, N: WithBody<Six>, T: Wait, L: SessionLog<N>, K: SessionStart> Model
     for Session<'a, N, T, L, K> {
-    ghost use Rattle.std.specs.Prelude.{◌≡◌, ◌≤◌, All, List, vec_len};
+    ghost use Rattle.std.specs.Prelude.{◌≡◌, ◌≤◌, ℕ, All, List, vec_len};
     ghost use Rattle.lv_edits.specs.declared.edit.Edit.{Edit};
     ghost use Rattle.lv_transcript.specs.Transcript.{IsTrueAnswer};
-    ghost use Rattle.lv_hub.specs.Session.{SessionState, most_listed, session_at};
+    ghost use Rattle.lv_hub.specs.Session.{HeldSession, most_listed, session_at};
 
-    ghost Value = { SessionState };
+    ghost Value = { HeldSession };
 
-    ghost view = { λ s. session_at s.share s.answers.items };
+    ghost view = { λ s. record { session = session_at s.share s.answers.items; entry = s.entry } };
 
-    ghost invariant = { λ s. (s.share.parts ≡ K.holding.parts) × (K.holding.count ≤ s.share.count) × All (IsTrueAnswer s.share.seen) s.answers.items × (most_listed s.place.keeps ≡ K.most) × (vec_len s.answers ≤ K.most) × ((edits : List Edit) → L.has_recorded s.log.now edits → K.recorded edits) };
+    ghost invariant = { λ s. (s.share.parts ≡ K.holding.parts) × (K.holding.count ≤ s.share.count) × All (IsTrueAnswer s.share.seen) s.answers.items × (most_listed s.place.keeps ≡ K.most) × (vec_len s.answers ≤ K.most) × ((edits : List Edit) (entries : ℕ) → L.has_recorded s.log.now edits entries → K.recorded edits entries) };
 }
 
 impl<'a, N: WithBody<Six>, T: Wait, L: SessionLog<N>, K: SessionStart, W: Write> LineHandler<W>
     for Session<'a, N, T, L, K> {
-    ghost State = { SessionState };
+    ghost State = { HeldSession };
 
     ghost state = { λ s. s };
 
-    ghost step = { TellsLine N.limits N.numbers N.lists };
+    ghost step = { λ old number line reply new. TellsLine N.limits N.numbers N.lists old.session number line reply new.session };
 
-    ghost may_send = { λ s. K.recorded s.seen };
+    ghost may_send = { λ s. K.recorded s.session.seen s.entry };
 
     fn handle(
         &mut self,
@@ -172,12 +175,13 @@ impl<'a, N: WithBody<Six>, T: Wait, L: SessionLog<N>, K: SessionStart, W: Write>
         line: &[u8],
         buffer: &mut ReplyBuffer<'_, W>,
     ) -> Result<(), Fault> {
-        make_room(&self.place, self.log, &self.share, buffer)?;
+        make_room(&self.place, self.log, &self.share, self.entry, buffer)?;
         answer_line(
             &self.place,
             self.log,
             &mut self.share,
             &mut self.answers,
+            &mut self.entry,
             number,
             read_line(line),
             buffer,
@@ -186,7 +190,8 @@ impl<'a, N: WithBody<Six>, T: Wait, L: SessionLog<N>, K: SessionStart, W: Write>
 
     // All that replies may tell is recorded before they go out.
     fn before_send(&self) -> Result<(), Fault> {
-        self.log.record(self.place.rt, self.place.hub, &self.share)
+        let (place, log) = (&self.place, self.log);
+        log.record(place.rt, place.hub, &self.share, self.entry)
     }
 }
 

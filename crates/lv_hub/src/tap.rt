@@ -1,5 +1,5 @@
 //! The tap of a desk: what has come since its log was written last.
-ghost use Rattle.std.specs.Prelude.{◌≡◌, ◌<◌, [], IsTrue, vec_capacity};
+ghost use Rattle.std.specs.Prelude.{◌≡◌, ◌+◌, ◌<◌, ◌^◌, [], IsTrue, vec_capacity};
 ghost use Rattle.lv_edits.specs.Kept.{CarriesElement};
 ghost use Rattle.lv_hub.specs.declared.log_entry.LogEntry.TheVariants as logged;
 ghost use Rattle.lv_hub.specs.Logging.{HasPlace, TapState, with_entry};
@@ -10,11 +10,12 @@ use std::marker::Model;
 use std::mem;
 
 /// Entries in the order of time, from an edit on, in a list whose room is fixed. Whoever writes the log takes them out, with no lock held
-/// while they are written.
+/// while they are written. All that ever came are counted, edits and answers: so the number of an entry says whether a log has it.
 #[derive(Drop)]
 pub(crate) struct Tap {
     from: u64,
     entries: Vec<LogEntry>,
+    given: u64,
 }
 
 impl Model for Tap {
@@ -23,30 +24,43 @@ impl Model for Tap {
 
     ghost Value = { TapState };
 
-    ghost view = { λ t. record { from = t.from; entries = t.entries.items; room = vec_capacity t.entries } };
+    ghost view = { λ t. record { from = t.from; entries = t.entries.items; room = vec_capacity t.entries; given = t.given } };
 }
 
-/// What was handed over for a log: the edits since the vector had so many, and after how many edits of the hub it was made anew last.
+/// What was handed over for a log: the edits since the vector had so many, after how many edits of the hub it was made anew last, and how many entries
+/// came in all, with those that are handed over.
 #[derive(Clone, Copy)]
 pub struct Came {
     pub from: u64,
     pub renewed: u64,
+    pub given: u64,
 }
 
 impl Tap {
-    // A tap from so many edits on, whose entries go into this list.
-    pub(crate) fn new(from: u64, entries: Vec<LogEntry>) -> Tap
+    // A tap from so many edits on, whose entries go into this list, after so many entries.
+    pub(crate) fn new(from: u64, given: u64, entries: Vec<LogEntry>) -> Tap
         requires { entries.items ≡ [] }
-        ensures { result ≡ record { from = from; entries = []; room = vec_capacity entries } }
+        ensures { result ≡ record { from = from; entries = []; room = vec_capacity entries; given = given } }
     {
-        Tap { from, entries }
+        Tap {
+            from,
+            entries,
+            given,
+        }
     }
 
-    // Whether there is room for one entry more.
+    // Whether there is room for one entry more, and a number.
     pub(crate) fn has_place(&self) -> bool
         ensures { IsTrue result → HasPlace self.now }
     {
-        self.entries.len() < self.entries.capacity()
+        self.given < u64::MAX && self.entries.len() < self.entries.capacity()
+    }
+
+    // How many entries came in all.
+    pub(crate) fn given(&self) -> u64
+        ensures { result ≡ self.now.given }
+    {
+        self.given
     }
 
     // Takes an edit up.
@@ -56,7 +70,7 @@ impl Tap {
         ensures element { CarriesElement edit }
     {
         tell_element(edit);
-        self.entries.push_reserved(LogEntry::Edit(edit));
+        self.take(LogEntry::Edit(edit));
     }
 
     // Takes an entry up.
@@ -64,6 +78,7 @@ impl Tap {
         requires { HasPlace self.old }
         ensures { self.new ≡ with_entry entry self.old }
     {
+        self.given += 1;
         self.entries.push_reserved(entry);
     }
 
@@ -73,7 +88,7 @@ impl Tap {
         requires { entries.old.items ≡ [] }
         ensures from { result ≡ self.old.from }
         ensures entries { entries.new.items ≡ self.old.entries }
-        ensures rest { self.new ≡ record { from = edits; entries = []; room = self.new.room } }
+        ensures rest { self.new ≡ record { from = edits; entries = []; room = self.new.room; given = self.old.given } }
     {
         mem::swap(&mut self.entries, entries);
         mem::replace(&mut self.from, edits)

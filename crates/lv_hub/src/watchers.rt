@@ -122,14 +122,14 @@ impl<N: WithBody<Six>, F: Write + Drop> Watcher<N, F> {
         }
     }
 
-    // Writes the lines of what its subscriber was told, once all is recorded that it has seen. If that fails, no line is written any more.
+    // Writes the lines of what its subscriber was told, once all edits are recorded that it has seen: it is told of no answers to others. If that fails, no line is written any more.
     fn tell<L: SessionLog<N>, R: Wait>(&mut self, rt: &R, hub: &Hub<Six, N>, log: &L, told: &Told)
         requires few { told.now.edit ≤ 2 ^ 62 }
-        ensures recorded { (self.new.notices.contents ≡ self.old.notices.contents) ⊎ L.has_recorded log.now self.old.subscriber.share.seen }
+        ensures recorded { (self.new.notices.contents ≡ self.old.notices.contents) ⊎ L.has_recorded log.now self.old.subscriber.share.seen 0 }
         ensures written { WritesMore (told_text N.numbers told.now) self.old.notices self.new.notices }
         ensures subscriber { self.new.subscriber ≡ self.old.subscriber }
     {
-        match log.record(rt, hub, self.subscriber.share()) {
+        match log.record(rt, hub, self.subscriber.share(), 0) {
             Ok(()) => self.notices.tell(self.numbers, told, true),
             Err(_) => self.notices.tell(self.numbers, told, false),
         }

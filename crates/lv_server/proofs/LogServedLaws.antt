@@ -1,5 +1,5 @@
 -- What was served from a log, once its hub is closed.
-use Rattle.std.proofs.Common.{◌≡◌, ℕ, suc, ℤ, ◌+◌, ◌≤◌, Bool, true, false, Option, Some, Result, Ok, Err, IfOk, IfSome, List, [], ◌∷◌, ◌++◌, All, drop, length, map, take, ap, ◌∙◌, subst, sym, refl, inl, inr, arith}
+use Rattle.std.proofs.Common.{◌≡◌, ℕ, suc, ℤ, ◌+◌, ◌≤◌, Bool, true, false, is_ok, Option, Some, Result, Ok, Err, IfOk, IfSome, List, [], ◌∷◌, ◌++◌, All, drop, length, map, take, ap, ◌∙◌, subst, sym, refl, inl, inr, arith}
 use Rattle.std.specs.Prelude.{if◌then◌else◌, nat_eq}
 use Rattle.std.specs.Io.KnownBytes.{Appends}
 use Rattle.std.proofs.KnownBytes.{Appends-trans}
@@ -28,7 +28,7 @@ use Rattle.lv_hub.specs.Session.{SessionState, kept_by}
 use Rattle.lv_hub.specs.Watched.{WatchState}
 use Rattle.lv_hub.specs.Watchers.{AllTellLast, AreLeft, LeftState}
 use Rattle.lv_hub.proofs.WatchedLaws.{watched_each}
-use Rattle.lv_server.specs.Closing.{ClosesLog}
+use Rattle.lv_server.specs.Closing.{ClosesLog, TellsOnceRecorded}
 use Rattle.lv_server.specs.PlainLogged.{HasAllEdits, LogBegunAnew, LogGoesOn, LogServed, served_limits}
 use Rattle.lv_server.specs.PlainServed.{AreHeldPlainly}
 use Rattle.lv_server.specs.Served.{Sides}
@@ -144,3 +144,12 @@ closes_log fresh contents log start limits numbers share more h edits left told 
 pub well_logged : {F : Type 0} (P : Type 0) (ended : Result (Unit {0}) Fault) (result : Result (Unit {0}) F) → IfOk result (λ done. ended ≡ Ok done) → IfOk ended (λ done. P) → IfOk result (λ done. P)
 well_logged P ended (Err failure) well holds = tt
 well_logged P ended (Ok done) well holds = subst (λ (r : Result (Unit {0}) Fault). IfOk r (λ done. P)) well holds
+
+-- ---- what subscribers tell last
+
+-- they tell it once the log's end is recorded, and else nothing
+pub tells_once : {V : Type 0} (fresh : Option (List ℕ)) (contents : V → Option (List ℕ)) (log : Option LogThere) (start : Option (List ℕ)) (limits : Bounds) (numbers : LogHeading) (edits : List Edit) (left : List LeftState) (told : List NoticesState) (file : Option V)
+    (ended : Result (Unit {0}) Fault) (is_recorded : Bool) → is_recorded ≡ is_ok ended → (is_recorded ≡ false → map (λ n. n.contents) told ≡ map (λ l. l.notices.contents) left)
+    → AllTellLast edits left told → IfSome file (λ file. EndsInFile fresh limits numbers log start (contents file) edits ended) → TellsOnceRecorded fresh contents log start limits numbers left told file
+tells_once fresh contents log start limits numbers edits left told file (Ok done) is_recorded same untold last ends = inr (edits, last, ends)
+tells_once fresh contents log start limits numbers edits left told file (Err fault) is_recorded same untold last ends = inl (untold same)

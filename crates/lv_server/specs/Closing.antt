@@ -1,5 +1,5 @@
 -- How the hub of a server that goes on from a log is closed.
-use Rattle.std.specs.Prelude.{◌≡◌, ℕ, Ok, Option, IfSome, List, length}
+use Rattle.std.specs.Prelude.{◌≡◌, ◌⊎◌, ℕ, Ok, Option, IfSome, List, length, map}
 use mathlib.Core.List.{IsPrefix}
 use Rattle.lv_geometry.specs.Bounds.{Bounds}
 use Rattle.lv_edits.specs.declared.edit.Edit.{Edit}
@@ -19,3 +19,9 @@ pub record ClosesLog {V : Type 0} (made : Option (List ℕ)) (contents : V → O
   pub counted : length edits ≡ share.count
   pub last : AllTellLast edits left told
   pub whole : IfSome file (λ file. EndsInFile made limits numbers log start (contents file) edits (Ok tt))
+
+-- subscribers that have ended wrote nothing more; or else they told the last of some edits, all of which the log's last file has, if there is one
+abbrev pub TellsOnceRecorded : {V : Type 0} → Option (List ℕ) → (V → Option (List ℕ)) → Option LogThere → Option (List ℕ) → Bounds → LogHeading → List LeftState → List NoticesState → Option V → Type 0
+TellsOnceRecorded made contents log start limits numbers left told file =
+    (map (λ n. n.contents) told ≡ map (λ l. l.notices.contents) left)
+    ⊎ ((edits : List Edit) × AllTellLast edits left told × IfSome file (λ file. EndsInFile made limits numbers log start (contents file) edits (Ok tt)))

@@ -4,7 +4,7 @@ ghost use Rattle.std.specs.Prelude.{◌≡◌, ◌+◌, ◌<◌, ◌≤◌, ◌^
 ghost use Rattle.lv_transcript.specs.Logs.{IsLogOfEdits, log_of_edits};
 ghost use Rattle.lv_hub.specs.Logging.{AreLasting};
 ghost use Rattle.lv_hub.specs.Session.{are_listed};
-ghost use Rattle.lv_server.specs.Closing.{ClosesLog};
+ghost use Rattle.lv_server.specs.Closing.{ClosesLog, TellsOnceRecorded};
 ghost use Rattle.lv_server.specs.PlainLogged.{LogServed, served_limits};
 
 use crate::clients::{Clients, Gathered};
@@ -159,7 +159,7 @@ fn lasting(limits: Limits) -> Option<Limits>
     if lasts(limits) { Some(limits) } else { None }
 }
 
-// Closes a hub, ends its log, and gives its last file back. Then subscribers that have ended tell the last. Takes no memory.
+// Closes a hub, ends its log, and gives its last file back. Then subscribers that have ended tell the last, unless the log's end failed. Takes no memory.
 fn close_log<N: WithBody<Six>, K: Begun, F: Write + Drop, V: LogWriter + Drop>(
     hub: Hub<Six, N>,
     share: Share<N>,
@@ -171,6 +171,8 @@ fn close_log<N: WithBody<Six>, K: Begun, F: Write + Drop, V: LogWriter + Drop>(
     requires room { vec_len leaving.left ≤ vec_capacity leaving.watched }
     ensures back { is_some result.0 ≡ is_some log }
     ensures closed { IfOk result.1 (λ done. ClosesLog V.made V.contents K.there K.start N.limits N.numbers share leaving.left.items (map (λ w. w.notices) result.2.items) result.0) }
+    // No last note goes out unless its edits are recorded.
+    ensures waits { TellsOnceRecorded V.made V.contents K.there K.start N.limits N.numbers leaving.left.items (map (λ w. w.notices) result.2.items) result.0 }
 {
     let share = shown(&log, share);
     let (mut live, edits) = hub.finish(share);

@@ -240,7 +240,7 @@ pub fn serve_all<
     let (held, watchers) = hold_all(&place, plan, log.as_ref(), tasks, watchers);
     let all = take_back(room, share, held)?;
     let left = leave_all(leaving, share, watchers);
-    Ok((all, unlocked(rt, hub, share, log), left))
+    Ok((all, unlocked(rt, hub, log), left))
 }
 
 // Makes the edits that a hub begins with. Its share has all parts. Memory that is wanting is the fault, `NoMemory`; an edit that is refused

@@ -247,7 +247,9 @@ fn hold<N: WithBody<Six>, K: Begun, F: Read + Write + Drop, V: LogWriter + Drop,
         Ok(answers) => task.ended = Some(Ok(Queue::new(answers))),
         Err(Fault::NoMemory) => {}
         Err(fault) => {
-            let error = if fault == Fault::WriteFault && log.record(rt, hub, &task.share).is_err() {
+            let error = if fault == Fault::WriteFault
+                && log.record(rt, hub, &task.share, 0).is_err()
+            {
                 ProgramError::new(fault, Reason::Transcript, 0)
             } else {
                 ProgramError::session(task.streams.number, fault)

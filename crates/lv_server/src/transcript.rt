@@ -10,6 +10,7 @@ ghost use Rattle.lv_transcript.specs.Logs.{MayGoOn, edits_there};
 ghost use Rattle.lv_hub.specs.Logging.{AreLasting, EndsInFile};
 ghost use Rattle.lv_hub.specs.Renewing.{IsOfOneVector};
 ghost use Rattle.lv_hub.specs.Watchers.{ClosesTelling};
+ghost use Rattle.lv_server.specs.Closing.{TellsOnceRecorded};
 ghost use Rattle.lv_server.specs.Starting.{Records};
 ghost use Rattle.lv_server.specs.Writing.{FailsToClose, Writes, WritesClosed};
 
@@ -60,12 +61,11 @@ pub fn begin_log<N: WithBody<Six>, K: Begun, V: LogWriter + Drop, R: Wait>(
 pub fn unlocked<N: WithBody<Six>, K: Begun, V: LogWriter + Drop, R: Wait>(
     rt: &R,
     hub: &Hub<Six, N>,
-    share: &Share<N>,
     log: Option<Mutex<OperationLog<N, V, K>>>,
 ) -> Option<OperationLog<N, V, K>>
     ensures { is_some result ≡ is_some log }
 {
-    let _ = log.as_ref().record(rt, hub, share);
+    let _ = log.as_ref().make_place(rt, hub);
     match log {
         Some(log) => Some(log.into_inner()),
         None => None,
@@ -73,7 +73,7 @@ pub fn unlocked<N: WithBody<Six>, K: Begun, V: LogWriter + Drop, R: Wait>(
 }
 
 /// Closes a hub and writes its transcript by what was made for it, ends its log, and gives its file back. Then subscribers that
-/// have ended tell the last. Takes no memory. The transcript's fault comes before that of the log. A call drops the vector, as one above drops the hub: the proof of a body
+/// have ended tell the last, unless the log's end failed. Takes no memory. The transcript's fault comes before that of the log. A call drops the vector, as one above drops the hub: the proof of a body
 /// that does so by itself is long.
 pub fn write_closed<N: WithBody<Six>, K: Begun, F: Write + Drop, V: LogWriter + Drop, W: Write>(
     hub: Hub<Six, N>,
@@ -97,6 +97,8 @@ pub fn write_closed<N: WithBody<Six>, K: Begun, F: Write + Drop, V: LogWriter + 
     ensures recorded { K.there ≡ None → IfOk result.1 (λ done. IfSome result.0 (λ file. Records K.start (V.contents file) (W.contents writer.old) (W.contents writer.new))) }
     // What subscribers tell last is of those edits too.
     ensures told { IfOk result.1 (λ done. ClosesTelling share leaving.left.items (map (λ w. w.notices) result.2.items) (W.contents writer.old) (W.contents writer.new)) }
+    // No last note goes out unless its edits are recorded.
+    ensures waits { TellsOnceRecorded V.made V.contents K.there K.start N.limits N.numbers leaving.left.items (map (λ w. w.notices) result.2.items) result.0 }
 {
     let share = shown(&log, share);
     let (mut live, edits) = hub.finish(share);

@@ -1,11 +1,11 @@
 -- Proof of `run_session`.
-use Rattle.std.proofs.Common.{◌≡◌, ◌≤◌, [], All, refl, rules, ap, sym, arith, vec_len}
+use Rattle.std.proofs.Common.{◌≡◌, ◌≤◌, ℕ, [], All, refl, rules, ap, sym, arith, vec_len}
 use Rattle.std.proofs.lemmas.List.Elements.{All-nil}
 use Rattle.std.proofs.lemmas.List.Sorted.{IsNonDecreasingBy-short}
 use Rattle.lv_transcript.specs.Transcript.{AreInOrder, IsTrueAnswer}
 use Rattle.lv_hub.specs.Session.{most_listed}
 use Rattle.lv_hub.proofs.PlainSessionLaws.{session_plain, session_said}
-use Rattle.lv_hub.proofs.SessionLaws.{lines_served_as, given_as}
+use Rattle.lv_hub.proofs.SessionLaws.{done_as, given_as, lines_served_as}
 use Rattle.lv_hub.proofs.TruthLaws.{lines_served_keeps}
 use Rattle.lv_hub.proofs.sessions.run_session.Goals as goal
 
@@ -28,6 +28,12 @@ unfolding returns-clause-lines_served
 returns-clause-plain g c =
     let lines_served = returns-clause-lines_served g c in
     session_plain g.N.Naming.limits g.N.Naming.numbers g.N.Naming.lists _ lines_served.0 _ _ _ _ _ lines_served.1
+
+-- all that replies tell is recorded
+pub returns-clause-recorded : goal.returns-clause-recorded
+returns-clause-recorded g c =
+    let sees : c.hold-back.result.0.seen ≡ c.back.inside.prefix = ap (λ h. h.seen) (sym c.back.view_is) in
+    rw (← sees) (done_as ((entry : ℕ) × g.L.SessionLog.has_recorded c.args.log.now c.hold-back.result.0.seen entry) c.hold-back.result.2 c.hold-back.result.1 c.listed.result c.listed.ensures c.hold-back.ensures.recorded)
 
 -- what the session's state keeps, its share does
 pub returns-clause-seen : goal.returns-clause-seen

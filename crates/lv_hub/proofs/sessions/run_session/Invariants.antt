@@ -3,4 +3,4 @@ use Rattle.lv_hub.specs.Session.{most_listed}
 use Rattle.lv_hub.proofs.sessions.run_session.Given as goal
 
 abbrev pub ghosts-hold : goal.ghosts-hold
-ghosts-hold g a = record { holding = a.share; most = most_listed a.place.keeps; recorded = λ edits. g.L.SessionLog.has_recorded a.log.now edits }
+ghosts-hold g a = record { holding = a.share; most = most_listed a.place.keeps; recorded = λ edits entries. g.L.SessionLog.has_recorded a.log.now edits entries }

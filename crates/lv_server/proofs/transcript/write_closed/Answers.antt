@@ -1,10 +1,12 @@
 -- Proof of `write_closed`: closes a hub and writes its transcript by what was made for it, ends its log, and gives its file back.
-use Rattle.std.proofs.Common.{◌≡◌, ◌∙◌, All, IfOk, IfSome, Option, ap, refl, subst, sym}
+use Rattle.std.proofs.Common.{◌≡◌, ◌∙◌, All, IfOk, IfSome, Option, ap, map, refl, subst, sym}
+use Rattle.std.proofs.lemmas.Simd.{map-map}
 use Rattle.lv_transcript.specs.Transcript.{AreAccepted, IsTrueAnswer, greatest}
 use Rattle.lv_transcript.specs.Logs.{LogThere}
 use Rattle.lv_hub.specs.Logging.{WroteWhole}
 use Rattle.lv_hub.proofs.TruthLaws.{all_true_of_more}
 use Rattle.lv_transcript.specs.Joined.{in_a_row}
+use Rattle.lv_server.proofs.LogServedLaws.{tells_once}
 use Rattle.lv_server.proofs.RecordingLaws.{records_so, whole_so}
 use Rattle.lv_server.proofs.ServedLaws.{begins, closed_more, closed_so, closes_ill, closes_well, if_some}
 use Rattle.lv_server.proofs.BesideLaws.{closes_telling}
@@ -67,3 +69,11 @@ returns-clause-told g c =
     let same : c.journal.result.now ≡ edits = c.journal.ensures ∙ ap (λ h. h.journal) (c.finish-live.ensures.closed.one c.requires.one) in
     closes_telling c.args.share c.shown-share.result.seen edits c.journal.result.now (in_a_row c.args.queues.now.items) c.args.leaving.left.items _ _ _ c.write_in_order-written.result c.first_failure.result
     same c.shown-share.ensures.more c.finish-live.ensures.seen (c.tell-watched.ensures.last edits (sym c.count.ensures.count) c.finish-live.ensures.closed.list) c.first_failure.ensures.well c.write_in_order-written.ensures
+
+-- no last note goes out unless its edits are recorded
+pub returns-clause-waits : goal.returns-clause-waits
+returns-clause-waits g c =
+    let watched = c.tell-watched.result.items in
+    tells_once g.V.LogWriter.made g.V.Write.contents g.K.Begun.there g.K.Begun.start g.N.Naming.limits g.N.Naming.numbers c.finish-live.result.1 c.args.leaving.left.items (map (λ w. w.notices) watched) c.end_log-file.result.0 c.end_log-file.result.1 c.is_ok.result
+    c.is_ok.ensures.value (λ so. map-map (λ n. n.contents) (λ w. w.notices) watched ∙ c.tell-watched.ensures.unrecorded so)
+    (c.tell-watched.ensures.last c.finish-live.result.1 (sym c.count.ensures.count) c.finish-live.ensures.closed.list) c.end_log-file.ensures.ends

@@ -24,10 +24,10 @@ returns-clause-came g c =
     let s = c.self.inside in
     let journal = s.live.history.journal in
     let entries = c.hand_over-from.new.entries.items in
-    came_after c.hand_over-from.result s.renewed c.came_from.result journal c.grown-grown.result entries c.came_from.ensures (c.self.invariant.1.journal ∙ ap (renewed_after s.renewed) (sym c.grown-grown.ensures.all))
+    came_after c.hand_over-from.result s.renewed c.given_to-given.result c.came_from.result journal c.grown-grown.result entries c.came_from.ensures (c.self.invariant.1.journal ∙ ap (renewed_after s.renewed) (sym c.grown-grown.ensures.all))
     (came_by s.tap journal entries c.hand_over-from.result c.hand_over-from.ensures.from c.hand_over-from.ensures.entries c.self.invariant.6)
 
 pub returns-clause-some : goal.returns-clause-some
 returns-clause-some g c =
     let s = c.self.inside in
-    renewed_before c.hand_over-from.result s.renewed c.came_from.result c.grown-grown.result c.came_from.ensures (omega (arith, c.self.invariant.1.some, ap length c.grown-grown.ensures.all))
+    renewed_before c.hand_over-from.result s.renewed c.given_to-given.result c.came_from.result c.grown-grown.result c.came_from.ensures (omega (arith, c.self.invariant.1.some, ap length c.grown-grown.ensures.all))

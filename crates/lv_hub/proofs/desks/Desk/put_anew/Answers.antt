@@ -27,7 +27,7 @@ invariant_of-self g c =
     (c.count-renewed.ensures.count ∙ ap length c.grown-grown.ensures.all) (c.greater-capacity.ensures ∙ ap (λ n. max n s.capacity) c.capacity.ensures) in
     let put = sym c.swap.ensures.x_after in
     let put_kinds = sym c.swap-2.ensures.x_after in
-    let none = taps_none (Some c.new.result) new.history.journal _ (c.from-edits.ensures ∙ c.edit.ensures) (c.new.ensures ∙ ap (λ room. record { from = c.from-edits.result; entries = []; room = room }) (sym (ap (λ t. t.room) c.new.ensures))) in (
+    let none = taps_none (Some c.new.result) new.history.journal _ (c.from-edits.ensures ∙ c.edit.ensures) (c.new.ensures ∙ ap (λ room. record { from = c.from-edits.result; entries = []; room = room; given = c.given_to-given.result }) (sym (ap (λ t. t.room) c.new.ensures)) ∙ ap (λ given. record { from = c.from-edits.result; entries = []; room = c.new.result.room; given = given }) (sym (ap (λ t. t.given) c.new.ensures))) in (
       ap length same ∙ c.self.invariant.0,
       subst (λ live. StandsFor limits c.count-renewed.result c.greater-capacity.result c.grown-grown.new.self live.history) put (subst (λ es. StandsFor limits c.count-renewed.result c.greater-capacity.result es new.history) (sym same) stands),
       c.self.invariant.2,

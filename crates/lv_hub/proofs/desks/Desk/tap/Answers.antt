@@ -12,5 +12,5 @@ invariant_of-self g c = (
   c.self.invariant.3,
   c.self.invariant.4,
   c.self.invariant.5,
-  taps_none (Some c.new.result) c.self.inside.live.history.journal _ (c.from-edits.ensures ∙ c.edit.ensures) (c.new.ensures ∙ ap (λ room. record { from = c.from-edits.result; entries = []; room = room }) (sym (ap (λ t. t.room) c.new.ensures))),
+  taps_none (Some c.new.result) c.self.inside.live.history.journal _ (c.from-edits.ensures ∙ c.edit.ensures) (c.new.ensures ∙ ap (λ room. record { from = c.from-edits.result; entries = []; room = room; given = c.given_to-given.result }) (sym (ap (λ t. t.room) c.new.ensures)) ∙ ap (λ given. record { from = c.from-edits.result; entries = []; room = c.new.result.room; given = given }) (sym (ap (λ t. t.given) c.new.ensures))),
 )

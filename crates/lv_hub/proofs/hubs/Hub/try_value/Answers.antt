@@ -10,10 +10,10 @@ returns-clause-told g c =
     let edits = c.deref_mut-2.result.now.edits in
     let seen : IsPrefix c.args.share.now.seen c.show.new.share.seen = search rules in
     let is : c.show.new.share.seen ≡ edits = search rules in
-    value_told g.N.Naming.limits edits _ _ c.args.kind c.args.lo c.args.hi c.value_logged.result c.value_logged.ensures.within seen is c.value_logged.ensures.ok c.value_logged.ensures.err
+    value_told g.N.Naming.limits edits _ _ c.args.kind c.args.lo c.args.hi c.value_logged-answer.result c.value_logged-answer.ensures.within seen is c.value_logged-answer.ensures.ok c.value_logged-answer.ensures.err
 
 pub returns-clause-number : goal.returns-clause-number
 returns-clause-number g c =
     let edits = c.deref_mut-2.result.now.edits in
     let is : c.show.new.share.seen ≡ edits = search rules in
-    value_number g.N.Naming.limits edits _ c.value_logged.result is c.value_logged.ensures.number
+    value_number g.N.Naming.limits edits _ c.value_logged-answer.result is c.value_logged-answer.ensures.number

@@ -1,5 +1,5 @@
 -- Proof of `Leaving::tell`: has each tell the last, in order, by the vector of the hub that was closed.
-use Rattle.std.proofs.Common.{◌∙◌, [], ◌∷◌, refl, ap, sym, subst, arith, length, map}
+use Rattle.std.proofs.Common.{◌∙◌, ◌++◌, [], ◌∷◌, refl, ap, ap₂, sym, subst, arith, length, map}
 use Rattle.std.proofs.lemmas.Iterator.Adapters.{YieldsList-from_vec}
 use Rattle.std.proofs.lemmas.Iterator.Consumers.{YieldsList-turn, YieldsList-end}
 use Rattle.std.proofs.lemmas.List.{length_push, map-append, map-id}
@@ -17,6 +17,7 @@ loop-one-init g c = (
   record { body = refl; history = refl; claimed = λ n. refl; kept = λ n. refl },
   omega (arith, ap length c.requires.none, c.args.self.watched.ok.0),
   refl,
+  λ so. ap (map (λ w. w.notices.contents)) c.requires.none,
 )
 
 pub loop-one-preserved : goal.loop-one-preserved
@@ -37,6 +38,8 @@ loop-one-preserved g c =
       },
       omega (arith, c.push_reserved.ensures.len, i.4, longer),
       c.push_reserved.ensures.capacity ∙ i.5,
+      λ so. ap (map (λ w. w.notices.contents)) c.push_reserved.ensures.items ∙ map-append (λ w. w.notices.contents) c.loop-one.watched.items (c.tell.result ∷ [])
+          ∙ ap₂ (λ told more. told ++ more ∷ []) (i.6 so) (c.tell.ensures.unrecorded so) ∙ sym (map-append (λ k. k.notices.contents) c.loop-one.yielded (c.in-Some.one ∷ [])),
     )
 
 pub tell-requires-clause-legal : goal.tell-requires-clause-legal
@@ -53,6 +56,13 @@ returns-clause-last g c =
     let gives = c.into_iter-one-iterator.ensures.into_iter_gives in
     let end = YieldsList-end (YieldsList-from_vec c.args.self.left.items gives.0 (gives.1 ∙ c.args.self.left.ok.0)) c.loop-one.yielded c.loop-one.one-iterator c.loop-one.yielded_by c.next.result c.next.new.self c.in-None.is c.next.ensures.steps in
     λ edits many alike. subst (λ ls. AllTellLast edits ls (map (λ w. w.notices) c.loop-one.watched.items)) (sym (map-id c.loop-one.yielded) ∙ end.0) (c.loop-one.invariant.2 edits many alike)
+
+-- where it isn't recorded, none has written anything
+pub returns-clause-unrecorded : goal.returns-clause-unrecorded
+returns-clause-unrecorded g c =
+    let gives = c.into_iter-one-iterator.ensures.into_iter_gives in
+    let end = YieldsList-end (YieldsList-from_vec c.args.self.left.items gives.0 (gives.1 ∙ c.args.self.left.ok.0)) c.loop-one.yielded c.loop-one.one-iterator c.loop-one.yielded_by c.next.result c.next.new.self c.in-None.is c.next.ensures.steps in
+    λ so. c.loop-one.invariant.6 so ∙ ap (map (λ k. k.notices.contents)) (sym (map-id c.loop-one.yielded) ∙ end.0)
 
 pub returns-clause-same : goal.returns-clause-same
 returns-clause-same g c = c.loop-one.invariant.3

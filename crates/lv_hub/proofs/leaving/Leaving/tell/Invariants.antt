@@ -1,5 +1,5 @@
 -- What the loop keeps in `Leaving::tell`: has each tell the last, in order, by the vector of the hub that was closed.
-use Rattle.std.proofs.Common.{◌≡◌, length, map, vec_capacity, vec_len}
+use Rattle.std.proofs.Common.{◌≡◌, false, length, map, vec_capacity, vec_len}
 use Rattle.lv_live.specs.State.{SameLive}
 use Rattle.lv_hub.proofs.WatchedLaws.{AllTellLastAt}
 use Rattle.lv_hub.proofs.leaving.Leaving.tell.Given as goal
@@ -11,4 +11,5 @@ invariant-loop-one g l =
     AllTellLastAt l.fn.live.history.journal l.fn.edit l.yielded (map (λ w. w.notices) l.watched.items) ×
     SameLive l.fn.live l.live ×
     (vec_len l.watched ≡ length l.yielded) ×
-    (vec_capacity l.watched ≡ vec_capacity l.fn.self.watched)
+    (vec_capacity l.watched ≡ vec_capacity l.fn.self.watched) ×
+    (l.fn.is_recorded ≡ false → map (λ w. w.notices.contents) l.watched.items ≡ map (λ k. k.notices.contents) l.yielded)

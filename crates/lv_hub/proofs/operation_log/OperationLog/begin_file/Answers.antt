@@ -13,14 +13,15 @@ pub invariant_of-self : goal.invariant_of-self
 invariant_of-self g c =
     let self = c.self.inside in
     let contents = g.W.Write.contents c.begin_anew.new.self in
-    let s : LogState = record { written = state_with contents self.transcript; seen = self.prefix } in
+    let s : LogState = record { written = state_with contents self.transcript; seen = self.prefix; taken = self.taken } in
     let may = subst (MayBeginAnew g.K.Begun.there) (sym c.self.view_is) c.requires.may in
     let begins = subst (λ (l : LogState). BeginsAnew g.N.Naming.limits g.N.Naming.numbers l.seen c.args.heading c.args.elements.now) (sym c.self.view_is) c.requires.begins in
     let anew =
-    in_file_anew g.W.LogWriter.made g.N.Naming.limits g.N.Naming.numbers g.K.Begun.there g.K.Begun.start self.is_log c.args.heading c.args.elements.now self.prefix contents self.transcript (c.self.invariant.1 ∙ may.behind) begins
+    in_file_anew g.W.LogWriter.made g.N.Naming.limits g.N.Naming.numbers g.K.Begun.there g.K.Begun.start self.is_log c.args.heading c.args.elements.now self.prefix self.taken contents self.transcript (c.self.invariant.1 ∙ may.behind) begins
     c.in-Ok.ensures.begun may.sent may.fine in (
-      subst (λ n. IsLogInFile g.W.LogWriter.made g.N.Naming.limits g.N.Naming.numbers g.K.Begun.there g.K.Begun.start n c.args.heading.elements self.is_log s) (sym c.count-self-inside.ensures.count) anew,
+      subst (λ n. IsLogInFile g.W.LogWriter.made g.N.Naming.limits g.N.Naming.numbers g.K.Begun.there g.K.Begun.start n c.args.heading.elements self.taken self.is_log s) (sym c.count-self-inside.ensures.count) anew,
       c.self.invariant.1,
       c.self.invariant.2,
       c.self.invariant.3,
+      c.self.invariant.4,
     )

@@ -1,4 +1,4 @@
--- Proof of `OperationLog::take_over`: takes what has come since out of the hub.
+-- Proof of `OperationLog::take_over`: takes what has come since out of the hub, and writes it.
 use Rattle.lv_transcript.specs.Transcribing.{state_with}
 use Rattle.lv_hub.specs.Logging.{LogState}
 use Rattle.lv_hub.proofs.LogLaws.{in_file_elements, in_file_some}
@@ -7,20 +7,21 @@ use Rattle.lv_hub.proofs.operation_log.OperationLog.take_over.Goals as goal
 pub next_of-next-requires-clause-some : goal.next_of-next-requires-clause-some
 next_of-next-requires-clause-some g c =
     let self = c.self.inside in
-    let s : LogState = record { written = state_with (g.W.Write.contents self.writer) self.transcript; seen = self.prefix } in
-    in_file_some g.W.LogWriter.made g.N.Naming.limits g.N.Naming.numbers g.K.Begun.there g.K.Begun.start self.renewed self.elements self.is_log s c.self.invariant.0
+    let s : LogState = record { written = state_with (g.W.Write.contents self.writer) self.transcript; seen = self.prefix; taken = self.taken } in
+    in_file_some g.W.LogWriter.made g.N.Naming.limits g.N.Naming.numbers g.K.Begun.there g.K.Begun.start self.renewed self.elements self.earlier self.is_log s c.self.invariant.0
 
 pub next_of-next-requires-clause-elements : goal.next_of-next-requires-clause-elements
 next_of-next-requires-clause-elements g c =
     let self = c.self.inside in
-    let s : LogState = record { written = state_with (g.W.Write.contents self.writer) self.transcript; seen = self.prefix } in
-    in_file_elements g.W.LogWriter.made g.N.Naming.limits g.N.Naming.numbers g.K.Begun.there g.K.Begun.start self.renewed self.elements self.is_log s c.self.invariant.0
+    let s : LogState = record { written = state_with (g.W.Write.contents self.writer) self.transcript; seen = self.prefix; taken = self.taken } in
+    in_file_elements g.W.LogWriter.made g.N.Naming.limits g.N.Naming.numbers g.K.Begun.there g.K.Begun.start self.renewed self.elements self.earlier self.is_log s c.self.invariant.0
 
 pub invariant_of-self-2 : goal.invariant_of-self-2
 invariant_of-self-2 g c =
     let self = c.self.inside in (
-      c.take-is_next.ensures.log g.W.LogWriter.made g.N.Naming.limits g.N.Naming.numbers g.K.Begun.there g.K.Begun.start self.renewed self.elements self.is_log c.next_of-next.ensures.renewed c.self.invariant.0,
+      c.take-is_next.ensures.log g.W.LogWriter.made g.N.Naming.limits g.N.Naming.numbers g.K.Begun.there g.K.Begun.start self.renewed self.elements self.earlier self.is_log c.next_of-next.ensures.renewed c.self.invariant.0,
       c.self.invariant.1,
       c.self.invariant.2,
       c.self.invariant.3,
+      c.take-is_next.ensures.sent c.self.invariant.4,
     )

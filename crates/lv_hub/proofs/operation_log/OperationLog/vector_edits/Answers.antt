@@ -7,11 +7,11 @@ use Rattle.lv_hub.proofs.operation_log.OperationLog.vector_edits.Goals as goal
 pub next_of-next-requires-clause-some : goal.next_of-next-requires-clause-some
 next_of-next-requires-clause-some g c =
     let self = c.self.inside in
-    let s : LogState = record { written = state_with (g.W.Write.contents self.writer) self.transcript; seen = self.prefix } in
-    in_file_some g.W.LogWriter.made g.N.Naming.limits g.N.Naming.numbers g.K.Begun.there g.K.Begun.start self.renewed self.elements self.is_log s c.self.invariant.0
+    let s : LogState = record { written = state_with (g.W.Write.contents self.writer) self.transcript; seen = self.prefix; taken = self.taken } in
+    in_file_some g.W.LogWriter.made g.N.Naming.limits g.N.Naming.numbers g.K.Begun.there g.K.Begun.start self.renewed self.elements self.earlier self.is_log s c.self.invariant.0
 
 pub next_of-next-requires-clause-elements : goal.next_of-next-requires-clause-elements
 next_of-next-requires-clause-elements g c =
     let self = c.self.inside in
-    let s : LogState = record { written = state_with (g.W.Write.contents self.writer) self.transcript; seen = self.prefix } in
-    in_file_elements g.W.LogWriter.made g.N.Naming.limits g.N.Naming.numbers g.K.Begun.there g.K.Begun.start self.renewed self.elements self.is_log s c.self.invariant.0
+    let s : LogState = record { written = state_with (g.W.Write.contents self.writer) self.transcript; seen = self.prefix; taken = self.taken } in
+    in_file_elements g.W.LogWriter.made g.N.Naming.limits g.N.Naming.numbers g.K.Begun.there g.K.Begun.start self.renewed self.elements self.earlier self.is_log s c.self.invariant.0

@@ -1,6 +1,6 @@
 -- Proof of `end_log`: closes a hub, and ends its log by all edits.
 use Rattle.std.proofs.Common.{◌++◌, ◌∙◌, append_assoc, ap, sym}
-use Rattle.hub_tests.proofs.renewed_vectors.end_log.Goals as goal
+use Rattle.hub_tests.proofs.common.end_log.Goals as goal
 
 -- what was recorded begins what the share has seen, and that all edits
 pub end-requires : goal.end-requires
