@@ -9,6 +9,10 @@ LIBDIR = $(PREFIX)/lib
 CC = cc
 LIB = build
 SO = $(LIB)
+# where an archive is put whose memory is an embedder's, and where the module for Redis is, with more flags for its compiler
+EMBED = $(LIB)/embed
+REDIS = $(LIB)
+REDIS_FLAGS =
 # what an embedder's program calls its malloc, realloc and free
 MALLOC =
 REALLOC =
@@ -35,7 +39,7 @@ from_here = $(shell lib="$(LIBDIR)"; if [ "$${lib#"$(PREFIX)/"}" != "$$lib" ]; t
 
 # one target after the other: two would prove the same crates
 .NOTPARALLEL:
-.PHONY: help try build run test prove check lib so embed test-c test-bindings docs dist install install-program install-lib whole-paths uninstall wrong plant soak bench bench-board bench-bindings bench-engines dashboard fmt clean
+.PHONY: help try build run test prove check lib so embed redis test-c test-bindings docs dist install install-program install-lib whole-paths uninstall wrong plant soak bench bench-board bench-bindings bench-engines dashboard fmt clean
 
 help: ## lists what can be made
 	@sed -n 's/^\([a-z-]*\):.*## \(.*\)/\1|\2/p' Makefile | awk -F '|' '{ printf "make %-15s %s\n", $$1, $$2 }'
@@ -91,8 +95,16 @@ $(SO)/liblivevec.so: $(LIB)/liblivevec.a bindings/exports.map bindings/c/threads
 
 embed: $(LIB)/liblivevec.a ## makes build/embed/liblivevec.a, whose memory comes from MALLOC=.. REALLOC=.. FREE=.., functions of yours
 	@[ -n "$(MALLOC)" ] && [ -n "$(REALLOC)" ] && [ -n "$(FREE)" ] || { echo "usage: make embed MALLOC=my_malloc REALLOC=my_realloc FREE=my_free" >&2; exit 2; }
-	@mkdir -p $(LIB)/embed
-	@objcopy --redefine-sym malloc=$(MALLOC) --redefine-sym realloc=$(REALLOC) --redefine-sym free=$(FREE) $(LIB)/liblivevec.a $(LIB)/embed/liblivevec.a
+	@mkdir -p $(EMBED)
+	@objcopy --redefine-sym malloc=$(MALLOC) --redefine-sym realloc=$(REALLOC) --redefine-sym free=$(FREE) $(LIB)/liblivevec.a $(EMBED)/liblivevec.a
+
+redis: $(REDIS)/livevec_redis.so ## makes build/livevec_redis.so, a module for redis-server; with UNPROVED=1 build/unproved/livevec_redis.so
+
+$(REDIS)/livevec_redis.so: $(LIB)/liblivevec.a $(wildcard bindings/redis/*.[ch] include/*.h)
+	@mkdir -p $(REDIS)
+	@$(MAKE) -s embed EMBED=$(REDIS)/redis MALLOC=livevec_redis_malloc REALLOC=livevec_redis_realloc FREE=livevec_redis_free
+	@$(CC) -std=c11 -O2 -g -Wall -Wextra -pedantic -fPIC -shared -fvisibility=hidden $(REDIS_FLAGS) -Iinclude bindings/redis/*.c -o $@ \
+		-Wl,--exclude-libs,ALL $(REDIS)/redis/liblivevec.a
 
 test-c: build/liblivevec.a ## tests the library for C, also under sanitizers and valgrind
 	@tools/timed test-c "tests the library for C, plainly, under sanitizers and under valgrind" "some 2 min" env CC="$(CC)" bindings/c/check

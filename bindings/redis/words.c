@@ -1,0 +1,127 @@
+/* The words of a command: numbers, times, kinds and windows. */
+#include "module.h"
+
+#include <limits.h>
+#include <string.h>
+#include <strings.h>
+
+static const char *const kind_names[KINDS] = {"sum", "min", "max", "best", "affine", "automaton", "count", "mean", "exactsum"};
+
+const char *kind_name(unsigned kind)
+{
+    return kind_names[kind];
+}
+
+bool is_word(const RedisModuleString *text, const char *word)
+{
+    size_t length;
+    const char *at = RedisModule_StringPtrLen(text, &length);
+    return length == strlen(word) && !strncasecmp(at, word, length);
+}
+
+bool took(words *words, const char *word)
+{
+    if (!words->left || !is_word(*words->next, word))
+        return false;
+    words->next++;
+    words->left--;
+    return true;
+}
+
+static bool syntax_error(words *words)
+{
+    RedisModule_ReplyWithError(words->ctx, "ERR syntax error");
+    return false;
+}
+
+bool no_more(words *words)
+{
+    return !words->left || syntax_error(words);
+}
+
+static bool take_above(words *words, int64_t least, int64_t *number)
+{
+    long long found;
+    if (!words->left)
+        return syntax_error(words);
+    if (RedisModule_StringToLongLong(*words->next, &found) != REDISMODULE_OK || found < least) {
+        RedisModule_ReplyWithError(words->ctx, "ERR value is not an integer or out of range");
+        return false;
+    }
+    words->next++;
+    words->left--;
+    *number = found;
+    return true;
+}
+
+bool take_number(words *words, int64_t *number)
+{
+    return take_above(words, INT64_MIN, number);
+}
+
+bool take_natural(words *words, int64_t *number)
+{
+    return take_above(words, 0, number);
+}
+
+bool take_time(words *words, int64_t *time)
+{
+    if (!took(words, "*"))
+        return take_number(words, time);
+    *time = RedisModule_Milliseconds();
+    return true;
+}
+
+bool take_kind(words *words, unsigned kinds, unsigned *kind)
+{
+    if (!words->left)
+        return syntax_error(words);
+    for (*kind = 0; *kind < kinds; ++*kind)
+        if (took(words, kind_names[*kind]))
+            return true;
+    refused(words->ctx, LIVEVEC_BAD_KIND);
+    return false;
+}
+
+static bool take_times(words *words, window *window)
+{
+    window->sort = BY_TIME;
+    window->lo = INT64_MIN;
+    window->hi = INT64_MAX;
+    if (!took(words, "-") && !take_number(words, &window->lo))
+        return false;
+    window->to_end = took(words, "+");
+    return window->to_end || take_number(words, &window->hi);
+}
+
+bool take_window(words *words, window *window)
+{
+    window->sort = WHOLE;
+    window->to_end = false;
+    if (took(words, "INDEX")) {
+        window->sort = BY_INDEX;
+        return take_natural(words, &window->lo) && take_natural(words, &window->hi);
+    }
+    if (took(words, "TIME"))
+        return take_times(words, window);
+    if (took(words, "LAST"))
+        window->sort = BY_LAST;
+    else if (took(words, "WITHIN"))
+        window->sort = BY_SPAN;
+    else {
+        took(words, "ALL");
+        return true;
+    }
+    return take_natural(words, &window->lo);
+}
+
+bool take_bounds(words *words, window *window)
+{
+    window->sort = words->left ? BY_INDEX : WHOLE;
+    return !words->left || (take_natural(words, &window->lo) && take_natural(words, &window->hi) && no_more(words));
+}
+
+list_sort sort_of(window window)
+{
+    return window.sort == BY_TIME || window.sort == BY_SPAN ? SAMPLES_ONLY : ANY_LIST;
+}
