@@ -83,6 +83,7 @@ class Server:
 
     def close(self):
         self.end(signal.SIGKILL)
+        self.said_last = self.said()
         if self.kept:
             self.kept.cleanup()
 

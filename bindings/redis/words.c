@@ -96,8 +96,7 @@ static bool take_times(words *words, window *window)
 
 bool take_window(words *words, window *window)
 {
-    window->sort = WHOLE;
-    window->to_end = false;
+    *window = (struct window){.sort = WHOLE};
     if (took(words, "INDEX")) {
         window->sort = BY_INDEX;
         return take_natural(words, &window->lo) && take_natural(words, &window->hi);
@@ -117,7 +116,7 @@ bool take_window(words *words, window *window)
 
 bool take_bounds(words *words, window *window)
 {
-    window->sort = words->left ? BY_INDEX : WHOLE;
+    *window = (struct window){.sort = words->left ? BY_INDEX : WHOLE};
     return !words->left || (take_natural(words, &window->lo) && take_natural(words, &window->hi) && no_more(words));
 }
 
