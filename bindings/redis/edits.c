@@ -14,8 +14,8 @@ static bool take_values(words *words, int64_t *values)
 static int push_values(RedisModuleCtx *ctx, RedisModuleString *name, const int64_t *values, size_t count)
 {
     opened opened;
-    if (!open_or_make(ctx, name, SERIES_ONLY, &opened))
-        return REDISMODULE_OK;
+    if (!open_key(ctx, name, SERIES_ONLY, TO_ADD, &opened))
+        return 0;
     livevec_series_pushed did = list_push(opened.list, values, count);
     if (did.refusal)
         return refused_at(&opened, did.refusal);
@@ -35,59 +35,57 @@ int push_command(RedisModuleCtx *ctx, RedisModuleString **v, int n)
         push_values(ctx, v[1], values, count);
     if (values != few)
         RedisModule_Free(values);
-    return REDISMODULE_OK;
+    return 0;
 }
 
-/* Ends an edit of a key that there was: its number, and a number that it tells. */
+/* The single edits of a key that there is, by their commands: how many numbers each takes, and what its reply tells. */
+static const struct edit {
+    const char *command, *event;
+    uint32_t what;
+    int indices;
+    bool has_value, tells_value;
+} edits[] = {
+    {"lv.set", "lv.set", LIVEVEC_WRITE, 1, true, true},
+    {"lv.pop", "lv.pop", LIVEVEC_POP, 0, false, true},
+    {"lv.swap", "lv.swap", LIVEVEC_SWAP, 2, false, true},
+    {"lv.truncate", "lv.truncate", LIVEVEC_TRUNCATE, 1, false, false},
+    {"index", "lv.expire", LIVEVEC_EXPIRE, 1, false, false},
+}, *const by_index = &edits[sizeof edits / sizeof *edits - 1];
+
+/* Replies with the edit number and a number that the edit tells. */
 static int edited(opened *opened, livevec_series_edited did, const char *event, bool tells_value)
 {
     if (did.refusal)
         return refused_at(opened, did.refusal);
     RedisModule_ReplicateVerbatim(opened->ctx);
     changed(opened, event);
-    return reply_pair(opened, did.edit, tells_value ? did.value : (int64_t)did.place);
+    RedisModule_ReplyWithArray(opened->ctx, 2);
+    RedisModule_ReplyWithLongLong(opened->ctx, (long long)did.edit);
+    return RedisModule_ReplyWithLongLong(opened->ctx, tells_value ? did.value : (long long)did.place);
 }
 
-static int edit(RedisModuleCtx *ctx, RedisModuleString *name, const char *event, livevec_edit_kind what, int64_t index, int64_t second, int64_t value)
+static int edit(words *words, RedisModuleString *name, const struct edit *it)
 {
     opened opened;
-    bool counts = what == LIVEVEC_TRUNCATE || what == LIVEVEC_EXPIRE;
-    if (!open_to_edit(ctx, name, what == LIVEVEC_SWAP ? SERIES_ONLY : ANY_LIST, &opened))
-        return REDISMODULE_OK;
-    return edited(&opened, list_edit(opened.list, what, (uint64_t)index, (uint64_t)second, value), event, !counts);
+    int64_t indices[2] = {0}, value = 0;
+    for (int i = 0; i < it->indices; i++)
+        if (!take_natural(words, &indices[i]))
+            return 0;
+    if (it->has_value && !take_number(words, &value))
+        return 0;
+    if (!open_key(words->ctx, name, it->what == LIVEVEC_SWAP ? SERIES_ONLY : ANY_LIST, TO_EDIT, &opened))
+        return 0;
+    return edited(&opened, list_edit(opened.list, it->what, (uint64_t)indices[0], (uint64_t)indices[1], value), it->event, it->tells_value);
 }
 
-int set_command(RedisModuleCtx *ctx, RedisModuleString **v, int n)
+/* LV.SET key index x, LV.POP key, LV.SWAP key i j and LV.TRUNCATE key n, told apart by the command's own word */
+int edit_command(RedisModuleCtx *ctx, RedisModuleString **v, int n)
 {
     words words = {ctx, v + 2, n - 2};
-    int64_t index, value;
-    if (!take_natural(&words, &index) || !take_number(&words, &value))
-        return REDISMODULE_OK;
-    return edit(ctx, v[1], "lv.set", LIVEVEC_WRITE, index, 0, value);
-}
-
-int pop_command(RedisModuleCtx *ctx, RedisModuleString **v, int n)
-{
-    (void)n;
-    return edit(ctx, v[1], "lv.pop", LIVEVEC_POP, 0, 0, 0);
-}
-
-int swap_command(RedisModuleCtx *ctx, RedisModuleString **v, int n)
-{
-    words words = {ctx, v + 2, n - 2};
-    int64_t first, second;
-    if (!take_natural(&words, &first) || !take_natural(&words, &second))
-        return REDISMODULE_OK;
-    return edit(ctx, v[1], "lv.swap", LIVEVEC_SWAP, first, second, 0);
-}
-
-int truncate_command(RedisModuleCtx *ctx, RedisModuleString **v, int n)
-{
-    words words = {ctx, v + 2, n - 2};
-    int64_t size;
-    if (!take_natural(&words, &size))
-        return REDISMODULE_OK;
-    return edit(ctx, v[1], "lv.truncate", LIVEVEC_TRUNCATE, size, 0, 0);
+    const struct edit *it = edits, *last = by_index;
+    while (it != last && !is_word(v[0], it->command))
+        it++;
+    return it == last ? failed(ctx, "ERR unknown command") : edit(&words, v[1], it);
 }
 
 /* LV.EXPIRE key INDEX i | BEFORE time */
@@ -95,16 +93,14 @@ int expire_command(RedisModuleCtx *ctx, RedisModuleString **v, int n)
 {
     words words = {ctx, v + 2, n - 2};
     opened opened;
-    int64_t at;
-    if (took(&words, "INDEX"))
-        return take_natural(&words, &at) ? edit(ctx, v[1], "lv.expire", LIVEVEC_EXPIRE, at, 0, 0) : REDISMODULE_OK;
-    if (!took(&words, "BEFORE")) {
-        words.left = 1;
-        no_more(&words);
-    } else if (take_number(&words, &at) && open_to_edit(ctx, v[1], SAMPLES_ONLY, &opened)) {
-        edited(&opened, list_expire_before(opened.list, at), "lv.expire", false);
-    }
-    return REDISMODULE_OK;
+    int64_t time;
+    if (took(&words, by_index->command))
+        return edit(&words, v[1], by_index);
+    if (!took(&words, "BEFORE"))
+        return failed(ctx, "ERR syntax error");
+    if (!take_number(&words, &time) || !open_key(ctx, v[1], SAMPLES_ONLY, TO_EDIT, &opened))
+        return 0;
+    return edited(&opened, list_expire_before(opened.list, time), "lv.expire", false);
 }
 
 /* LV.RETAIN key span: samples that are no longer among the last `span` of time go with the next LV.ADD. 0 keeps all. */
@@ -113,9 +109,9 @@ int retain_command(RedisModuleCtx *ctx, RedisModuleString **v, int n)
     words words = {ctx, v + 2, n - 2};
     opened opened;
     int64_t span;
-    if (!take_natural(&words, &span) || !open_or_make(ctx, v[1], SAMPLES_ONLY, &opened))
-        return REDISMODULE_OK;
-    list_retain(opened.list, (uint64_t)span);
+    if (!take_natural(&words, &span) || !open_key(ctx, v[1], SAMPLES_ONLY, TO_ADD, &opened))
+        return 0;
+    opened.list->retention = (uint64_t)span;
     RedisModule_ReplicateVerbatim(ctx);
     changed(&opened, "lv.retain");
     return RedisModule_ReplyWithSimpleString(ctx, "OK");
@@ -146,10 +142,10 @@ static int add_sample(RedisModuleCtx *ctx, const sample *sample)
 {
     opened opened;
     uint64_t first = (uint64_t)sample->first;
-    if (!open_or_make(ctx, sample->name, SAMPLES_ONLY, &opened))
-        return REDISMODULE_OK;
+    if (!open_key(ctx, sample->name, SAMPLES_ONLY, TO_ADD, &opened))
+        return 0;
     if (opened.is_new)
-        list_retain(opened.list, (uint64_t)sample->retention);
+        opened.list->retention = (uint64_t)sample->retention;
     added did = list_add(opened.list, sample->time, sample->value, sample->has_first ? &first : NULL);
     if (did.push.refusal)
         return refused_at(&opened, did.push.refusal);
@@ -164,21 +160,30 @@ int add_command(RedisModuleCtx *ctx, RedisModuleString **v, int n)
     words words = {ctx, v + 2, n - 2};
     sample sample = {.name = v[1], .is_verbatim = !is_word(v[2], "*")};
     if (!take_time(&words, &sample.time) || !take_number(&words, &sample.value))
-        return REDISMODULE_OK;
+        return 0;
     sample.has_first = took(&words, "FIRST");
     if ((sample.has_first && !take_natural(&words, &sample.first)) || !no_more(&words))
-        return REDISMODULE_OK;
+        return 0;
+    return add_sample(ctx, &sample);
+}
+
+/* TS.ADD key time|* x [RETENTION span]: the time is the reply. */
+int ts_add_command(RedisModuleCtx *ctx, RedisModuleString **v, int n)
+{
+    words words = {ctx, v + 2, n - 2};
+    sample sample = {.name = v[1], .replies_time = true};
+    if (!take_time(&words, &sample.time) || !take_number(&words, &sample.value))
+        return 0;
+    if ((took(&words, "RETENTION") && !take_natural(&words, &sample.retention)) || !no_more(&words))
+        return 0;
     return add_sample(ctx, &sample);
 }
 
 /* key time x [key time x ..]: each is added, or refused, by itself. */
 static int add_many(RedisModuleCtx *ctx, RedisModuleString **v, int n, bool replies_time)
 {
-    if (n % 3 != 1) {
-        words missing = {ctx, v, 1};
-        no_more(&missing);
-        return REDISMODULE_OK;
-    }
+    if (n % 3 != 1)
+        return failed(ctx, "ERR syntax error");
     RedisModule_ReplyWithArray(ctx, n / 3);
     for (int at = 1; at < n; at += 3) {
         words words = {ctx, v + at + 1, 2};
@@ -186,7 +191,7 @@ static int add_many(RedisModuleCtx *ctx, RedisModuleString **v, int n, bool repl
         if (take_time(&words, &sample.time) && take_number(&words, &sample.value))
             add_sample(ctx, &sample);
     }
-    return REDISMODULE_OK;
+    return 0;
 }
 
 int madd_command(RedisModuleCtx *ctx, RedisModuleString **v, int n)
@@ -197,16 +202,4 @@ int madd_command(RedisModuleCtx *ctx, RedisModuleString **v, int n)
 int ts_madd_command(RedisModuleCtx *ctx, RedisModuleString **v, int n)
 {
     return add_many(ctx, v, n, true);
-}
-
-/* TS.ADD key time|* x [RETENTION span]: the time is the reply. */
-int ts_add_command(RedisModuleCtx *ctx, RedisModuleString **v, int n)
-{
-    words words = {ctx, v + 2, n - 2};
-    sample sample = {.name = v[1], .replies_time = true};
-    if (!take_time(&words, &sample.time) || !take_number(&words, &sample.value))
-        return REDISMODULE_OK;
-    if ((took(&words, "RETENTION") && !take_natural(&words, &sample.retention)) || !no_more(&words))
-        return REDISMODULE_OK;
-    return add_sample(ctx, &sample);
 }

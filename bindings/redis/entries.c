@@ -16,36 +16,49 @@ typedef struct entries {
     bool has_most, as_text;
 } entries;
 
-static void reply_element(RedisModuleCtx *ctx, const entries *asked, int64_t value)
+static int too_many(opened *opened)
 {
-    answer one = {.count = 1, .values = {.sum = (uint64_t)value}};
-    char text[ANSWER_TEXT];
-    if (!asked->as_text) {
-        RedisModule_ReplyWithLongLong(ctx, value);
-        return;
-    }
-    answer_text(text, LIVEVEC_SUM, &one);
-    RedisModule_ReplyWithSimpleString(ctx, text);
+    failed(opened->ctx, "ERR more than 100000 entries for one reply: ask for less");
+    return closed(opened);
 }
 
-static void reply_elements(opened *opened, const entries *asked, livevec_window in)
+static void reply_one(RedisModuleCtx *ctx, unsigned kind, const answer *told, bool as_text)
+{
+    char text[ANSWER_TEXT];
+    if (told->refusal) {
+        refused(ctx, told->refusal);
+    } else if (as_text) {
+        answer_text(text, kind, told);
+        RedisModule_ReplyWithSimpleString(ctx, text);
+    } else {
+        reply_answer(ctx, kind, told);
+    }
+}
+
+static void reply_sample(RedisModuleCtx *ctx, int64_t time, int64_t value, bool as_text)
+{
+    answer told = {.values.sum = (uint64_t)value};
+    RedisModule_ReplyWithArray(ctx, 2);
+    RedisModule_ReplyWithLongLong(ctx, time);
+    reply_one(ctx, LIVEVEC_SUM, &told, as_text);
+}
+
+static int reply_elements(opened *opened, const entries *asked, livevec_window in)
 {
     int64_t times[PIECE], values[PIECE];
-    bool has_times = list_has_times(opened->list);
+    bool has_times = opened->list->has_times;
     RedisModule_ReplyWithArray(opened->ctx, (long)(in.hi - in.lo));
-    for (uint64_t at = in.lo; at < in.hi;) {
-        uint64_t length = list_read(opened->list, false, at, in.hi, values, PIECE).length;
+    for (uint64_t at = in.lo, length; at < in.hi; at += length) {
+        length = list_read(opened->list, at, in.hi, values, PIECE).length;
         if (has_times)
-            list_read(opened->list, true, at, in.hi, times, PIECE);
-        for (uint64_t i = 0; i < length; i++) {
-            if (has_times) {
-                RedisModule_ReplyWithArray(opened->ctx, 2);
-                RedisModule_ReplyWithLongLong(opened->ctx, times[i]);
-            }
-            reply_element(opened->ctx, asked, values[i]);
-        }
-        at += length;
+            list_times(opened->list, at, in.hi, times, PIECE);
+        for (uint64_t i = 0; i < length; i++)
+            if (has_times)
+                reply_sample(opened->ctx, times[i], values[i], asked->as_text);
+            else
+                RedisModule_ReplyWithLongLong(opened->ctx, values[i]);
     }
+    return closed(opened);
 }
 
 /* The samples from the index `at` on that are in one bucket: a bucket begins at a multiple of its span. */
@@ -68,21 +81,6 @@ static uint64_t buckets_in(list *list, livevec_window in, int64_t span)
     return count;
 }
 
-static void reply_bucket(opened *opened, const entries *asked, int64_t begin, const answer *told)
-{
-    char text[ANSWER_TEXT];
-    RedisModule_ReplyWithArray(opened->ctx, 2);
-    RedisModule_ReplyWithLongLong(opened->ctx, begin);
-    if (told->refusal) {
-        refused(opened->ctx, told->refusal);
-    } else if (asked->as_text) {
-        answer_text(text, asked->kind, told);
-        RedisModule_ReplyWithSimpleString(opened->ctx, text);
-    } else {
-        reply_answer(opened->ctx, asked->kind, told);
-    }
-}
-
 /* The first answer of all makes the trees that the others need, so that one without memory is refused before the reply begins. */
 static int reply_buckets(opened *opened, const entries *asked, livevec_window in)
 {
@@ -93,21 +91,22 @@ static int reply_buckets(opened *opened, const entries *asked, livevec_window in
     if (asked->has_most && count > (uint64_t)asked->most)
         count = (uint64_t)asked->most;
     if (count > MOST_ENTRIES)
-        return too_many_entries(opened);
+        return too_many(opened);
     RedisModule_ReplyWithArray(opened->ctx, (long)count);
     for (uint64_t i = 0; i < count; i++) {
         int64_t begin;
         livevec_window bucket = bucket_at(opened->list, at, in.hi, asked->span, &begin);
         bucket.edit = in.edit;
         answer told = list_answer(opened->list, asked->kind, bucket);
-        reply_bucket(opened, asked, begin, &told);
+        RedisModule_ReplyWithArray(opened->ctx, 2);
+        RedisModule_ReplyWithLongLong(opened->ctx, begin);
+        reply_one(opened->ctx, asked->kind, &told, asked->as_text);
         at = bucket.hi;
     }
-    close_key(opened);
-    return REDISMODULE_OK;
+    return closed(opened);
 }
 
-static int reply_entries(RedisModuleCtx *ctx, opened *opened, const entries *asked)
+static int reply_entries(opened *opened, const entries *asked)
 {
     livevec_window in = list_range(opened->list, asked->window);
     if (in.refusal)
@@ -117,20 +116,19 @@ static int reply_entries(RedisModuleCtx *ctx, opened *opened, const entries *ask
     if (asked->has_most && in.hi - in.lo > (uint64_t)asked->most)
         in.hi = in.lo + (uint64_t)asked->most;
     if (in.hi - in.lo > MOST_ENTRIES)
-        return too_many_entries(opened);
-    (void)ctx;
-    reply_elements(opened, asked, in);
-    close_key(opened);
-    return REDISMODULE_OK;
+        return too_many(opened);
+    return reply_elements(opened, asked, in);
 }
 
 static bool take_span(words *words, int64_t *span)
 {
-    if (!take_natural(words, span))
-        return false;
-    if (!*span)
-        RedisModule_ReplyWithError(words->ctx, "ERR value is not an integer or out of range");
-    return *span;
+    return take_natural(words, span) && (*span || failed(words->ctx, "ERR value is not an integer or out of range"));
+}
+
+static bool take_most(words *words, entries *asked)
+{
+    asked->has_most = took(words, "COUNT");
+    return !asked->has_most || take_natural(words, &asked->most);
 }
 
 /* LV.RANGE key window [COUNT n] [BUCKET span kind] */
@@ -140,15 +138,14 @@ int range_command(RedisModuleCtx *ctx, RedisModuleString **v, int n)
     entries asked = {.kind = LIVEVEC_SUM};
     opened opened;
     if (!take_window(&words, &asked.window))
-        return REDISMODULE_OK;
-    asked.has_most = took(&words, "COUNT");
-    if (asked.has_most && !take_natural(&words, &asked.most))
-        return REDISMODULE_OK;
+        return 0;
+    if (!take_most(&words, &asked))
+        return 0;
     if (took(&words, "BUCKET") && !(take_span(&words, &asked.span) && take_kind(&words, KINDS, &asked.kind)))
-        return REDISMODULE_OK;
-    if (!no_more(&words) || !open_to_read(ctx, v[1], asked.span ? SAMPLES_ONLY : sort_of(asked.window), &opened))
-        return REDISMODULE_OK;
-    return reply_entries(ctx, &opened, &asked);
+        return 0;
+    if (!no_more(&words) || !open_key(ctx, v[1], asked.span ? SAMPLES_ONLY : sort_of(asked.window), TO_READ, &opened))
+        return 0;
+    return reply_entries(&opened, &asked);
 }
 
 /* A piece of running values by one kind. */
@@ -182,16 +179,14 @@ static int reply_scan(opened *opened, unsigned kind, bool inclusive, livevec_win
     if (refusal)
         return refused_at(opened, refusal);
     RedisModule_ReplyWithArray(opened->ctx, (long)(in.hi - in.lo));
-    for (uint64_t at = in.lo; at < in.hi;) {
-        uint64_t length = list_scan(opened->list, kind, inclusive, in, at, &column, PIECE).length;
+    for (uint64_t at = in.lo, length; at < in.hi; at += length) {
+        length = list_scan(opened->list, kind, inclusive, in, at, &column, PIECE).length;
         for (uint64_t i = 0; i < length; i++) {
             answer told = {.count = at + i - in.lo + inclusive, .values = cell(&column, kind, i)};
             reply_answer(opened->ctx, kind, &told);
         }
-        at += length;
     }
-    close_key(opened);
-    return REDISMODULE_OK;
+    return closed(opened);
 }
 
 /* LV.SCAN key kind [EXCLUSIVE] window */
@@ -203,16 +198,11 @@ int scan_command(RedisModuleCtx *ctx, RedisModuleString **v, int n)
     opened opened;
     livevec_window in;
     if (!take_kind(&words, LIVEVEC_ALL_SIX, &kind))
-        return REDISMODULE_OK;
+        return 0;
     bool inclusive = !took(&words, "EXCLUSIVE");
     if (!take_window(&words, &window) || !no_more(&words) || !open_range(ctx, v[1], window, &opened, &in))
-        return REDISMODULE_OK;
-    return in.hi - in.lo > MOST_ENTRIES ? too_many_entries(&opened) : reply_scan(&opened, kind, inclusive, in);
-}
-
-static int no_such_series(RedisModuleCtx *ctx)
-{
-    return RedisModule_ReplyWithError(ctx, "ERR TSDB: the key does not exist");
+        return 0;
+    return in.hi - in.lo > MOST_ENTRIES ? too_many(&opened) : reply_scan(&opened, kind, inclusive, in);
 }
 
 /* Opens samples for the forms of RedisTimeSeries, which has an error for a key that there isn't. */
@@ -221,9 +211,7 @@ static bool open_samples(RedisModuleCtx *ctx, RedisModuleString *name, opened *o
     RedisModuleKey *key = RedisModule_OpenKey(ctx, name, REDISMODULE_READ);
     bool is_empty = RedisModule_KeyType(key) == REDISMODULE_KEYTYPE_EMPTY;
     RedisModule_CloseKey(key);
-    if (is_empty)
-        no_such_series(ctx);
-    return !is_empty && open_to_read(ctx, name, SAMPLES_ONLY, opened);
+    return is_empty ? failed(ctx, "ERR TSDB: the key does not exist") : open_key(ctx, name, SAMPLES_ONLY, TO_READ, opened);
 }
 
 /* TS.GET key: the last sample, or an empty array */
@@ -232,29 +220,26 @@ int ts_get_command(RedisModuleCtx *ctx, RedisModuleString **v, int n)
     opened opened;
     (void)n;
     if (!open_samples(ctx, v[1], &opened))
-        return REDISMODULE_OK;
+        return 0;
     livevec_window last = list_range(opened.list, (window){.sort = BY_LAST, .lo = 1});
-    RedisModule_ReplyWithArray(ctx, last.lo < last.hi ? 2 : 0);
-    if (last.lo < last.hi) {
-        livevec_sample sample = list_sample(opened.list, last.lo);
-        RedisModule_ReplyWithLongLong(ctx, sample.time);
-        reply_element(ctx, &(entries){.as_text = true}, sample.value);
-    }
-    close_key(&opened);
-    return REDISMODULE_OK;
+    livevec_sample sample = list_sample(opened.list, last.lo);
+    if (last.lo < last.hi)
+        reply_sample(ctx, sample.time, sample.value, true);
+    else
+        RedisModule_ReplyWithArray(ctx, 0);
+    return closed(&opened);
 }
 
 static bool take_aggregation(words *words, entries *asked)
 {
     static const char *const names[] = {"sum", "min", "max", "count", "avg"};
     static const unsigned kinds[] = {LIVEVEC_SUM, LIVEVEC_LEAST, LIVEVEC_GREATEST, KIND_COUNT, KIND_MEAN};
+    enum { NAMES = sizeof kinds / sizeof *kinds };
     unsigned i = 0;
-    while (i < sizeof kinds / sizeof *kinds && !took(words, names[i]))
+    while (i < NAMES && !took(words, names[i]))
         i++;
-    if (i == sizeof kinds / sizeof *kinds) {
-        RedisModule_ReplyWithError(words->ctx, "ERR TSDB: Unknown aggregation type");
-        return false;
-    }
+    if (i == NAMES)
+        return failed(words->ctx, "ERR TSDB: Unknown aggregation type");
     asked->kind = kinds[i];
     return take_span(words, &asked->span);
 }
@@ -266,15 +251,14 @@ int ts_range_command(RedisModuleCtx *ctx, RedisModuleString **v, int n)
     entries asked = {.as_text = true, .window = {.sort = BY_TIME, .lo = INT64_MIN, .hi = INT64_MAX}};
     opened opened;
     if (!took(&words, "-") && !take_number(&words, &asked.window.lo))
-        return REDISMODULE_OK;
+        return 0;
     if (!took(&words, "+") && !take_number(&words, &asked.window.hi))
-        return REDISMODULE_OK;
+        return 0;
     asked.window.to_end = asked.window.hi == INT64_MAX;
     asked.window.hi += !asked.window.to_end;
-    asked.has_most = took(&words, "COUNT");
-    if (asked.has_most && !take_natural(&words, &asked.most))
-        return REDISMODULE_OK;
+    if (!take_most(&words, &asked))
+        return 0;
     if ((took(&words, "AGGREGATION") && !take_aggregation(&words, &asked)) || !no_more(&words) || !open_samples(ctx, v[1], &opened))
-        return REDISMODULE_OK;
-    return reply_entries(ctx, &opened, &asked);
+        return 0;
+    return reply_entries(&opened, &asked);
 }

@@ -1,4 +1,4 @@
-/* Keys while a command is at them: opened, changed, told of to watchers, and closed; and the replies of answers and refusals. */
+/* Keys while a command is at them, notes to those who watch them, and replies. */
 #include "module.h"
 
 #include <stdio.h>
@@ -7,91 +7,64 @@
 __extension__ typedef __int128 wide;
 __extension__ typedef unsigned __int128 unsigned_wide;
 
-static bool is_of(list *list, list_sort sort)
-{
-    return sort == ANY_LIST || list_has_times(list) == (sort == SAMPLES_ONLY);
-}
-
-/* A key that there isn't has no list. */
-static bool open_key(RedisModuleCtx *ctx, RedisModuleString *name, list_sort sort, int mode, opened *opened)
-{
-    *opened = (struct opened){.ctx = ctx, .name = name, .key = RedisModule_OpenKey(ctx, name, mode)};
-    if (RedisModule_KeyType(opened->key) == REDISMODULE_KEYTYPE_EMPTY)
-        return true;
-    if (RedisModule_ModuleTypeGetType(opened->key) == list_type)
-        opened->list = RedisModule_ModuleTypeGetValue(opened->key);
-    if (opened->list && is_of(opened->list, sort))
-        return true;
-    RedisModule_ReplyWithError(ctx, REDISMODULE_ERRORMSG_WRONGTYPE);
-    RedisModule_CloseKey(opened->key);
-    return false;
-}
-
-/* Of a key that there isn't the reply is null. */
-bool open_to_read(RedisModuleCtx *ctx, RedisModuleString *name, list_sort sort, opened *opened)
-{
-    if (!open_key(ctx, name, sort, REDISMODULE_READ, opened))
-        return false;
-    if (opened->list)
-        return true;
-    RedisModule_ReplyWithNull(ctx);
-    RedisModule_CloseKey(opened->key);
-    return false;
-}
+/* An answer of kind `affine` has two numbers, and of `automaton` eight. */
+enum { STATES = 8 };
 
 /* Watches that are new or were loaded count as told what the list says before its next edit. */
 void arm(opened *opened)
 {
-    unsigned count;
-    list_watches(opened->list, &count);
-    if (count && !(RedisModule_GetContextFlags(opened->ctx) & REDISMODULE_CTX_FLAGS_LOADING))
+    if (opened->list->watched && !(RedisModule_GetContextFlags(opened->ctx) & REDISMODULE_CTX_FLAGS_LOADING))
         list_arm(opened->list);
 }
 
-bool open_to_edit(RedisModuleCtx *ctx, RedisModuleString *name, list_sort sort, opened *opened)
+/* What becomes of a key that there isn't. */
+static bool made(opened *opened, list_sort sort, purpose purpose)
 {
-    if (!open_key(ctx, name, sort, REDISMODULE_READ | REDISMODULE_WRITE, opened))
-        return false;
-    if (!opened->list) {
-        RedisModule_ReplyWithError(ctx, "ERR no such key");
-        RedisModule_CloseKey(opened->key);
-        return false;
-    }
-    arm(opened);
-    return true;
+    opened->is_new = purpose == TO_ADD;
+    opened->list = opened->is_new ? list_new(sort == SAMPLES_ONLY) : NULL;
+    if (opened->list)
+        return true;
+    if (opened->is_new)
+        refused(opened->ctx, LIVEVEC_NO_MEMORY);
+    else if (purpose == TO_EDIT)
+        failed(opened->ctx, "ERR no such key");
+    else
+        RedisModule_ReplyWithNull(opened->ctx);
+    return closed(opened);
 }
 
-bool open_or_make(RedisModuleCtx *ctx, RedisModuleString *name, list_sort sort, opened *opened)
+bool open_key(RedisModuleCtx *ctx, RedisModuleString *name, list_sort sort, purpose purpose, opened *opened)
 {
-    if (!open_key(ctx, name, sort, REDISMODULE_READ | REDISMODULE_WRITE, opened))
-        return false;
-    if (opened->list) {
-        arm(opened);
-        return true;
+    int mode = purpose == TO_READ ? REDISMODULE_READ : REDISMODULE_READ | REDISMODULE_WRITE;
+    *opened = (struct opened){.ctx = ctx, .name = name, .key = RedisModule_OpenKey(ctx, name, mode)};
+    if (RedisModule_KeyType(opened->key) == REDISMODULE_KEYTYPE_EMPTY)
+        return made(opened, sort, purpose);
+    if (RedisModule_ModuleTypeGetType(opened->key) == list_type)
+        opened->list = RedisModule_ModuleTypeGetValue(opened->key);
+    if (!opened->list || (sort != ANY_LIST && opened->list->has_times != (sort == SAMPLES_ONLY))) {
+        failed(ctx, REDISMODULE_ERRORMSG_WRONGTYPE);
+        return closed(opened);
     }
-    opened->list = list_new(sort == SAMPLES_ONLY);
-    opened->is_new = true;
-    if (!opened->list)
-        refused_at(opened, LIVEVEC_NO_MEMORY);
-    return opened->list;
+    if (purpose != TO_READ)
+        arm(opened);
+    return true;
 }
 
 /* Opens a key to read the elements of a window. */
 bool open_range(RedisModuleCtx *ctx, RedisModuleString *name, window window, opened *opened, livevec_window *range)
 {
-    if (!open_to_read(ctx, name, sort_of(window), opened))
+    if (!open_key(ctx, name, sort_of(window), TO_READ, opened))
         return false;
     *range = list_range(opened->list, window);
-    if (range->refusal)
-        refused_at(opened, range->refusal);
-    return !range->refusal;
+    return !range->refusal || refused_at(opened, range->refusal);
 }
 
-void close_key(opened *opened)
+int closed(opened *opened)
 {
     if (opened->is_new && opened->list)
         list_free(opened->list);
     RedisModule_CloseKey(opened->key);
+    return 0;
 }
 
 static void publish_note(opened *opened, RedisModuleString *channel, uint64_t edit, const livevec_note *note)
@@ -105,22 +78,16 @@ static void publish_note(opened *opened, RedisModuleString *channel, uint64_t ed
 }
 
 /* The nodes of a cluster pass on what one of them publishes, so there only the master of a key does. */
-static bool is_silent(int flags)
-{
-    return (flags & REDISMODULE_CTX_FLAGS_CLUSTER) && (flags & REDISMODULE_CTX_FLAGS_SLAVE);
-}
-
 static void publish_notes(opened *opened)
 {
     livevec_note notes[LIVEVEC_MOST_QUERIES];
     size_t length;
     int flags = RedisModule_GetContextFlags(opened->ctx);
-    if (flags & REDISMODULE_CTX_FLAGS_LOADING) {
-        list_disarm(opened->list);
+    opened->list->is_armed = !(flags & REDISMODULE_CTX_FLAGS_LOADING);
+    if (!opened->list->is_armed)
         return;
-    }
     livevec_series_noted noted = list_notes(opened->list, notes, LIVEVEC_MOST_QUERIES);
-    if (!noted.count || is_silent(flags))
+    if (!noted.count || ((flags & REDISMODULE_CTX_FLAGS_CLUSTER) && (flags & REDISMODULE_CTX_FLAGS_SLAVE)))
         return;
     const char *name = RedisModule_StringPtrLen(opened->name, &length);
     RedisModuleString *channel = RedisModule_CreateString(opened->ctx, "livevec:", strlen("livevec:"));
@@ -133,46 +100,36 @@ static void publish_notes(opened *opened)
 /* Ends a command that has changed its key, but for its reply. */
 void changed(opened *opened, const char *event)
 {
-    unsigned count;
     if (opened->is_new)
         RedisModule_ModuleTypeSetValue(opened->key, list_type, opened->list);
     opened->is_new = false;
     RedisModule_SignalModifiedKey(opened->ctx, opened->name);
     RedisModule_NotifyKeyspaceEvent(opened->ctx, REDISMODULE_NOTIFY_MODULE, event, opened->name);
-    list_watches(opened->list, &count);
-    if (count)
+    if (opened->list->watched)
         publish_notes(opened);
-    RedisModule_CloseKey(opened->key);
+    closed(opened);
+}
+
+/* Replies with an error, and answers 0: false, and what a command returns. */
+int failed(RedisModuleCtx *ctx, const char *error)
+{
+    RedisModule_ReplyWithError(ctx, error);
+    return 0;
 }
 
 int refused(RedisModuleCtx *ctx, uint32_t refusal)
 {
     char text[128];
     if (refusal == LIVEVEC_NO_MEMORY)
-        return RedisModule_ReplyWithError(ctx, "OOM out of memory: nothing was changed");
+        return failed(ctx, "OOM out of memory: nothing was changed");
     snprintf(text, sizeof text, "LV%u %s", refusal, refusal_text(refusal));
-    return RedisModule_ReplyWithError(ctx, text);
+    return failed(ctx, text);
 }
 
 int refused_at(opened *opened, uint32_t refusal)
 {
     refused(opened->ctx, refusal);
-    close_key(opened);
-    return REDISMODULE_OK;
-}
-
-int too_many_entries(opened *opened)
-{
-    RedisModule_ReplyWithError(opened->ctx, "ERR more than 100000 entries for one reply: ask for less");
-    close_key(opened);
-    return REDISMODULE_OK;
-}
-
-int reply_pair(opened *opened, uint64_t edit, int64_t second)
-{
-    RedisModule_ReplyWithArray(opened->ctx, 2);
-    RedisModule_ReplyWithLongLong(opened->ctx, (long long)edit);
-    return RedisModule_ReplyWithLongLong(opened->ctx, second);
+    return closed(opened);
 }
 
 static wide wide_of(uint64_t low, int64_t high)
@@ -180,18 +137,24 @@ static wide wide_of(uint64_t low, int64_t high)
     return (wide)((unsigned_wide)(uint64_t)high << 64 | low);
 }
 
-/* An answer that is one whole number, or none. */
-static bool is_number(unsigned kind, const answer *answer, wide *number)
+/* The whole numbers that an answer has: one, or those of a map or of states, or none. */
+static int numbers_of(unsigned kind, const answer *answer, wide numbers[STATES])
 {
+    const livevec_values *values = &answer->values;
     switch (kind) {
-    case LIVEVEC_SUM: *number = (int64_t)answer->values.sum; return true;
-    case LIVEVEC_LEAST: *number = answer->values.least; return answer->count;
-    case LIVEVEC_GREATEST: *number = answer->values.greatest; return answer->count;
-    case LIVEVEC_BEST: *number = wide_of(answer->values.best_low, answer->values.best_high); return answer->count;
-    case KIND_COUNT: *number = answer->count; return true;
-    case KIND_EXACT_SUM: *number = wide_of(answer->exact.low, answer->exact.high); return true;
-    default: return false;
+    case LIVEVEC_SUM: numbers[0] = (int64_t)values->sum; return 1;
+    case LIVEVEC_LEAST: numbers[0] = values->least; return answer->count != 0;
+    case LIVEVEC_GREATEST: numbers[0] = values->greatest; return answer->count != 0;
+    case LIVEVEC_BEST: numbers[0] = wide_of(values->best_low, values->best_high); return answer->count != 0;
+    case LIVEVEC_AFFINE: numbers[0] = values->affine_a; numbers[1] = values->affine_b; return 2;
+    case KIND_COUNT: numbers[0] = answer->count; return 1;
+    case KIND_EXACT_SUM: numbers[0] = wide_of(answer->exact.low, answer->exact.high); return 1;
+    case LIVEVEC_AUTOMATON: break;
+    default: return 0;
     }
+    for (int state = 0; state < STATES; state++)
+        numbers[state] = values->automaton[state];
+    return STATES;
 }
 
 /* The mean to the nearest double or a neighbour of it. */
@@ -206,59 +169,50 @@ static int number_text(char *text, wide number)
     char digits[ANSWER_TEXT];
     unsigned_wide rest = number < 0 ? -(unsigned_wide)number : (unsigned_wide)number;
     int at = ANSWER_TEXT;
+    digits[--at] = '\0';
     do
         digits[--at] = (char)('0' + (int)(rest % 10));
     while (rest /= 10);
     if (number < 0)
         digits[--at] = '-';
     memcpy(text, digits + at, (size_t)(ANSWER_TEXT - at));
-    text[ANSWER_TEXT - at] = '\0';
-    return ANSWER_TEXT - at;
+    return ANSWER_TEXT - at - 1;
 }
 
-int answer_text(char *text, unsigned kind, const answer *answer)
+void answer_text(char *text, unsigned kind, const answer *answer)
 {
-    const livevec_values *values = &answer->values;
-    wide number;
-    if (is_number(kind, answer, &number))
-        return number_text(text, number);
-    if (kind == LIVEVEC_AFFINE)
-        return snprintf(text, ANSWER_TEXT, "%u %u", values->affine_a, values->affine_b);
+    wide numbers[STATES];
+    int count = numbers_of(kind, answer, numbers), length = 0;
     if (kind == KIND_MEAN && answer->count)
-        return snprintf(text, ANSWER_TEXT, "%.17g", mean_of(answer));
-    if (kind != LIVEVEC_AUTOMATON)
-        return snprintf(text, ANSWER_TEXT, "none");
-    int length = 0;
-    for (int state = 0; state < 8; state++)
-        length += snprintf(text + length, (size_t)(ANSWER_TEXT - length), state ? " %u" : "%u", values->automaton[state]);
-    return length;
+        snprintf(text, ANSWER_TEXT, "%.17g", mean_of(answer));
+    else if (!count)
+        memcpy(text, "none", sizeof "none");
+    for (int i = 0; i < count; i++) {
+        if (i)
+            text[length++] = ' ';
+        length += number_text(text + length, numbers[i]);
+    }
 }
 
-static void reply_states(RedisModuleCtx *ctx, const livevec_values *values)
+static void reply_number(RedisModuleCtx *ctx, wide number)
 {
-    RedisModule_ReplyWithArray(ctx, 8);
-    for (int state = 0; state < 8; state++)
-        RedisModule_ReplyWithLongLong(ctx, values->automaton[state]);
+    char text[ANSWER_TEXT];
+    if (number == (int64_t)number)
+        RedisModule_ReplyWithLongLong(ctx, (int64_t)number);
+    else
+        RedisModule_ReplyWithStringBuffer(ctx, text, (size_t)number_text(text, number));
 }
 
 void reply_answer(RedisModuleCtx *ctx, unsigned kind, const answer *answer)
 {
-    char text[ANSWER_TEXT];
-    wide number;
-    if (is_number(kind, answer, &number)) {
-        if (number == (int64_t)number)
-            RedisModule_ReplyWithLongLong(ctx, (int64_t)number);
-        else
-            RedisModule_ReplyWithStringBuffer(ctx, text, (size_t)number_text(text, number));
-    } else if (kind == LIVEVEC_AFFINE) {
-        RedisModule_ReplyWithArray(ctx, 2);
-        RedisModule_ReplyWithLongLong(ctx, answer->values.affine_a);
-        RedisModule_ReplyWithLongLong(ctx, answer->values.affine_b);
-    } else if (kind == LIVEVEC_AUTOMATON) {
-        reply_states(ctx, &answer->values);
-    } else if (kind == KIND_MEAN && answer->count) {
+    wide numbers[STATES];
+    int count = numbers_of(kind, answer, numbers);
+    if (kind == KIND_MEAN && answer->count)
         RedisModule_ReplyWithDouble(ctx, mean_of(answer));
-    } else {
+    else if (!count)
         RedisModule_ReplyWithNull(ctx);
-    }
+    if (count > 1)
+        RedisModule_ReplyWithArray(ctx, count);
+    for (int i = 0; i < count; i++)
+        reply_number(ctx, numbers[i]);
 }

@@ -1,11 +1,9 @@
-/* The value of a key: a series, or samples, with a retention and watches. All calls of livevec's C library are in lists.c, and what they answer is
- * what the library's functions answer. What a range is, which elements it has and why a call is refused, the library decides. */
+/* The value of a key: a series, or samples, with a retention and watches. The module calls livevec's C library in this header and in lists.c only, and
+ * what the library's functions answer is passed on. What a range is, which elements it has and why a call is refused, the library decides. */
 #ifndef LIVEVEC_REDIS_LISTS_H
 #define LIVEVEC_REDIS_LISTS_H
 
 #include <livevec.h>
-
-typedef struct list list;
 
 /* Kinds that a key is asked by: the six of the library, and three that follow from a count and an exact sum. */
 enum { KIND_COUNT = LIVEVEC_ALL_SIX, KIND_MEAN, KIND_EXACT_SUM, KINDS };
@@ -25,13 +23,6 @@ typedef struct answer {
     livevec_total exact;
 } answer;
 
-/* What a key tells of itself. */
-typedef struct described {
-    bool has_times;
-    uint64_t first, size, edits, retention;
-    unsigned watches;
-} described;
-
 /* A named query whose answers are published. */
 typedef struct watch {
     char name[LIVEVEC_NAME_BYTES + 1];
@@ -45,22 +36,25 @@ typedef struct added {
     uint64_t first;
 } added;
 
-const char *library_version(void);
-const char *refusal_text(uint32_t refusal);
+typedef struct list {
+    livevec_samples held;  /* a series is held at `held.values` */
+    livevec_queries asked; /* empty while nothing is watched */
+    watch *watches;
+    size_t bytes; /* what the library and the watches have in memory */
+    uint64_t retention;
+    uint8_t watched;
+    bool has_times, is_armed;
+} list;
 
-/* A new list, or null where there is no memory for one. */
+/* The handles. Whose bytes the calls at them take and give is noted with that. */
+livevec_samples *samples_of(list *list);
+static inline livevec_series *series_of(list *list) { return &samples_of(list)->values; }
+
+/* A new list, or one that is to be loaded; null where there is no memory for it. */
 list *list_new(bool has_times);
+list *list_for_loading(bool has_times);
+uint32_t list_loaded(list *list);
 void list_free(list *list);
-
-/* All bytes that the list has in memory. */
-size_t list_bytes(const list *list);
-described list_described(list *list);
-bool list_has_times(const list *list);
-void list_retain(list *list, uint64_t span);
-
-livevec_series_pushed list_push(list *list, const int64_t *values, size_t count);
-livevec_series_edited list_edit(list *list, uint32_t edit, uint64_t index, uint64_t second, int64_t value);
-livevec_series_edited list_expire_before(list *list, int64_t time);
 
 /* Puts a sample behind the last one. Then it drops those before the index `first`, if that is given, else those that the retention doesn't keep. */
 added list_add(list *list, int64_t time, int64_t value, const uint64_t *first);
@@ -68,35 +62,50 @@ added list_add(list *list, int64_t time, int64_t value, const uint64_t *first);
 /* The indices of a window. A window of time is for samples only. */
 livevec_window list_range(list *list, window window);
 
-/* The samples of a range from the index `at` on whose times are below `until`, all but the first of which is only looked for. */
+/* The samples of a range from the index `at` on whose times are below `until`. */
 livevec_window list_bucket(list *list, uint64_t at, int64_t until, uint64_t hi);
 answer list_answer(list *list, unsigned kind, livevec_window in);
-livevec_series_found list_find(list *list, uint32_t wanted, livevec_window in, int64_t x);
-livevec_sample list_sample(list *list, uint64_t index);
-livevec_series_scanned list_read(list *list, bool times, uint64_t lo, uint64_t hi, int64_t *buffer, size_t length);
-uint32_t list_prepare(list *list, unsigned kind);
-livevec_series_scanned list_scan(list *list, unsigned kind, bool inclusive, livevec_window in, uint64_t at, void *column, size_t length);
 
-/* The summary of the elements of a range, in O(length); and the summary of several, one behind the other. */
+/* The summary of the elements of a range, in O(length); and of those of a summary and of one that is bytes. */
 livevec_summarised list_summary(list *list, livevec_window in);
-livevec_summarised summary_empty(void);
 livevec_summarised summary_join(const livevec_summary *left, const char *bytes, size_t length);
-livevec_opened summary_values(const livevec_summary *summary);
 
 /* Watches. `list_watched` is the answer of one now. `list_arm` has each counted as told its present answer, if one is new or was loaded. */
 uint32_t list_watch(list *list, const char *name, size_t length, const livevec_query *query);
-answer list_watched(list *list, const char *name, size_t length);
 uint32_t list_unwatch(list *list, const char *name, size_t length);
-const watch *list_watches(const list *list, unsigned *count);
-void list_disarm(list *list);
+answer list_watched(list *list, const char *name, size_t length);
 void list_arm(list *list);
-livevec_series_noted list_notes(list *list, livevec_note *notes, size_t room);
 
-/* The elements, with indices and edit numbers, as bytes in pieces, and back in three steps into a list of `list_for_loading`. */
-uint64_t list_saved_length(list *list);
-livevec_series_scanned list_save(list *list, uint64_t from, uint8_t *buffer, size_t length);
-list *list_for_loading(bool has_times);
-uint32_t list_load(list *list, const uint8_t *bytes, size_t length);
-uint32_t list_loaded(list *list);
+/* What else the module calls of the library, by names of its own. */
+static inline livevec_series_pushed list_push(list *it, const int64_t *values, size_t count)
+{ return livevec_series_push_many(series_of(it), values, count); }
+static inline livevec_series_edited list_edit(list *it, uint32_t edit, uint64_t index, uint64_t second, int64_t value)
+{ return livevec_series_make_edit(series_of(it), edit, index, second, value); }
+static inline livevec_series_edited list_expire_before(list *it, int64_t time)
+{ return livevec_samples_expire_before(samples_of(it), time); }
+static inline size_t list_bytes(const list *it) { return it->bytes + sizeof *it; }
+static inline uint64_t list_first(list *it) { return livevec_series_first(series_of(it)).value; }
+static inline uint64_t list_size(list *it) { return livevec_series_size(series_of(it)).value; }
+static inline uint64_t list_edits(list *it) { return livevec_series_edits(series_of(it)).value; }
+static inline livevec_series_found list_find(list *it, uint32_t wanted, livevec_window in, int64_t x)
+{ return livevec_series_find(series_of(it), wanted, in.lo, in.hi, x); }
+static inline livevec_sample list_sample(list *it, uint64_t index) { return livevec_samples_get(samples_of(it), index); }
+static inline livevec_series_scanned list_read(list *it, uint64_t lo, uint64_t hi, int64_t *buffer, size_t length)
+{ return livevec_series_read(series_of(it), lo, hi, buffer, length); }
+static inline livevec_series_scanned list_times(list *it, uint64_t lo, uint64_t hi, int64_t *buffer, size_t length)
+{ return livevec_samples_times(samples_of(it), lo, hi, buffer, length); }
+static inline uint32_t list_prepare(list *it, unsigned kind) { return livevec_series_prepare(series_of(it), kind); }
+static inline livevec_series_scanned list_scan(list *it, unsigned kind, bool with, livevec_window in, uint64_t at, void *column, size_t length)
+{ return livevec_series_scan(series_of(it), kind, with, in.lo, at, in.hi, column, length); }
+static inline livevec_series_noted list_notes(list *it, livevec_note *notes, size_t room)
+{ return livevec_series_notes(&it->asked, series_of(it), notes, room); }
+static inline uint64_t list_saved_length(list *it) { return livevec_series_saved_length(series_of(it)).value; }
+static inline livevec_series_scanned list_save(list *it, uint64_t from, uint8_t *buffer, size_t length)
+{ return livevec_series_save(series_of(it), from, buffer, length); }
+static inline uint32_t list_load(list *it, const uint8_t *bytes, size_t length) { return livevec_series_load(series_of(it), bytes, length); }
+static inline livevec_summarised summary_empty(void) { return livevec_summary_empty(); }
+static inline livevec_opened summary_values(const livevec_summary *summary) { return livevec_summary_values(summary); }
+static inline const char *library_version(void) { return livevec_version(); }
+static inline const char *refusal_text(uint32_t refusal) { return livevec_refusal_text(refusal); }
 
 #endif

@@ -5,11 +5,8 @@
 #include "lists.h"
 #include "redis_interface.h"
 
-/* How many entries a reply of LV.RANGE, LV.SCAN or TS.RANGE has at most. */
-enum { MOST_ENTRIES = 100000 };
-
-/* Room for the longest answer in digits, an automaton's eight states or 128 bits with a sign, and a zero. */
-enum { ANSWER_TEXT = 48 };
+/* How many entries a reply of LV.RANGE, LV.SCAN or TS.RANGE has at most; room for the longest answer as a text. */
+enum { MOST_ENTRIES = 100000, ANSWER_TEXT = 48 };
 
 /* The words of a command that are not taken yet. Where a word can't be taken, an error is the reply, and the answer is false. */
 typedef struct words {
@@ -18,7 +15,11 @@ typedef struct words {
     int left;
 } words;
 
-/* A key while a command is at it. A list that was made for the key is put there by `changed` only. */
+/* Which keys a command takes, and what becomes of one that there isn't: the reply is null, or an error, or a list is made for it. */
+typedef enum { ANY_LIST, SERIES_ONLY, SAMPLES_ONLY } list_sort;
+typedef enum { TO_READ, TO_EDIT, TO_ADD } purpose;
+
+/* A key while a command is at it. A list that was made for it is put there by `changed` only. */
 typedef struct opened {
     RedisModuleCtx *ctx;
     RedisModuleString *name;
@@ -27,43 +28,37 @@ typedef struct opened {
     bool is_new;
 } opened;
 
-typedef enum { ANY_LIST, SERIES_ONLY, SAMPLES_ONLY } list_sort;
-
 extern RedisModuleType *list_type;
+extern RedisModuleTypeMethods list_methods;
 
+bool is_word(const RedisModuleString *text, const char *word);
+bool took(words *words, const char *word);
+bool no_more(words *words);
 bool take_number(words *words, int64_t *number);
 bool take_natural(words *words, int64_t *number);
 bool take_time(words *words, int64_t *time);
 bool take_kind(words *words, unsigned kinds, unsigned *kind);
 bool take_window(words *words, window *window);
 bool take_bounds(words *words, window *window);
-bool took(words *words, const char *word);
-bool is_word(const RedisModuleString *text, const char *word);
-bool no_more(words *words);
 list_sort sort_of(window window);
-
-bool open_to_read(RedisModuleCtx *ctx, RedisModuleString *name, list_sort sort, opened *opened);
-bool open_to_edit(RedisModuleCtx *ctx, RedisModuleString *name, list_sort sort, opened *opened);
-bool open_or_make(RedisModuleCtx *ctx, RedisModuleString *name, list_sort sort, opened *opened);
-bool open_range(RedisModuleCtx *ctx, RedisModuleString *name, window window, opened *opened, livevec_window *range);
-bool found_nothing(const opened *opened);
-void arm(opened *opened);
-void close_key(opened *opened);
-void changed(opened *opened, const char *event);
-
-int refused(RedisModuleCtx *ctx, uint32_t refusal);
-int refused_at(opened *opened, uint32_t refusal);
-int too_many_entries(opened *opened);
-int reply_pair(opened *opened, uint64_t edit, int64_t second);
-void reply_answer(RedisModuleCtx *ctx, unsigned kind, const answer *answer);
-int answer_text(char *text, unsigned kind, const answer *answer);
 const char *kind_name(unsigned kind);
 
-extern RedisModuleTypeMethods list_methods;
+/* Where a key can't be opened, the reply is given, and the answer is false. */
+bool open_key(RedisModuleCtx *ctx, RedisModuleString *name, list_sort sort, purpose purpose, opened *opened);
+bool open_range(RedisModuleCtx *ctx, RedisModuleString *name, window window, opened *opened, livevec_window *range);
+void arm(opened *opened);
+void changed(opened *opened, const char *event);
+int closed(opened *opened);
 
-RedisModuleCmdFunc push_command, set_command, pop_command, swap_command, truncate_command, expire_command, retain_command, add_command, madd_command;
-RedisModuleCmdFunc value_command, mvalue_command, find_command, reach_command, where_command, range_command, scan_command, info_command;
-RedisModuleCmdFunc summary_command, combine_command, watch_command, unwatch_command, watches_command, restore_command;
+int failed(RedisModuleCtx *ctx, const char *error);
+int refused(RedisModuleCtx *ctx, uint32_t refusal);
+int refused_at(opened *opened, uint32_t refusal);
+void reply_answer(RedisModuleCtx *ctx, unsigned kind, const answer *answer);
+void answer_text(char *text, unsigned kind, const answer *answer);
+
+RedisModuleCmdFunc push_command, edit_command, expire_command, retain_command, add_command, madd_command, value_command, mvalue_command;
+RedisModuleCmdFunc find_command, reach_command, where_command, range_command, scan_command, info_command, summary_command, combine_command;
+RedisModuleCmdFunc watch_command, unwatch_command, watches_command, restore_command;
 RedisModuleCmdFunc ts_add_command, ts_madd_command, ts_get_command, ts_range_command;
 
 #endif

@@ -17,30 +17,14 @@ typedef struct RedisModuleInfoCtx RedisModuleInfoCtx;
 typedef int RedisModuleCmdFunc(RedisModuleCtx *ctx, RedisModuleString **words, int count);
 typedef void RedisModuleInfoFunc(RedisModuleInfoCtx *ctx, int for_crash_report);
 
-enum {
-    REDISMODULE_OK = 0,
-    REDISMODULE_ERR = 1,
-    REDISMODULE_APIVER_1 = 1,
-    REDISMODULE_READ = 1 << 0,
-    REDISMODULE_WRITE = 1 << 1,
-    REDISMODULE_KEYTYPE_EMPTY = 0,
-    REDISMODULE_POSTPONED_LEN = -1,
-    REDISMODULE_NOTIFY_MODULE = 1 << 13,
-    REDISMODULE_OPTIONS_HANDLE_IO_ERRORS = 1 << 0,
-    REDISMODULE_OPTION_NO_IMPLICIT_SIGNAL_MODIFIED = 1 << 1,
-    REDISMODULE_CTX_FLAGS_SLAVE = 1 << 3,
-    REDISMODULE_CTX_FLAGS_CLUSTER = 1 << 5,
-    REDISMODULE_CTX_FLAGS_LOADING = 1 << 13,
-    REDISMODULE_CMD_KEY_RO = 1 << 0,
-    REDISMODULE_CMD_KEY_RW = 1 << 1,
-    REDISMODULE_CMD_KEY_OW = 1 << 2,
-    REDISMODULE_CMD_KEY_ACCESS = 1 << 4,
-    REDISMODULE_CMD_KEY_UPDATE = 1 << 5,
-    REDISMODULE_CMD_KEY_INSERT = 1 << 6,
-    REDISMODULE_CMD_KEY_DELETE = 1 << 7,
-    REDISMODULE_KSPEC_BS_INDEX = 2,
-    REDISMODULE_KSPEC_FK_RANGE = 2
-};
+enum { REDISMODULE_OK = 0, REDISMODULE_ERR = 1, REDISMODULE_APIVER_1 = 1 };
+enum { REDISMODULE_READ = 1 << 0, REDISMODULE_WRITE = 1 << 1, REDISMODULE_KEYTYPE_EMPTY = 0 };
+enum { REDISMODULE_NOTIFY_MODULE = 1 << 13 };
+enum { REDISMODULE_OPTIONS_HANDLE_IO_ERRORS = 1 << 0, REDISMODULE_OPTION_NO_IMPLICIT_SIGNAL_MODIFIED = 1 << 1 };
+enum { REDISMODULE_CTX_FLAGS_SLAVE = 1 << 3, REDISMODULE_CTX_FLAGS_CLUSTER = 1 << 5, REDISMODULE_CTX_FLAGS_LOADING = 1 << 13 };
+enum { REDISMODULE_CMD_KEY_RO = 1 << 0, REDISMODULE_CMD_KEY_RW = 1 << 1, REDISMODULE_CMD_KEY_OW = 1 << 2, REDISMODULE_CMD_KEY_ACCESS = 1 << 4,
+       REDISMODULE_CMD_KEY_UPDATE = 1 << 5, REDISMODULE_CMD_KEY_INSERT = 1 << 6, REDISMODULE_CMD_KEY_DELETE = 1 << 7 };
+enum { REDISMODULE_KSPEC_BS_INDEX = 2, REDISMODULE_KSPEC_FK_RANGE = 2 };
 
 #define REDISMODULE_ERRORMSG_WRONGTYPE "WRONGTYPE Operation against a key holding the wrong kind of value"
 
@@ -67,15 +51,9 @@ typedef struct RedisModuleCommandKeySpec {
     const char *notes;
     uint64_t flags;
     int begin_search_type;
-    union {
-        struct { int pos; } index;
-        struct { const char *keyword; int startfrom; } keyword;
-    } bs;
+    union { struct { int pos; } index; struct { const char *keyword; int startfrom; } keyword; } bs;
     int find_keys_type;
-    union {
-        struct { int lastkey, keystep, limit; } range;
-        struct { int keynumidx, firstkey, keystep; } keynum;
-    } fk;
+    union { struct { int lastkey, keystep, limit; } range; struct { int keynumidx, firstkey, keystep; } keynum; } fk;
 } RedisModuleCommandKeySpec;
 
 /* The sizes of the parts of which a list is handed over; this module hands over lists of keys alone. */
@@ -96,11 +74,8 @@ typedef struct RedisModuleCommandInfo {
 
 /* Each function: what it answers, its name behind `RedisModule_`, and what it takes. */
 #define REDIS_INTERFACE(F) \
-    F(void *, TryAlloc, (size_t size)) \
-    F(void, Free, (void *memory)) \
-    F(size_t, MallocSize, (void *memory)) \
-    F(int, SetModuleAttribs, (RedisModuleCtx *ctx, const char *name, int version, int interface)) \
-    F(int, IsModuleNameBusy, (const char *name)) \
+    F(void *, TryAlloc, (size_t size)) F(void, Free, (void *memory)) F(size_t, MallocSize, (void *memory)) \
+    F(int, SetModuleAttribs, (RedisModuleCtx *ctx, const char *name, int version, int interface)) F(int, IsModuleNameBusy, (const char *name)) \
     F(void, SetModuleOptions, (RedisModuleCtx *ctx, int options)) \
     F(int, CreateCommand, (RedisModuleCtx *ctx, const char *name, RedisModuleCmdFunc *function, const char *flags, int first, int last, int step)) \
     F(RedisModuleCommand *, GetCommand, (RedisModuleCtx *ctx, const char *name)) \
@@ -109,44 +84,30 @@ typedef struct RedisModuleCommandInfo {
     F(int, RegisterInfoFunc, (RedisModuleCtx *ctx, RedisModuleInfoFunc *function)) \
     F(int, InfoAddSection, (RedisModuleInfoCtx *ctx, const char *name)) \
     F(int, InfoAddFieldCString, (RedisModuleInfoCtx *ctx, const char *field, const char *value)) \
-    F(int, IsKeysPositionRequest, (RedisModuleCtx *ctx)) \
-    F(void, KeyAtPosWithFlags, (RedisModuleCtx *ctx, int position, int flags)) \
-    F(int, GetContextFlags, (RedisModuleCtx *ctx)) \
-    F(long long, Milliseconds, (void)) \
-    F(RedisModuleKey *, OpenKey, (RedisModuleCtx *ctx, RedisModuleString *name, int mode)) \
-    F(void, CloseKey, (RedisModuleKey *key)) \
-    F(int, KeyType, (RedisModuleKey *key)) \
-    F(RedisModuleType *, ModuleTypeGetType, (RedisModuleKey *key)) \
-    F(void *, ModuleTypeGetValue, (RedisModuleKey *key)) \
-    F(int, ModuleTypeSetValue, (RedisModuleKey *key, RedisModuleType *type, void *value)) \
+    F(int, IsKeysPositionRequest, (RedisModuleCtx *ctx)) F(void, KeyAtPosWithFlags, (RedisModuleCtx *ctx, int position, int flags)) \
+    F(int, GetContextFlags, (RedisModuleCtx *ctx)) F(long long, Milliseconds, (void)) \
+    F(RedisModuleKey *, OpenKey, (RedisModuleCtx *ctx, RedisModuleString *name, int mode)) F(void, CloseKey, (RedisModuleKey *key)) \
+    F(int, KeyType, (RedisModuleKey *key)) F(RedisModuleType *, ModuleTypeGetType, (RedisModuleKey *key)) \
+    F(void *, ModuleTypeGetValue, (RedisModuleKey *key)) F(int, ModuleTypeSetValue, (RedisModuleKey *key, RedisModuleType *type, void *value)) \
     F(int, SignalModifiedKey, (RedisModuleCtx *ctx, RedisModuleString *name)) \
     F(int, NotifyKeyspaceEvent, (RedisModuleCtx *ctx, int sort, const char *event, RedisModuleString *name)) \
     F(int, PublishMessage, (RedisModuleCtx *ctx, RedisModuleString *channel, RedisModuleString *message)) \
-    F(int, Replicate, (RedisModuleCtx *ctx, const char *command, const char *form, ...)) \
-    F(int, ReplicateVerbatim, (RedisModuleCtx *ctx)) \
+    F(int, Replicate, (RedisModuleCtx *ctx, const char *command, const char *form, ...)) F(int, ReplicateVerbatim, (RedisModuleCtx *ctx)) \
     F(int, StringToLongLong, (const RedisModuleString *text, long long *number)) \
     F(const char *, StringPtrLen, (const RedisModuleString *text, size_t *length)) \
     F(RedisModuleString *, CreateString, (RedisModuleCtx *ctx, const char *text, size_t length)) \
     F(RedisModuleString *, CreateStringPrintf, (RedisModuleCtx *ctx, const char *form, ...)) \
     F(int, StringAppendBuffer, (RedisModuleCtx *ctx, RedisModuleString *text, const char *more, size_t length)) \
-    F(void, FreeString, (RedisModuleCtx *ctx, RedisModuleString *text)) \
-    F(int, ReplyWithError, (RedisModuleCtx *ctx, const char *error)) \
+    F(void, FreeString, (RedisModuleCtx *ctx, RedisModuleString *text)) F(int, ReplyWithError, (RedisModuleCtx *ctx, const char *error)) \
     F(int, ReplyWithSimpleString, (RedisModuleCtx *ctx, const char *text)) \
     F(int, ReplyWithStringBuffer, (RedisModuleCtx *ctx, const char *text, size_t length)) \
-    F(int, ReplyWithCString, (RedisModuleCtx *ctx, const char *text)) \
-    F(int, ReplyWithLongLong, (RedisModuleCtx *ctx, long long number)) \
-    F(int, ReplyWithDouble, (RedisModuleCtx *ctx, double number)) \
-    F(int, ReplyWithNull, (RedisModuleCtx *ctx)) \
-    F(int, ReplyWithArray, (RedisModuleCtx *ctx, long length)) \
-    F(int, ReplyWithMap, (RedisModuleCtx *ctx, long length)) \
-    F(void, ReplySetArrayLength, (RedisModuleCtx *ctx, long length)) \
-    F(void, SaveUnsigned, (RedisModuleIO *io, uint64_t number)) \
-    F(uint64_t, LoadUnsigned, (RedisModuleIO *io)) \
-    F(void, SaveSigned, (RedisModuleIO *io, int64_t number)) \
-    F(int64_t, LoadSigned, (RedisModuleIO *io)) \
+    F(int, ReplyWithCString, (RedisModuleCtx *ctx, const char *text)) F(int, ReplyWithLongLong, (RedisModuleCtx *ctx, long long number)) \
+    F(int, ReplyWithDouble, (RedisModuleCtx *ctx, double number)) F(int, ReplyWithNull, (RedisModuleCtx *ctx)) \
+    F(int, ReplyWithArray, (RedisModuleCtx *ctx, long length)) F(int, ReplyWithMap, (RedisModuleCtx *ctx, long length)) \
+    F(void, SaveUnsigned, (RedisModuleIO *io, uint64_t number)) F(uint64_t, LoadUnsigned, (RedisModuleIO *io)) \
+    F(void, SaveSigned, (RedisModuleIO *io, int64_t number)) F(int64_t, LoadSigned, (RedisModuleIO *io)) \
     F(void, SaveStringBuffer, (RedisModuleIO *io, const char *bytes, size_t length)) \
-    F(char *, LoadStringBuffer, (RedisModuleIO *io, size_t *length)) \
-    F(int, IsIOError, (RedisModuleIO *io)) \
+    F(char *, LoadStringBuffer, (RedisModuleIO *io, size_t *length)) F(int, IsIOError, (RedisModuleIO *io)) \
     F(void, LogIOError, (RedisModuleIO *io, const char *level, const char *form, ...)) \
     F(void, Log, (RedisModuleCtx *ctx, const char *level, const char *form, ...)) \
     F(void, EmitAOF, (RedisModuleIO *io, const char *command, const char *form, ...)) \

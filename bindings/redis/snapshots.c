@@ -9,12 +9,10 @@ RedisModuleType *list_type;
 
 static void save_watches(RedisModuleIO *io, const list *list)
 {
-    unsigned count;
-    const watch *watches = list_watches(list, &count);
-    RedisModule_SaveUnsigned(io, count);
-    for (unsigned i = 0; i < count; i++) {
-        const livevec_query *query = &watches[i].query;
-        RedisModule_SaveStringBuffer(io, watches[i].name, strlen(watches[i].name));
+    RedisModule_SaveUnsigned(io, list->watched);
+    for (const watch *watch = list->watches, *end = watch ? watch + list->watched : watch; watch != end; watch++) {
+        const livevec_query *query = &watch->query;
+        RedisModule_SaveStringBuffer(io, watch->name, strlen(watch->name));
         RedisModule_SaveUnsigned(io, query->kind);
         RedisModule_SaveUnsigned(io, query->span);
         RedisModule_SaveUnsigned(io, query->bound);
@@ -28,16 +26,14 @@ static void rdb_save(RedisModuleIO *io, void *value)
 {
     uint8_t piece[PIECE];
     list *list = value;
-    described it = list_described(list);
     uint64_t left = list_saved_length(list), at = 0;
-    RedisModule_SaveUnsigned(io, it.has_times);
-    RedisModule_SaveUnsigned(io, it.retention);
+    RedisModule_SaveUnsigned(io, list->has_times);
+    RedisModule_SaveUnsigned(io, list->retention);
     save_watches(io, list);
     RedisModule_SaveUnsigned(io, left);
-    while (at < left) {
-        uint64_t length = list_save(list, at, piece, sizeof piece).length;
+    for (uint64_t length; at < left; at += length) {
+        length = list_save(list, at, piece, sizeof piece).length;
         RedisModule_SaveStringBuffer(io, (const char *)piece, length);
-        at += length;
     }
 }
 
@@ -53,7 +49,7 @@ static uint32_t load_watch(RedisModuleIO *io, list *list)
     query.hi = RedisModule_LoadUnsigned(io);
     query.x = RedisModule_LoadSigned(io);
     uint32_t refusal = LIVEVEC_NOT_SAVED;
-    if (name && !RedisModule_IsIOError(io) && (query.span != LIVEVEC_WITHIN || list_has_times(list)))
+    if (name && !RedisModule_IsIOError(io) && (query.span != LIVEVEC_WITHIN || list->has_times))
         refusal = list_watch(list, name, length, &query);
     if (name)
         RedisModule_Free(name);
@@ -104,10 +100,9 @@ static void *rdb_load(RedisModuleIO *io, int version)
     list *list = list_for_loading(has_times);
     if (!list)
         return not_loaded(io, NULL, LIVEVEC_NO_MEMORY);
-    list_retain(list, retention);
+    list->retention = retention;
     uint32_t refusal = load_watches(io, list);
     refusal = refusal ? refusal : load_elements(io, list);
-    list_disarm(list);
     return refusal ? not_loaded(io, list, refusal) : list;
 }
 
@@ -135,7 +130,7 @@ static void digest(RedisModuleDigest *digest, void *value)
     uint8_t piece[PIECE];
     list *list = value;
     uint64_t at = 0, length;
-    RedisModule_DigestAddLongLong(digest, (long long)list_described(list).retention);
+    RedisModule_DigestAddLongLong(digest, (long long)list->retention);
     while ((length = list_save(list, at, piece, sizeof piece).length)) {
         RedisModule_DigestAddStringBuffer(digest, (const char *)piece, length);
         at += length;
@@ -181,5 +176,5 @@ int restore_command(RedisModuleCtx *ctx, RedisModuleString **v, int n)
         RedisModule_ReplyWithSimpleString(ctx, "OK");
     }
     RedisModule_CloseKey(key);
-    return REDISMODULE_OK;
+    return 0;
 }

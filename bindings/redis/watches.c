@@ -1,8 +1,6 @@
 /* The commands of watches: named queries, whose answers are published on the channel `livevec:KEY` when an edit has changed them. */
 #include "module.h"
 
-#include <string.h>
-
 /* What a watch is about. A window of time that doesn't move with the samples can't be watched. */
 static bool take_query(words *words, livevec_query *query, list_sort *sort)
 {
@@ -10,17 +8,13 @@ static bool take_query(words *words, livevec_query *query, list_sort *sort)
     unsigned kind;
     if (!take_kind(words, LIVEVEC_ALL_SIX, &kind) || !take_window(words, &window))
         return false;
-    if (window.sort == BY_TIME) {
-        RedisModule_ReplyWithError(words->ctx, "ERR a watch has no window TIME: use WITHIN");
-        return false;
-    }
+    if (window.sort == BY_TIME)
+        return failed(words->ctx, "ERR a watch has no window TIME: use WITHIN");
     static const uint32_t spans[] = {[WHOLE] = LIVEVEC_BETWEEN, [BY_INDEX] = LIVEVEC_BETWEEN, [BY_LAST] = LIVEVEC_LAST, [BY_SPAN] = LIVEVEC_WITHIN};
     *sort = sort_of(window);
     *query = (livevec_query){.kind = kind, .span = spans[window.sort], .lo = (uint64_t)window.lo, .hi = (uint64_t)window.hi};
-    if (window.sort == WHOLE) {
-        query->lo = 0;
+    if (window.sort == WHOLE)
         query->hi = UINT64_MAX;
-    }
     if (took(words, "ATLEAST"))
         query->bound = LIVEVEC_AT_LEAST;
     else if (took(words, "ATMOST"))
@@ -33,12 +27,12 @@ int watch_command(RedisModuleCtx *ctx, RedisModuleString **v, int n)
 {
     words words = {ctx, v + 3, n - 3};
     livevec_query query;
-    list_sort sort;
+    list_sort sort = ANY_LIST;
     opened opened;
     size_t length;
     const char *name = RedisModule_StringPtrLen(v[2], &length);
-    if (!take_query(&words, &query, &sort) || !open_to_edit(ctx, v[1], sort, &opened))
-        return REDISMODULE_OK;
+    if (!take_query(&words, &query, &sort) || !open_key(ctx, v[1], sort, TO_EDIT, &opened))
+        return 0;
     uint32_t refusal = list_watch(opened.list, name, length, &query);
     if (refusal)
         return refused_at(&opened, refusal);
@@ -49,7 +43,7 @@ int watch_command(RedisModuleCtx *ctx, RedisModuleString **v, int n)
     RedisModule_ReplyWithLongLong(ctx, (long long)now.edit);
     reply_answer(ctx, query.kind, &now);
     changed(&opened, "lv.watch");
-    return REDISMODULE_OK;
+    return 0;
 }
 
 /* LV.UNWATCH key name */
@@ -59,8 +53,8 @@ int unwatch_command(RedisModuleCtx *ctx, RedisModuleString **v, int n)
     size_t length;
     const char *name = RedisModule_StringPtrLen(v[2], &length);
     (void)n;
-    if (!open_to_edit(ctx, v[1], ANY_LIST, &opened))
-        return REDISMODULE_OK;
+    if (!open_key(ctx, v[1], ANY_LIST, TO_EDIT, &opened))
+        return 0;
     uint32_t refusal = list_unwatch(opened.list, name, length);
     if (refusal)
         return refused_at(&opened, refusal);
@@ -94,14 +88,11 @@ static void reply_watch(RedisModuleCtx *ctx, const watch *watch)
 int watches_command(RedisModuleCtx *ctx, RedisModuleString **v, int n)
 {
     opened opened;
-    unsigned count;
     (void)n;
-    if (!open_to_read(ctx, v[1], ANY_LIST, &opened))
-        return REDISMODULE_OK;
-    const watch *watches = list_watches(opened.list, &count);
-    RedisModule_ReplyWithArray(ctx, count);
-    for (unsigned i = 0; i < count; i++)
-        reply_watch(ctx, &watches[i]);
-    close_key(&opened);
-    return REDISMODULE_OK;
+    if (!open_key(ctx, v[1], ANY_LIST, TO_READ, &opened))
+        return 0;
+    RedisModule_ReplyWithArray(ctx, opened.list->watched);
+    for (unsigned i = 0; i < opened.list->watched; i++)
+        reply_watch(ctx, &opened.list->watches[i]);
+    return closed(&opened);
 }

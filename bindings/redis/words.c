@@ -1,7 +1,6 @@
 /* The words of a command: numbers, times, kinds and windows. */
 #include "module.h"
 
-#include <limits.h>
 #include <string.h>
 #include <strings.h>
 
@@ -19,39 +18,32 @@ bool is_word(const RedisModuleString *text, const char *word)
     return length == strlen(word) && !strncasecmp(at, word, length);
 }
 
-bool took(words *words, const char *word)
+static bool taken(words *words)
 {
-    if (!words->left || !is_word(*words->next, word))
-        return false;
     words->next++;
     words->left--;
     return true;
 }
 
-static bool syntax_error(words *words)
+bool took(words *words, const char *word)
 {
-    RedisModule_ReplyWithError(words->ctx, "ERR syntax error");
-    return false;
+    return words->left && is_word(*words->next, word) && taken(words);
 }
 
 bool no_more(words *words)
 {
-    return !words->left || syntax_error(words);
+    return !words->left || failed(words->ctx, "ERR syntax error");
 }
 
 static bool take_above(words *words, int64_t least, int64_t *number)
 {
     long long found;
     if (!words->left)
-        return syntax_error(words);
-    if (RedisModule_StringToLongLong(*words->next, &found) != REDISMODULE_OK || found < least) {
-        RedisModule_ReplyWithError(words->ctx, "ERR value is not an integer or out of range");
-        return false;
-    }
-    words->next++;
-    words->left--;
+        return failed(words->ctx, "ERR syntax error");
+    if (RedisModule_StringToLongLong(*words->next, &found) != REDISMODULE_OK || found < least)
+        return failed(words->ctx, "ERR value is not an integer or out of range");
     *number = found;
-    return true;
+    return taken(words);
 }
 
 bool take_number(words *words, int64_t *number)
@@ -74,18 +66,14 @@ bool take_time(words *words, int64_t *time)
 
 bool take_kind(words *words, unsigned kinds, unsigned *kind)
 {
-    if (!words->left)
-        return syntax_error(words);
     for (*kind = 0; *kind < kinds; ++*kind)
         if (took(words, kind_names[*kind]))
             return true;
-    refused(words->ctx, LIVEVEC_BAD_KIND);
-    return false;
+    return words->left ? refused(words->ctx, LIVEVEC_BAD_KIND) : failed(words->ctx, "ERR syntax error");
 }
 
 static bool take_times(words *words, window *window)
 {
-    window->sort = BY_TIME;
     window->lo = INT64_MIN;
     window->hi = INT64_MAX;
     if (!took(words, "-") && !take_number(words, &window->lo))
@@ -96,22 +84,14 @@ static bool take_times(words *words, window *window)
 
 bool take_window(words *words, window *window)
 {
-    *window = (struct window){.sort = WHOLE};
-    if (took(words, "INDEX")) {
-        window->sort = BY_INDEX;
-        return take_natural(words, &window->lo) && take_natural(words, &window->hi);
-    }
+    *window = (struct window){.sort = BY_TIME};
     if (took(words, "TIME"))
         return take_times(words, window);
-    if (took(words, "LAST"))
-        window->sort = BY_LAST;
-    else if (took(words, "WITHIN"))
-        window->sort = BY_SPAN;
-    else {
-        took(words, "ALL");
-        return true;
-    }
-    return take_natural(words, &window->lo);
+    window->sort = BY_INDEX;
+    if (took(words, "INDEX"))
+        return take_natural(words, &window->lo) && take_natural(words, &window->hi);
+    window->sort = took(words, "LAST") ? BY_LAST : took(words, "WITHIN") ? BY_SPAN : WHOLE;
+    return window->sort == WHOLE ? took(words, "ALL") || true : take_natural(words, &window->lo);
 }
 
 bool take_bounds(words *words, window *window)
