@@ -39,7 +39,7 @@ from_here = $(shell lib="$(LIBDIR)"; if [ "$${lib#"$(PREFIX)/"}" != "$$lib" ]; t
 
 # one target after the other: two would prove the same crates
 .NOTPARALLEL:
-.PHONY: help try build run test prove check lib so embed redis test-c test-bindings docs dist install install-program install-lib whole-paths uninstall wrong plant soak bench bench-board bench-bindings bench-engines dashboard fmt clean
+.PHONY: help try build run test prove check lib so embed redis test-c test-bindings docs dist install install-program install-lib whole-paths uninstall wrong plant soak bench bench-board bench-bindings bench-engines bench-redis dashboard fmt clean
 
 help: ## lists what can be made
 	@sed -n 's/^\([a-z-]*\):.*## \(.*\)/\1|\2/p' Makefile | awk -F '|' '{ printf "make %-15s %s\n", $$1, $$2 }'
@@ -114,8 +114,8 @@ dashboard: so ## serves live charts of FEED=.., or of this machine, in a browser
 	if [ -n "$(FEED)" ]; then exec python3 -m livevec_dashboard "$(FEED)" $(WITH); \
 	else examples/machine_load.py | python3 -m livevec_dashboard - --title "this machine" $(WITH); fi
 
-test-bindings: ## tests C++, Rust, Python, MPI, Dask and what was installed
-	@tools/timed test-bindings "tests C++, Rust, Python, MPI, Dask and what is installed" "some 4 min" bindings/check
+test-bindings: ## tests C++, Rust, Python, MPI, Dask, the module for Redis and what was installed
+	@tools/timed test-bindings "tests C++, Rust, Python, MPI, Dask, the module for Redis and what is installed" "some 5 min" bindings/check
 
 docs: ## makes build/docs of the sources, without proofs: pages of C, C++, Rust, Python and the program
 	@tools/docs $(LIB)
@@ -186,6 +186,9 @@ bench-bindings: ## times calls from C and C++
 
 bench-engines: ## times MPI over several processes beside plain loops and MPI's own sum
 	@tools/timed bench-engines "times MPI over 1, 2 and 4 processes beside plain loops and MPI_SUM" "some 2 min" bench/run engines
+
+bench-redis: redis ## times the module for Redis beside lists, sorted sets and scripts of Redis
+	@LIVEVEC_REDIS="$(abspath $(REDIS))/livevec_redis.so" tools/timed bench-redis "times the module for Redis by redis-benchmark, a line for each row" "some 3 min" bench/redis
 
 fmt: ## formats each crate
 	@for crate in crates/*/; do echo "formats $$crate"; (cd $$crate && rt fmt); done
