@@ -179,9 +179,10 @@ int ts_add_command(RedisModuleCtx *ctx, RedisModuleString **v, int n)
     return add_sample(ctx, &sample);
 }
 
-/* key time x [key time x ..]: each is added, or refused, by itself. */
-static int add_many(RedisModuleCtx *ctx, RedisModuleString **v, int n, bool replies_time)
+/* LV.MADD key time x [key time x ..], or TS.MADD: each is added, or refused, by itself. */
+int madd_command(RedisModuleCtx *ctx, RedisModuleString **v, int n)
 {
+    bool replies_time = is_word(v[0], "ts.madd");
     if (n % 3 != 1)
         return failed(ctx, "ERR syntax error");
     RedisModule_ReplyWithArray(ctx, n / 3);
@@ -192,14 +193,4 @@ static int add_many(RedisModuleCtx *ctx, RedisModuleString **v, int n, bool repl
             add_sample(ctx, &sample);
     }
     return 0;
-}
-
-int madd_command(RedisModuleCtx *ctx, RedisModuleString **v, int n)
-{
-    return add_many(ctx, v, n, false);
-}
-
-int ts_madd_command(RedisModuleCtx *ctx, RedisModuleString **v, int n)
-{
-    return add_many(ctx, v, n, true);
 }

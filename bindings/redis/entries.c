@@ -72,11 +72,11 @@ static livevec_window bucket_at(list *list, uint64_t at, uint64_t hi, int64_t sp
     return list_bucket(list, at, (int64_t)end, hi);
 }
 
-static uint64_t buckets_in(list *list, livevec_window in, int64_t span)
+static uint64_t buckets_in(list *list, livevec_window in, int64_t span, uint64_t most)
 {
     uint64_t count = 0;
     int64_t begin;
-    for (uint64_t at = in.lo; at < in.hi && count <= MOST_ENTRIES; count++)
+    for (uint64_t at = in.lo; at < in.hi && count < most; count++)
         at = bucket_at(list, at, in.hi, span, &begin).hi;
     return count;
 }
@@ -84,12 +84,11 @@ static uint64_t buckets_in(list *list, livevec_window in, int64_t span)
 /* The first answer of all makes the trees that the others need, so that one without memory is refused before the reply begins. */
 static int reply_buckets(opened *opened, const entries *asked, livevec_window in)
 {
-    uint64_t count = buckets_in(opened->list, in, asked->span), at = in.lo;
+    uint64_t most = asked->has_most && asked->most <= MOST_ENTRIES ? (uint64_t)asked->most : MOST_ENTRIES + 1;
+    uint64_t count = buckets_in(opened->list, in, asked->span, most), at = in.lo;
     answer all = list_answer(opened->list, asked->kind, in);
     if (all.refusal)
         return refused_at(opened, all.refusal);
-    if (asked->has_most && count > (uint64_t)asked->most)
-        count = (uint64_t)asked->most;
     if (count > MOST_ENTRIES)
         return too_many(opened);
     RedisModule_ReplyWithArray(opened->ctx, (long)count);

@@ -21,7 +21,7 @@ void arm(opened *opened)
 static bool made(opened *opened, list_sort sort, purpose purpose)
 {
     opened->is_new = purpose == TO_ADD;
-    opened->list = opened->is_new ? list_new(sort == SAMPLES_ONLY) : NULL;
+    opened->list = opened->is_new ? list_new(sort == SAMPLES_ONLY, false) : NULL;
     if (opened->list)
         return true;
     if (opened->is_new)

@@ -45,36 +45,19 @@ livevec_samples *samples_of(list *list)
     return &list->held;
 }
 
-static list *empty_list(bool has_times)
+list *list_new(bool has_times, bool loads)
 {
     list *made = RedisModule_TryAlloc(sizeof *made);
-    if (made)
-        *made = (list){.has_times = has_times};
-    return made;
-}
-
-static list *or_freed(list *list, uint32_t refusal)
-{
+    if (!made)
+        return NULL;
+    *made = (list){.has_times = has_times};
+    livevec_samples *held = samples_of(made);
+    uint32_t refusal = has_times ? (loads ? livevec_samples_begin_load(held) : livevec_samples_new(held))
+                                 : (loads ? livevec_series_begin_load(&held->values) : livevec_series_new(&held->values));
     if (!refusal)
-        return list;
-    list_free(list);
+        return made;
+    list_free(made);
     return NULL;
-}
-
-list *list_new(bool has_times)
-{
-    list *made = empty_list(has_times);
-    if (!made)
-        return NULL;
-    return or_freed(made, has_times ? livevec_samples_new(samples_of(made)) : livevec_series_new(series_of(made)));
-}
-
-list *list_for_loading(bool has_times)
-{
-    list *made = empty_list(has_times);
-    if (!made)
-        return NULL;
-    return or_freed(made, has_times ? livevec_samples_begin_load(samples_of(made)) : livevec_series_begin_load(series_of(made)));
 }
 
 uint32_t list_loaded(list *list)

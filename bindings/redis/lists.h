@@ -51,8 +51,7 @@ livevec_samples *samples_of(list *list);
 static inline livevec_series *series_of(list *list) { return &samples_of(list)->values; }
 
 /* A new list, or one that is to be loaded; null where there is no memory for it. */
-list *list_new(bool has_times);
-list *list_for_loading(bool has_times);
+list *list_new(bool has_times, bool loads);
 uint32_t list_loaded(list *list);
 void list_free(list *list);
 

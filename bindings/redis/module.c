@@ -50,7 +50,7 @@ static const struct command {
     {"lv.combine", combine_command, -2, "readonly fast", NO_KEY, 0, 0, "O(summaries)", "Combines aggregates, in the order of their elements"},
     {"lv.restore", restore_command, 3, "write deny-oom", MAKES, 1, 1, "O(n)", "Internal: makes a key of the bytes of a rewritten append-only file"},
     {"ts.add", ts_add_command, -4, "write deny-oom fast", ADDS, 1, 1, "O(1) amortised", "As lv.add, in a form of RedisTimeSeries"},
-    {"ts.madd", ts_madd_command, -4, "write deny-oom fast", ADDS, -1, 3, "O(1) amortised for each", "As lv.madd, in a form of RedisTimeSeries"},
+    {"ts.madd", madd_command, -4, "write deny-oom fast", ADDS, -1, 3, "O(1) amortised for each", "As lv.madd, in a form of RedisTimeSeries"},
     {"ts.get", ts_get_command, 2, "readonly fast", ASKS, 1, 1, "O(1)", "The last sample, in a form of RedisTimeSeries"},
     {"ts.range", ts_range_command, -4, "readonly", ASKS, 1, 1, "O(length), and O(log n) for each bucket", "As lv.range, in a form of RedisTimeSeries"},
 };

@@ -34,8 +34,9 @@ extern RedisModuleTypeMethods list_methods;
 bool is_word(const RedisModuleString *text, const char *word);
 bool took(words *words, const char *word);
 bool no_more(words *words);
-bool take_number(words *words, int64_t *number);
-bool take_natural(words *words, int64_t *number);
+bool take_above(words *words, int64_t least, int64_t *number);
+static inline bool take_number(words *it, int64_t *number) { return take_above(it, INT64_MIN, number); }
+static inline bool take_natural(words *it, int64_t *number) { return take_above(it, 0, number); }
 bool take_time(words *words, int64_t *time);
 bool take_kind(words *words, unsigned kinds, unsigned *kind);
 bool take_window(words *words, window *window);
@@ -59,6 +60,6 @@ void answer_text(char *text, unsigned kind, const answer *answer);
 RedisModuleCmdFunc push_command, edit_command, expire_command, retain_command, add_command, madd_command, value_command, mvalue_command;
 RedisModuleCmdFunc find_command, reach_command, where_command, range_command, scan_command, info_command, summary_command, combine_command;
 RedisModuleCmdFunc watch_command, unwatch_command, watches_command, restore_command;
-RedisModuleCmdFunc ts_add_command, ts_madd_command, ts_get_command, ts_range_command;
+RedisModuleCmdFunc ts_add_command, ts_get_command, ts_range_command;
 
 #endif

@@ -97,7 +97,7 @@ static void *rdb_load(RedisModuleIO *io, int version)
     uint64_t has_times = RedisModule_LoadUnsigned(io), retention = RedisModule_LoadUnsigned(io);
     if (version != LAYOUT || RedisModule_IsIOError(io) || has_times > 1 || retention > INT64_MAX)
         return not_loaded(io, NULL, LIVEVEC_NOT_SAVED);
-    list *list = list_for_loading(has_times);
+    list *list = list_new(has_times, true);
     if (!list)
         return not_loaded(io, NULL, LIVEVEC_NO_MEMORY);
     list->retention = retention;

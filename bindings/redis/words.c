@@ -35,7 +35,7 @@ bool no_more(words *words)
     return !words->left || failed(words->ctx, "ERR syntax error");
 }
 
-static bool take_above(words *words, int64_t least, int64_t *number)
+bool take_above(words *words, int64_t least, int64_t *number)
 {
     long long found;
     if (!words->left)
@@ -44,16 +44,6 @@ static bool take_above(words *words, int64_t least, int64_t *number)
         return failed(words->ctx, "ERR value is not an integer or out of range");
     *number = found;
     return taken(words);
-}
-
-bool take_number(words *words, int64_t *number)
-{
-    return take_above(words, INT64_MIN, number);
-}
-
-bool take_natural(words *words, int64_t *number)
-{
-    return take_above(words, 0, number);
 }
 
 bool take_time(words *words, int64_t *time)
