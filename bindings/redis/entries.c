@@ -120,9 +120,7 @@ static int reply_entries(opened *opened, const entries *asked)
 }
 
 static bool take_span(words *words, int64_t *span)
-{
-    return take_natural(words, span) && (*span || failed(words->ctx, "ERR value is not an integer or out of range"));
-}
+{ return take_natural(words, span) && (*span || failed(words->ctx, "ERR value is not an integer or out of range")); }
 
 static bool take_most(words *words, entries *asked)
 {

@@ -129,6 +129,11 @@ livevec_window list_bucket(list *list, uint64_t at, int64_t until, uint64_t hi)
     return bucket;
 }
 
+static answer by_one_kind(livevec_series_reduced told)
+{
+    return (answer){.refusal = told.refusal, .edit = told.edit, .count = told.values.any, .values = told.values};
+}
+
 answer list_answer(list *list, unsigned kind, livevec_window in)
 {
     answer told = {.refusal = in.refusal, .edit = in.edit, .count = in.hi - in.lo};
@@ -140,10 +145,20 @@ answer list_answer(list *list, unsigned kind, livevec_window in)
         told.exact = summed.sum;
         return told;
     }
-    livevec_series_reduced reduced = livevec_series_value(series_of(list), kind, in.lo, in.hi);
-    told.refusal = reduced.refusal;
-    told.values = reduced.values;
-    return told;
+    return by_one_kind(livevec_series_value(series_of(list), kind, in.lo, in.hi));
+}
+
+/* One proved call finds the range and its value, where there is one for both. */
+answer list_value(list *list, unsigned kind, window asked)
+{
+    livevec_samples *held = samples_of(list);
+    if (kind < LIVEVEC_ALL_SIX && asked.sort == BY_INDEX)
+        return by_one_kind(livevec_series_value(&held->values, kind, (uint64_t)asked.lo, (uint64_t)asked.hi));
+    if (kind < LIVEVEC_ALL_SIX && asked.sort == BY_SPAN)
+        return by_one_kind(livevec_samples_value_of_last(held, kind, (uint64_t)asked.lo));
+    if (kind < LIVEVEC_ALL_SIX && asked.sort == BY_TIME && !asked.to_end)
+        return by_one_kind(livevec_samples_value(held, kind, asked.lo, asked.hi));
+    return list_answer(list, kind, list_range(list, asked));
 }
 
 livevec_summarised list_summary(list *list, livevec_window in)
@@ -211,8 +226,7 @@ uint32_t list_unwatch(list *list, const char *name, size_t length)
 
 answer list_watched(list *list, const char *name, size_t length)
 {
-    livevec_series_reduced now = livevec_series_answer(&list->asked, series_of(list), name, length);
-    return (answer){.refusal = now.refusal, .edit = now.edit, .count = now.values.any, .values = now.values};
+    return by_one_kind(livevec_series_answer(&list->asked, series_of(list), name, length));
 }
 
 void list_arm(list *list)

@@ -1,5 +1,5 @@
-/* The value of a key: a series, or samples, with a retention and watches. The module calls livevec's C library in this header and in lists.c only, and
- * what the library's functions answer is passed on. What a range is, which elements it has and why a call is refused, the library decides. */
+/* The value of a key: a series, or samples, with a retention and watches. The module calls livevec's C library in this header and in lists.c only,
+ * and passes on what the library's functions answer. What a range is, which elements it has and why a call is refused, the library decides. */
 #ifndef LIVEVEC_REDIS_LISTS_H
 #define LIVEVEC_REDIS_LISTS_H
 
@@ -15,7 +15,7 @@ typedef struct window {
     bool to_end; /* of a window of time: also the samples at the greatest time of all */
 } window;
 
-/* The answer by one kind over the elements of a range, of which there are `count`. */
+/* The answer by one kind over the elements of a range. If there is none, `count` is 0; of a count and an exact sum it is how many there are. */
 typedef struct answer {
     uint32_t refusal;
     uint64_t edit, count;
@@ -64,6 +64,7 @@ livevec_window list_range(list *list, window window);
 /* The samples of a range from the index `at` on whose times are below `until`. */
 livevec_window list_bucket(list *list, uint64_t at, int64_t until, uint64_t hi);
 answer list_answer(list *list, unsigned kind, livevec_window in);
+answer list_value(list *list, unsigned kind, window window);
 
 /* The summary of the elements of a range, in O(length); and of those of a summary and of one that is bytes. */
 livevec_summarised list_summary(list *list, livevec_window in);

@@ -4,10 +4,9 @@
 static int reply_value(RedisModuleCtx *ctx, RedisModuleString *name, unsigned kind, window window)
 {
     opened opened;
-    livevec_window range;
-    if (!open_range(ctx, name, window, &opened, &range))
+    if (!open_key(ctx, name, sort_of(window), TO_READ, &opened))
         return 0;
-    answer told = list_answer(opened.list, kind, range);
+    answer told = list_value(opened.list, kind, window);
     if (told.refusal)
         return refused_at(&opened, told.refusal);
     RedisModule_ReplyWithArray(ctx, 2);
@@ -132,9 +131,7 @@ int info_command(RedisModuleCtx *ctx, RedisModuleString **v, int n)
 }
 
 static int reply_summary(RedisModuleCtx *ctx, const livevec_summary *summary)
-{
-    return RedisModule_ReplyWithStringBuffer(ctx, (const char *)summary->bytes, sizeof summary->bytes);
-}
+{ return RedisModule_ReplyWithStringBuffer(ctx, (const char *)summary->bytes, sizeof summary->bytes); }
 
 /* LV.SUMMARY key [window] */
 int summary_command(RedisModuleCtx *ctx, RedisModuleString **v, int n)

@@ -139,9 +139,7 @@ static void digest(RedisModuleDigest *digest, void *value)
 }
 
 static size_t mem_usage(const void *value)
-{
-    return list_bytes(value);
-}
+{ return list_bytes(value); }
 
 /* A value of many pages is freed outside the main thread. */
 static size_t free_effort(RedisModuleString *key, const void *value)
@@ -151,9 +149,7 @@ static size_t free_effort(RedisModuleString *key, const void *value)
 }
 
 static void free_value(void *value)
-{
-    list_free(value);
-}
+{ list_free(value); }
 
 RedisModuleTypeMethods list_methods = {
     .version = 3, .rdb_load = rdb_load, .rdb_save = rdb_save, .aof_rewrite = aof_rewrite, .mem_usage = mem_usage, .digest = digest,

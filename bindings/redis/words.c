@@ -7,9 +7,7 @@
 static const char *const kind_names[KINDS] = {"sum", "min", "max", "best", "affine", "automaton", "count", "mean", "exactsum"};
 
 const char *kind_name(unsigned kind)
-{
-    return kind_names[kind];
-}
+{ return kind_names[kind]; }
 
 bool is_word(const RedisModuleString *text, const char *word)
 {
@@ -26,14 +24,10 @@ static bool taken(words *words)
 }
 
 bool took(words *words, const char *word)
-{
-    return words->left && is_word(*words->next, word) && taken(words);
-}
+{ return words->left && is_word(*words->next, word) && taken(words); }
 
 bool no_more(words *words)
-{
-    return !words->left || failed(words->ctx, "ERR syntax error");
-}
+{ return !words->left || failed(words->ctx, "ERR syntax error"); }
 
 bool take_above(words *words, int64_t least, int64_t *number)
 {
@@ -74,12 +68,12 @@ static bool take_times(words *words, window *window)
 
 bool take_window(words *words, window *window)
 {
-    *window = (struct window){.sort = BY_TIME};
-    if (took(words, "TIME"))
-        return take_times(words, window);
-    window->sort = BY_INDEX;
+    *window = (struct window){.sort = BY_INDEX};
     if (took(words, "INDEX"))
         return take_natural(words, &window->lo) && take_natural(words, &window->hi);
+    window->sort = BY_TIME;
+    if (took(words, "TIME"))
+        return take_times(words, window);
     window->sort = took(words, "LAST") ? BY_LAST : took(words, "WITHIN") ? BY_SPAN : WHOLE;
     return window->sort == WHOLE ? took(words, "ALL") || true : take_natural(words, &window->lo);
 }
@@ -91,6 +85,4 @@ bool take_bounds(words *words, window *window)
 }
 
 list_sort sort_of(window window)
-{
-    return window.sort == BY_TIME || window.sort == BY_SPAN ? SAMPLES_ONLY : ANY_LIST;
-}
+{ return window.sort == BY_TIME || window.sort == BY_SPAN ? SAMPLES_ONLY : ANY_LIST; }
