@@ -13,7 +13,7 @@ typedef struct entries {
     window window;
     int64_t most, span;
     unsigned kind;
-    bool has_most, as_text;
+    bool as_text;
 } entries;
 
 static int too_many(opened *opened)
@@ -84,7 +84,7 @@ static uint64_t buckets_in(list *list, livevec_window in, int64_t span, uint64_t
 /* The first answer of all makes the trees that the others need, so that one without memory is refused before the reply begins. */
 static int reply_buckets(opened *opened, const entries *asked, livevec_window in)
 {
-    uint64_t most = asked->has_most && asked->most <= MOST_ENTRIES ? (uint64_t)asked->most : MOST_ENTRIES + 1;
+    uint64_t most = asked->most <= MOST_ENTRIES ? (uint64_t)asked->most : MOST_ENTRIES + 1;
     uint64_t count = buckets_in(opened->list, in, asked->span, most), at = in.lo;
     answer all = list_answer(opened->list, asked->kind, in);
     if (all.refusal)
@@ -112,7 +112,7 @@ static int reply_entries(opened *opened, const entries *asked)
         return refused_at(opened, in.refusal);
     if (asked->span)
         return reply_buckets(opened, asked, in);
-    if (asked->has_most && in.hi - in.lo > (uint64_t)asked->most)
+    if (in.hi - in.lo > (uint64_t)asked->most)
         in.hi = in.lo + (uint64_t)asked->most;
     if (in.hi - in.lo > MOST_ENTRIES)
         return too_many(opened);
@@ -123,20 +123,15 @@ static bool take_span(words *words, int64_t *span)
 { return take_natural(words, span) && (*span || failed(words->ctx, "ERR value is not an integer or out of range")); }
 
 static bool take_most(words *words, entries *asked)
-{
-    asked->has_most = took(words, "COUNT");
-    return !asked->has_most || take_natural(words, &asked->most);
-}
+{ return !took(words, "COUNT") || take_natural(words, &asked->most); }
 
 /* LV.RANGE key window [COUNT n] [BUCKET span kind] */
 int range_command(RedisModuleCtx *ctx, RedisModuleString **v, int n)
 {
     words words = {ctx, v + 2, n - 2};
-    entries asked = {.kind = LIVEVEC_SUM};
+    entries asked = {.most = INT64_MAX};
     opened opened;
-    if (!take_window(&words, &asked.window))
-        return 0;
-    if (!take_most(&words, &asked))
+    if (!take_window(&words, &asked.window) || !take_most(&words, &asked))
         return 0;
     if (took(&words, "BUCKET") && !(take_span(&words, &asked.span) && take_kind(&words, KINDS, &asked.kind)))
         return 0;
@@ -245,7 +240,7 @@ static bool take_aggregation(words *words, entries *asked)
 int ts_range_command(RedisModuleCtx *ctx, RedisModuleString **v, int n)
 {
     words words = {ctx, v + 2, n - 2};
-    entries asked = {.as_text = true, .window = {.sort = BY_TIME, .lo = INT64_MIN, .hi = INT64_MAX}};
+    entries asked = {.as_text = true, .most = INT64_MAX, .window = {.sort = BY_TIME, .lo = INT64_MIN, .hi = INT64_MAX}};
     opened opened;
     if (!took(&words, "-") && !take_number(&words, &asked.window.lo))
         return 0;

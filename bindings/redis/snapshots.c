@@ -110,6 +110,8 @@ static void *rdb_load(RedisModuleIO *io, int version)
 static void aof_rewrite(RedisModuleIO *io, RedisModuleString *key, void *value)
 {
     RedisModuleString *bytes = RedisModule_SaveDataTypeToString(NULL, value, list_type);
+    if (!bytes)
+        return;
     RedisModule_EmitAOF(io, "LV.RESTORE", "ss", key, bytes);
     RedisModule_FreeString(NULL, bytes);
 }
@@ -119,8 +121,9 @@ static void *copy(RedisModuleString *from, RedisModuleString *to, const void *va
     (void)from;
     (void)to;
     RedisModuleString *bytes = RedisModule_SaveDataTypeToString(NULL, (void *)value, list_type);
-    void *made = RedisModule_LoadDataTypeFromStringEncver(bytes, list_type, LAYOUT);
-    RedisModule_FreeString(NULL, bytes);
+    void *made = bytes ? RedisModule_LoadDataTypeFromStringEncver(bytes, list_type, LAYOUT) : NULL;
+    if (bytes)
+        RedisModule_FreeString(NULL, bytes);
     return made;
 }
 

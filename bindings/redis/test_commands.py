@@ -141,6 +141,10 @@ class Commands(unittest.TestCase):
         for line, wanted in lines:
             said = subprocess.run(["redis-cli", "-s", self.server.path, *line.split()], capture_output=True, text=True, timeout=60, check=True).stdout
             self.assertEqual(said.strip(), wanted, line)
+        # by the third version of the protocol, which has maps and doubles
+        for line, wanted in (("LV.VALUE prices mean LAST 2", "1) (integer) 6\n2) (double) 310"), ("LV.INFO prices", '1# "form" => "series"')):
+            said = subprocess.run(["redis-cli", "-3", "--no-raw", "-s", self.server.path, *line.split()], capture_output=True, text=True, timeout=60, check=True).stdout
+            self.assertTrue(said.startswith(wanted), said)
 
     def test_keys_that_are_not_there(self):
         for line in ("LV.VALUE k sum", "LV.RANGE k", "LV.SCAN k sum", "LV.INFO k", "LV.WATCHES k", "LV.SUMMARY k", "LV.FIND k FIRST ATLEAST 0", "LV.REACH k 1", "LV.WHERE k min"):
