@@ -20,12 +20,18 @@ def begun():
             client = node.client()
             client.execute_command("CLUSTER", "ADDSLOTSRANGE", 16384 * number // 3, 16384 * (number + 1) // 3 - 1)
             client.execute_command("CLUSTER", "MEET", "127.0.0.1", nodes[0].port)
-        clients = [it.client() for it in nodes]
-        waited_for(lambda: all(b"cluster_state:ok" in it.execute_command("CLUSTER", "INFO", **{"NEVER_DECODE": []}) and len(it.execute_command("CLUSTER", "SLOTS")) == 3 for it in clients), "the cluster")
+        waited_for(lambda: all(b"cluster_state:ok" in told(it) and b"cluster_known_nodes:3" in told(it) for it in nodes), "the cluster")
         return nodes
     except BaseException:
         ended(nodes)
         raise
+
+
+def told(node):
+    """What a node says of its cluster."""
+    client = node.client()
+    client.response_callbacks.clear()
+    return client.execute_command("CLUSTER", "INFO")
 
 
 def ended(nodes):
@@ -82,16 +88,33 @@ class Cluster(unittest.TestCase):
         damaged = summaries[5][:50] + bytes([summaries[5][50] ^ 4]) + summaries[5][51:]
         self.assertEqual(asked(plain, "LV.COMBINE", summaries[0], damaged), "!LV110")
 
+    def replica_of(self, key):
+        """A fourth node, which follows the node that has a key."""
+        master = self.client.get_node_from_key(key).port
+        node = Server("--cluster-enabled", "yes", "--cluster-node-timeout", "20000", port=free_port()).start()
+        self.addCleanup(node.close)
+        client = node.client()
+        client.response_callbacks.clear()
+        client.execute_command("CLUSTER", "MEET", "127.0.0.1", master)
+        known = lambda: next((line.split()[0] for line in client.execute_command("CLUSTER", "NODES").decode().splitlines() if f":{master}@" in line and "handshake" not in line), None)
+        waited_for(known, "the master")
+        client.execute_command("CLUSTER", "REPLICATE", known())
+        waited_for(lambda: b"master_link_status:up" in client.execute_command("INFO", "replication"), "the replica")
+        return node
+
     def test_notes_reach_each_node_once(self):
-        listeners = [it.client().pubsub() for it in self.nodes]
+        nodes = [*self.nodes, self.replica_of("noted")]
+        waited_for(lambda: all(b"cluster_known_nodes:4" in told(it) for it in nodes), "the fourth node")
+        listeners = [it.client().pubsub() for it in nodes]
         for listener in listeners:
             listener.subscribe("livevec:noted")
             self.assertEqual(listener.get_message(timeout=20)["type"], "subscribe")
         self.client.execute_command("LV.PUSH", "noted", 1)
         self.client.execute_command("LV.WATCH", "noted", "all", "sum")
-        self.client.execute_command("LV.PUSH", "noted", 2)
+        for last in (2, 3):
+            self.client.execute_command("LV.PUSH", "noted", last)
         for listener in listeners:
-            self.assertEqual(listener.get_message(timeout=20)["data"], b"2 all 3")
+            self.assertEqual([listener.get_message(timeout=20)["data"] for _ in range(2)], [b"2 all 3", b"3 all 6"])
             self.assertIsNone(listener.get_message(timeout=0.2))
             listener.close()
 
