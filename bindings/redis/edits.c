@@ -38,12 +38,12 @@ int push_command(RedisModuleCtx *ctx, RedisModuleString **v, int n)
     return 0;
 }
 
-/* The single edits of a key that there is, by their commands: how many numbers each takes, and what its reply tells. */
+/* The single edits of an existing key, by their commands: how many numbers each takes, and whether it replies with a value or with a count. */
 static const struct edit {
     const char *command, *event;
     uint32_t what;
     int indices;
-    bool has_value, tells_value;
+    bool has_value, has_reply_value;
 } edits[] = {
     {"lv.set", "lv.set", LIVEVEC_WRITE, 1, true, true},
     {"lv.pop", "lv.pop", LIVEVEC_POP, 0, false, true},
@@ -52,8 +52,8 @@ static const struct edit {
     {"index", "lv.expire", LIVEVEC_EXPIRE, 1, false, false},
 }, *const by_index = &edits[sizeof edits / sizeof *edits - 1];
 
-/* Replies with the edit number and a number that the edit tells. */
-static int edited(opened *opened, livevec_series_edited did, const char *event, bool tells_value)
+/* Replies with the edit number and a value or a count. */
+static int edited(opened *opened, livevec_series_edited did, const char *event, bool has_reply_value)
 {
     if (did.refusal)
         return refused_at(opened, did.refusal);
@@ -61,7 +61,7 @@ static int edited(opened *opened, livevec_series_edited did, const char *event, 
     changed(opened, event);
     RedisModule_ReplyWithArray(opened->ctx, 2);
     RedisModule_ReplyWithLongLong(opened->ctx, (long long)did.edit);
-    return RedisModule_ReplyWithLongLong(opened->ctx, tells_value ? did.value : (long long)did.place);
+    return RedisModule_ReplyWithLongLong(opened->ctx, has_reply_value ? did.value : (long long)did.place);
 }
 
 static int edit(words *words, RedisModuleString *name, const struct edit *it)
@@ -75,10 +75,10 @@ static int edit(words *words, RedisModuleString *name, const struct edit *it)
         return 0;
     if (!open_key(words->ctx, name, it->what == LIVEVEC_SWAP ? SERIES_ONLY : ANY_LIST, TO_EDIT, &opened))
         return 0;
-    return edited(&opened, list_edit(opened.list, it->what, (uint64_t)indices[0], (uint64_t)indices[1], value), it->event, it->tells_value);
+    return edited(&opened, list_edit(opened.list, it->what, (uint64_t)indices[0], (uint64_t)indices[1], value), it->event, it->has_reply_value);
 }
 
-/* LV.SET key index x, LV.POP key, LV.SWAP key i j and LV.TRUNCATE key n, told apart by the command's own word */
+/* LV.SET key index x, LV.POP key, LV.SWAP key i j and LV.TRUNCATE key n: the name of the command says which */
 int edit_command(RedisModuleCtx *ctx, RedisModuleString **v, int n)
 {
     words words = {ctx, v + 2, n - 2};
@@ -154,7 +154,7 @@ static int add_sample(RedisModuleCtx *ctx, const sample *sample)
     return RedisModule_ReplyWithLongLong(ctx, sample->replies_time ? sample->time : (long long)did.push.edit);
 }
 
-/* LV.ADD key time|* x [FIRST i]: the last two words are what a master tells its replicas. */
+/* LV.ADD key time|* x [FIRST i]: a master sends the last two words to its replicas. */
 int add_command(RedisModuleCtx *ctx, RedisModuleString **v, int n)
 {
     words words = {ctx, v + 2, n - 2};

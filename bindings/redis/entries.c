@@ -22,25 +22,25 @@ static int too_many(opened *opened)
     return closed(opened);
 }
 
-static void reply_one(RedisModuleCtx *ctx, unsigned kind, const answer *told, bool as_text)
+static void reply_one(RedisModuleCtx *ctx, unsigned kind, const answer *result, bool as_text)
 {
     char text[ANSWER_TEXT];
-    if (told->refusal) {
-        refused(ctx, told->refusal);
+    if (result->refusal) {
+        refused(ctx, result->refusal);
     } else if (as_text) {
-        answer_text(text, kind, told);
+        answer_text(text, kind, result);
         RedisModule_ReplyWithSimpleString(ctx, text);
     } else {
-        reply_answer(ctx, kind, told);
+        reply_answer(ctx, kind, result);
     }
 }
 
 static void reply_sample(RedisModuleCtx *ctx, int64_t time, int64_t value, bool as_text)
 {
-    answer told = {.values.sum = (uint64_t)value};
+    answer result = {.values.sum = (uint64_t)value};
     RedisModule_ReplyWithArray(ctx, 2);
     RedisModule_ReplyWithLongLong(ctx, time);
-    reply_one(ctx, LIVEVEC_SUM, &told, as_text);
+    reply_one(ctx, LIVEVEC_SUM, &result, as_text);
 }
 
 static int reply_elements(opened *opened, const entries *asked, livevec_window in)
@@ -96,10 +96,10 @@ static int reply_buckets(opened *opened, const entries *asked, livevec_window in
         int64_t begin;
         livevec_window bucket = bucket_at(opened->list, at, in.hi, asked->span, &begin);
         bucket.edit = in.edit;
-        answer told = list_answer(opened->list, asked->kind, bucket);
+        answer result = list_answer(opened->list, asked->kind, bucket);
         RedisModule_ReplyWithArray(opened->ctx, 2);
         RedisModule_ReplyWithLongLong(opened->ctx, begin);
-        reply_one(opened->ctx, asked->kind, &told, asked->as_text);
+        reply_one(opened->ctx, asked->kind, &result, asked->as_text);
         at = bucket.hi;
     }
     return closed(opened);
@@ -174,8 +174,8 @@ static int reply_scan(opened *opened, unsigned kind, bool inclusive, livevec_win
     for (uint64_t at = in.lo, length; at < in.hi; at += length) {
         length = list_scan(opened->list, kind, inclusive, in, at, &column, PIECE).length;
         for (uint64_t i = 0; i < length; i++) {
-            answer told = {.count = at + i - in.lo + inclusive, .values = cell(&column, kind, i)};
-            reply_answer(opened->ctx, kind, &told);
+            answer result = {.count = at + i - in.lo + inclusive, .values = cell(&column, kind, i)};
+            reply_answer(opened->ctx, kind, &result);
         }
     }
     return closed(opened);
@@ -197,7 +197,7 @@ int scan_command(RedisModuleCtx *ctx, RedisModuleString **v, int n)
     return in.hi - in.lo > MOST_ENTRIES ? too_many(&opened) : reply_scan(&opened, kind, inclusive, in);
 }
 
-/* Opens samples for the forms of RedisTimeSeries, which has an error for a key that there isn't. */
+/* Opens samples for the forms of RedisTimeSeries, which has an error for a missing key. */
 static bool open_samples(RedisModuleCtx *ctx, RedisModuleString *name, opened *opened)
 {
     RedisModuleKey *key = RedisModule_OpenKey(ctx, name, REDISMODULE_READ);

@@ -10,14 +10,14 @@ __extension__ typedef unsigned __int128 unsigned_wide;
 /* An answer of kind `affine` has two numbers, and of `automaton` eight. */
 enum { STATES = 8 };
 
-/* Watches that are new or were loaded count as told what the list says before its next edit. */
+/* The first note of a watch that is new or was loaded is for a change of the present answer. */
 void arm(opened *opened)
 {
     if (opened->list->watched && !(RedisModule_GetContextFlags(opened->ctx) & REDISMODULE_CTX_FLAGS_LOADING))
         list_arm(opened->list);
 }
 
-/* What becomes of a key that there isn't. */
+/* A missing key is made, or the reply says that it is missing. */
 static bool made(opened *opened, list_sort sort, purpose purpose)
 {
     opened->is_new = purpose == TO_ADD;
@@ -70,8 +70,8 @@ int closed(opened *opened)
 static void publish_note(opened *opened, RedisModuleString *channel, uint64_t edit, const livevec_note *note)
 {
     char value[ANSWER_TEXT];
-    answer told = {.count = note->values.any, .values = note->values};
-    answer_text(value, note->kind, &told);
+    answer result = {.count = note->values.any, .values = note->values};
+    answer_text(value, note->kind, &result);
     RedisModuleString *message = RedisModule_CreateStringPrintf(opened->ctx, "%llu %s %s", (unsigned long long)edit, note->name, value);
     RedisModule_PublishMessage(opened->ctx, channel, message);
     RedisModule_FreeString(opened->ctx, message);

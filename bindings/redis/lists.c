@@ -129,21 +129,21 @@ livevec_window list_bucket(list *list, uint64_t at, int64_t until, uint64_t hi)
     return bucket;
 }
 
-static answer by_one_kind(livevec_series_reduced told)
+static answer by_one_kind(livevec_series_reduced result)
 {
-    return (answer){.refusal = told.refusal, .edit = told.edit, .count = told.values.any, .values = told.values};
+    return (answer){.refusal = result.refusal, .edit = result.edit, .count = result.values.any, .values = result.values};
 }
 
 answer list_answer(list *list, unsigned kind, livevec_window in)
 {
-    answer told = {.refusal = in.refusal, .edit = in.edit, .count = in.hi - in.lo};
-    if (told.refusal || kind == KIND_COUNT)
-        return told;
+    answer result = {.refusal = in.refusal, .edit = in.edit, .count = in.hi - in.lo};
+    if (result.refusal || kind == KIND_COUNT)
+        return result;
     if (kind == KIND_MEAN || kind == KIND_EXACT_SUM) {
         livevec_series_summed summed = livevec_series_exact_sum(series_of(list), in.lo, in.hi);
-        told.refusal = summed.refusal;
-        told.exact = summed.sum;
-        return told;
+        result.refusal = summed.refusal;
+        result.exact = summed.sum;
+        return result;
     }
     return by_one_kind(livevec_series_value(series_of(list), kind, in.lo, in.hi));
 }
@@ -166,9 +166,9 @@ livevec_summarised list_summary(list *list, livevec_window in)
     livevec_series_view lent = livevec_series_lend(series_of(list), in.lo, in.hi);
     if (lent.refusal)
         return (livevec_summarised){.refusal = lent.refusal};
-    livevec_summarised told = livevec_summary_of_elements(lent.elements, lent.length);
+    livevec_summarised result = livevec_summary_of_elements(lent.elements, lent.length);
     livevec_series_give_back(series_of(list));
-    return told;
+    return result;
 }
 
 livevec_summarised summary_join(const livevec_summary *left, const char *bytes, size_t length)

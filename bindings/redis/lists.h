@@ -70,7 +70,8 @@ answer list_value(list *list, unsigned kind, window window);
 livevec_summarised list_summary(list *list, livevec_window in);
 livevec_summarised summary_join(const livevec_summary *left, const char *bytes, size_t length);
 
-/* Watches. `list_watched` is the answer of one now. `list_arm` has each counted as told its present answer, if one is new or was loaded. */
+/* Watches. `list_watched` is the present answer of one. After `list_arm` notes are for changes of the present answers; it does nothing if no watch is
+ * new or was loaded. */
 uint32_t list_watch(list *list, const char *name, size_t length, const livevec_query *query);
 uint32_t list_unwatch(list *list, const char *name, size_t length);
 answer list_watched(list *list, const char *name, size_t length);

@@ -15,7 +15,7 @@ typedef struct words {
     int left;
 } words;
 
-/* Which keys a command takes, and what becomes of one that there isn't: the reply is null, or an error, or a list is made for it. */
+/* Which keys a command takes, and what it does about a missing one: it replies null, or an error, or makes a list. */
 typedef enum { ANY_LIST, SERIES_ONLY, SAMPLES_ONLY } list_sort;
 typedef enum { TO_READ, TO_EDIT, TO_ADD } purpose;
 

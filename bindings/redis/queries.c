@@ -1,4 +1,4 @@
-/* The commands that ask a key. They change no answer: at most trees are made, in memory that MEMORY USAGE tells. */
+/* The commands that ask a key. They change no answer: at most trees are made, in memory that MEMORY USAGE counts. */
 #include "module.h"
 
 static int reply_value(RedisModuleCtx *ctx, RedisModuleString *name, unsigned kind, window window)
@@ -6,12 +6,12 @@ static int reply_value(RedisModuleCtx *ctx, RedisModuleString *name, unsigned ki
     opened opened;
     if (!open_key(ctx, name, sort_of(window), TO_READ, &opened))
         return 0;
-    answer told = list_value(opened.list, kind, window);
-    if (told.refusal)
-        return refused_at(&opened, told.refusal);
+    answer result = list_value(opened.list, kind, window);
+    if (result.refusal)
+        return refused_at(&opened, result.refusal);
     RedisModule_ReplyWithArray(ctx, 2);
-    RedisModule_ReplyWithLongLong(ctx, (long long)told.edit);
-    reply_answer(ctx, kind, &told);
+    RedisModule_ReplyWithLongLong(ctx, (long long)result.edit);
+    reply_answer(ctx, kind, &result);
     return closed(&opened);
 }
 
@@ -142,10 +142,10 @@ int summary_command(RedisModuleCtx *ctx, RedisModuleString **v, int n)
     livevec_window range;
     if (!take_window(&words, &window) || !no_more(&words) || !open_range(ctx, v[1], window, &opened, &range))
         return 0;
-    livevec_summarised told = list_summary(opened.list, range);
-    if (told.refusal)
-        return refused_at(&opened, told.refusal);
-    reply_summary(ctx, &told.summary);
+    livevec_summarised result = list_summary(opened.list, range);
+    if (result.refusal)
+        return refused_at(&opened, result.refusal);
+    reply_summary(ctx, &result.summary);
     return closed(&opened);
 }
 
@@ -159,13 +159,13 @@ int combine_command(RedisModuleCtx *ctx, RedisModuleString **v, int n)
         all = summary_join(&all.summary, bytes, length);
     }
     livevec_opened opened = summary_values(&all.summary);
-    answer told = {.count = opened.count, .values = opened.values};
+    answer result = {.count = opened.count, .values = opened.values};
     if (all.refusal || opened.refusal)
         return refused(ctx, all.refusal ? all.refusal : opened.refusal);
     RedisModule_ReplyWithMap(ctx, LIVEVEC_ALL_SIX + 2);
     for (unsigned kind = LIVEVEC_SUM; kind <= KIND_COUNT; kind++) {
         RedisModule_ReplyWithCString(ctx, kind_name(kind));
-        reply_answer(ctx, kind, &told);
+        reply_answer(ctx, kind, &result);
     }
     RedisModule_ReplyWithCString(ctx, "summary");
     return reply_summary(ctx, &all.summary);

@@ -97,18 +97,18 @@ class Server:
 def asked(client, *words):
     """A command's reply, or the first word of its error behind a `!`; of an `ERR` all words."""
     try:
-        return told(client.execute_command(*words))
+        return shown(client.execute_command(*words))
     except redis.ResponseError as error:
-        return told(error)
+        return shown(error)
 
 
-def told(reply):
+def shown(reply):
     """A reply with errors as words and bytes as text where they are some."""
     if isinstance(reply, redis.ResponseError):
         text = str(reply)
         return "!" + (text.split()[0] if re.match(r"(LV\d+|[A-Z]+) ", text) else text)
     if isinstance(reply, list):
-        return [told(it) for it in reply]
+        return [shown(it) for it in reply]
     if isinstance(reply, bytes):
         try:
             return reply.decode()

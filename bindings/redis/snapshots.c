@@ -65,7 +65,7 @@ static uint32_t load_watches(RedisModuleIO *io, list *list)
     return refusal;
 }
 
-/* Pieces come until as many bytes are there as were told, and none of them is empty. */
+/* Pieces come until all bytes are there whose number came first, and none of them is empty. */
 static uint32_t load_elements(RedisModuleIO *io, list *list)
 {
     uint64_t left = RedisModule_LoadUnsigned(io);

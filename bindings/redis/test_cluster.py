@@ -20,14 +20,14 @@ def begun():
             client = node.client()
             client.execute_command("CLUSTER", "ADDSLOTSRANGE", 16384 * number // 3, 16384 * (number + 1) // 3 - 1)
             client.execute_command("CLUSTER", "MEET", "127.0.0.1", nodes[0].port)
-        waited_for(lambda: all(b"cluster_state:ok" in told(it) and b"cluster_known_nodes:3" in told(it) for it in nodes), "the cluster")
+        waited_for(lambda: all(b"cluster_state:ok" in state_of(it) and b"cluster_known_nodes:3" in state_of(it) for it in nodes), "the cluster")
         return nodes
     except BaseException:
         ended(nodes)
         raise
 
 
-def told(node):
+def state_of(node):
     """What a node says of its cluster."""
     client = node.client()
     client.response_callbacks.clear()
@@ -79,10 +79,10 @@ class Cluster(unittest.TestCase):
                 self.client.execute_command("LV.POP", key)
             summaries.append(self.client.execute_command("LV.SUMMARY", key))
         plain = self.nodes[2].client()
-        told = plain.execute_command("LV.COMBINE", *summaries)
-        told = dict(zip((it.decode() for it in told[::2]), told[1::2]))
-        self.assertEqual({kind: told[kind] for kind in KINDS}, {kind: value(kind, elements) for kind in KINDS})
-        self.assertEqual((told["count"], len(told["summary"])), (len(elements), 184))
+        combined = plain.execute_command("LV.COMBINE", *summaries)
+        combined = dict(zip((it.decode() for it in combined[::2]), combined[1::2]))
+        self.assertEqual({kind: combined[kind] for kind in KINDS}, {kind: value(kind, elements) for kind in KINDS})
+        self.assertEqual((combined["count"], len(combined["summary"])), (len(elements), 184))
         pairs = [dict(zip(it[::2], it[1::2]))[b"summary"] for it in (plain.execute_command("LV.COMBINE", *summaries[:4]), plain.execute_command("LV.COMBINE", *summaries[4:]))]
         self.assertEqual(plain.execute_command("LV.COMBINE", *pairs), plain.execute_command("LV.COMBINE", *summaries))
         damaged = summaries[5][:50] + bytes([summaries[5][50] ^ 4]) + summaries[5][51:]
@@ -104,7 +104,7 @@ class Cluster(unittest.TestCase):
 
     def test_notes_reach_each_node_once(self):
         nodes = [*self.nodes, self.replica_of("noted")]
-        waited_for(lambda: all(b"cluster_known_nodes:4" in told(it) for it in nodes), "the fourth node")
+        waited_for(lambda: all(b"cluster_known_nodes:4" in state_of(it) for it in nodes), "the fourth node")
         listeners = [it.client().pubsub() for it in nodes]
         for listener in listeners:
             listener.subscribe("livevec:noted")

@@ -1,4 +1,4 @@
-"""Each command of the module for Redis beside a plain list, through redis-py and redis-cli; and how words and keys that it can't take are refused."""
+"""Each command of the module for Redis compared with a plain list, through redis-py and redis-cli; and how words and keys that it can't take are refused."""
 import math
 import os
 import random
@@ -78,7 +78,7 @@ class Session:
         self.check(call(*words[1:]), *words)
 
     def asks(self, wanted, *words):
-        """A key that there isn't yet is asked about with a null for an answer."""
+        """The reply about a missing key is null."""
         self.check(wanted if self.list.edits else None, *words)
 
     def value(self):
@@ -108,10 +108,10 @@ class Session:
         for _ in range(self.random.randrange(10, 60)):
             self.random.choice(self.commands)()
         if self.list.edits:
-            told = asked(self.client, "LV.INFO", self.key)
-            told = dict(zip(told[::2], told[1::2]))
+            info = asked(self.client, "LV.INFO", self.key)
+            info = dict(zip(info[::2], info[1::2]))
             wanted = {"form": "samples" if self.list.has_times else "series", "first": self.list.first, "size": self.list.size, "edits": self.list.edits, "retention": self.list.retention}
-            self.test.assertEqual({name: told[name] for name in wanted}, wanted)
+            self.test.assertEqual({name: info[name] for name in wanted}, wanted)
 
 
 class Commands(unittest.TestCase):

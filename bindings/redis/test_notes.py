@@ -14,11 +14,11 @@ def in_words(answer):
 
 
 class Watched:
-    """What is told by plain loops of the watches of a list."""
+    """The notes that are due of a list, by plain loops."""
 
     def __init__(self, plain):
         self.list = plain
-        self.told = {name: self.sees(name) for name in self.names()}
+        self.last = {name: self.sees(name) for name in self.names()}
 
     def names(self):
         return [it[0] for it in WATCHES + BOUNDED]
@@ -40,14 +40,14 @@ class Watched:
     def notes(self):
         """The notes that are due after an edit, in the order in which watches were made."""
         now = {name: self.sees(name) for name in self.names()}
-        due = [f"{self.list.edits} {name} {in_words(now[name][0])}" for name in self.names() if now[name][1] != self.told[name][1]]
-        self.told = now
+        due = [f"{self.list.edits} {name} {in_words(now[name][0])}" for name in self.names() if now[name][1] != self.last[name][1]]
+        self.last = now
         return due
 
 
 class Notes(unittest.TestCase):
     def begun(self, client, key):
-        """A list with elements, its plain twin, and watches that are told its answers now."""
+        """A list with elements, its plain twin, and watches whose replies are its present answers."""
         plain = PlainList(False)
         plain.push(5, -3, 8)
         client.execute_command("LV.PUSH", key, 5, -3, 8)

@@ -1,4 +1,4 @@
-"""What a store owes: keys survive snapshots, the append-only file, kills and copies, replicas have the same, memory is told truly, and damage is refused."""
+"""What a store owes: keys survive snapshots, the append-only file, kills and copies, replicas have the same, memory is counted, and damage is refused."""
 import os
 import random
 import signal
@@ -71,22 +71,22 @@ class Stored(unittest.TestCase):
             self.kept_over("--appendonly", "yes", "--aof-use-rdb-preamble", preamble, change=self.rewritten)
 
     def test_kills(self):
-        """What was told of is there after a kill, and at most one edit more."""
+        """Each edit that was replied to is there after a kill, and at most one more."""
         with Server("--appendonly", "yes", "--appendfsync", "always") as server:
-            told = 0
+            replied = 0
             for kill in range(KILLS):
                 client = server.client()
                 threading.Timer(random.Random(kill).uniform(0.01, 0.25), server.process.send_signal, (signal.SIGKILL,)).start()
                 try:
                     while True:
-                        told = client.execute_command("LV.ADD", "k", told, told)
+                        replied = client.execute_command("LV.ADD", "k", replied, replied)
                 except redis.ConnectionError:
                     server.process.wait()
                 client = server.start().client()
                 size = (asked(client, "LV.VALUE", "k", "count") or [0, 0])[1]
-                self.assertIn(size - told, (0, 1))
+                self.assertIn(size - replied, (0, 1))
                 self.assertEqual(asked(client, "LV.VALUE", "k", "exactsum") or [0, 0], [size, size * (size - 1) // 2])
-                told = size
+                replied = size
 
     def test_a_replica(self):
         with Server(port=free_port()) as master:
@@ -152,7 +152,7 @@ class Stored(unittest.TestCase):
             snapshot.write_bytes(whole)
             self.assertEqual(asked(server.start().client(), "LV.VALUE", "k", "count"), [100, 100])
 
-    def test_memory_is_told_truly(self):
+    def test_memory_is_counted(self):
         with Server() as server:
             client = server.client()
             client.execute_command("LV.PUSH", "small", 1)
@@ -164,9 +164,9 @@ class Stored(unittest.TestCase):
             pipe.execute()
             for kind in ("sum", "max", "best"):
                 client.execute_command("LV.VALUE", "k", kind)
-            told, grown = client.memory_usage("k"), used() - before
-            self.assertLess(abs(told - grown), 0.05 * grown + 2**17)
-            self.assertGreater(told, 8 * 2**18)
+            counted, grown = client.memory_usage("k"), used() - before
+            self.assertLess(abs(counted - grown), 0.05 * grown + 2**17)
+            self.assertGreater(counted, 8 * 2**18)
             client.unlink("k")
             waited_for(lambda: used() - before < 2**18, "memory that was given back")
 
