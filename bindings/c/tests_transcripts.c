@@ -165,6 +165,9 @@ static void audits(void)
     front_is("livevec 1\nj push 5\na 1 sum 0 1 5\nj push 6\na 2 sum 0 2 11\na 2 least 0 2 5\nend\n", LIVEVEC_YES, 0, 2, 3);
     front_is("livevec 1\nj push 5\na 1 sum 0 1 6\nj push 6\n", LIVEVEC_NO, 3, 0, 0);
     front_is("livevec 1\nend\nend\n", LIVEVEC_BAD, 3, 0, 0);
+    /* lines of a log end in checksums, which tools/seals.py works out too */
+    front_is("livevec 3 0 0 3048bf0ec06edf22\nj push 5 103746d1d7a0d433\nj pop 6682bbb128f05428\n", LIVEVEC_YES, 0, 2, 0);
+    front_is("livevec 3 0 0 3048bf0ec06edf22\nj push 6 103746d1d7a0d433\nj pop 6682bbb128f05428\n", LIVEVEC_BAD, 2, 0, 0);
     IS(livevec_audit_front(NULL, 1).refusal, LIVEVEC_NULL);
 }
 

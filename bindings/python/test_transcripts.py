@@ -86,6 +86,13 @@ class Audits(unittest.TestCase):
         self.assertEqual(audit_front("livevec 1\nj push 5\na 1 sum 0 1 6\nj push 6\n"), Verdict("no", 3))
         self.assertEqual(audit_front(bytearray(b"livevec 1\nend\nend\n")), Verdict("bad", 3))
 
+    def test_checksums_of_a_log(self) -> None:
+        log = "livevec 3 0 0 3048bf0ec06edf22\nj push 5 103746d1d7a0d433\nj pop 6682bbb128f05428\n"
+        self.assertEqual(audit_front(log), Verdict("yes", 0, 2))
+        self.assertEqual(restore(log).edits, 2)
+        self.assertEqual(audit_front(log.replace("push 5", "push 6")), Verdict("bad", 2))
+        self.assertEqual(audit_front(log.replace("j push 5 103746d1d7a0d433\n", "")), Verdict("bad", 2))
+
 
 class Restores(unittest.TestCase):
     def test_goes_on(self) -> None:

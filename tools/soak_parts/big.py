@@ -4,6 +4,7 @@ import random
 import shutil
 import time
 
+import seals
 from soak_parts.paced import Paced
 from soak_parts.program import KINDS, PROGRAM, SEED, knob, measured, put, stop, value, whole_lines
 
@@ -27,17 +28,17 @@ def edited(dice, elements, count):
         if roll < 0.6:
             i, x = int(dice.random() * size), dice.getrandbits(64) - 2**63
             elements[i] = x
-            lines.append(f"j write {i} {x}\n")
+            lines.append(f"j write {i} {x}")
         elif roll < 0.8:
             i, k = int(dice.random() * size), int(dice.random() * size)
             elements[i], elements[k] = elements[k], elements[i]
-            lines.append(f"j swap {i} {k}\n")
+            lines.append(f"j swap {i} {k}")
         elif roll < 0.9 or size < ELEMENTS // 2:
             elements.append(dice.getrandbits(64) - 2**63)
-            lines.append(f"j push {elements[-1]}\n")
+            lines.append(f"j push {elements[-1]}")
         else:
             elements.pop()
-            lines.append("j pop\n")
+            lines.append("j pop")
     return lines
 
 
@@ -47,50 +48,60 @@ def answered(dice, elements, edit):
     for _ in range(600):
         kind, low = dice.choice(KINDS), dice.randrange(len(elements) - 3000)
         high = low + dice.randrange(3000)
-        lines.append(f"a {edit} {kind} {low} {high} {value(kind, elements[low:high])}\n")
+        lines.append(f"a {edit} {kind} {low} {high} {value(kind, elements[low:high])}")
     return lines
+
+
+class Sealed:
+    """A log that is made: its lines get their seals, and what bytes it has is counted."""
+
+    def __init__(self, file):
+        self.file, self.last, self.bytes = file, None, 0
+
+    def write(self, lines):
+        for self.last in seals.sealed(lines, self.last):
+            self.file.write(self.last + "\n")
+            self.bytes += len(self.last) + 1
 
 
 def made(path):
     """Makes the log, and says how many updates behind its elements, answers and lines it has, and the elements."""
     dice, elements = random.Random(SEED), []
     edit = answers = 0
-    with open(path, "w", buffering=1 << 20) as log:
-        log.write(f"livevec 2 {BASE} {ELEMENTS}\n")
+    with open(path, "w", buffering=1 << 20) as file:
+        log = Sealed(file)
+        log.write([f"livevec 3 {BASE} {ELEMENTS}"])
         for _ in range(ELEMENTS):
             elements.append(dice.getrandbits(64) - 2**63)
-        log.writelines(f"j push {x}\n" for x in elements)
-        edit, left = ELEMENTS, BYTES - log.tell()
+        log.write(f"j push {x}" for x in elements)
+        edit = ELEMENTS
         for turn in range(ROUNDS):
             lines = edited(dice, elements, (EDITS - ELEMENTS) // ROUNDS)
             edit += len(lines)
-            log.writelines(lines)
-            left -= sum(map(len, lines))
+            log.write(lines)
             some = answered(dice, elements, edit)
-            size = sum(map(len, some))
-            # updates of later rounds take some 27 bytes each
-            share = (left - (EDITS - edit) * 27) // (ROUNDS - turn) // size
-            log.write("".join(some) * share)
-            answers, left = answers + len(some) * share, left - size * share
-        while left > 0:
-            log.write(some[answers % len(some)])
-            left -= len(some[answers % len(some)])
+            size = sum(len(line) + seals.WIDTH + 1 for line in some)
+            # updates of later rounds take some 44 bytes each
+            share = (BYTES - log.bytes - (EDITS - edit) * 44) // (ROUNDS - turn) // size
+            log.write(some * share)
+            answers += len(some) * share
+        while log.bytes < BYTES:
+            log.write([some[answers % len(some)]])
             answers += 1
     return edit - ELEMENTS, answers, elements
 
 
 def damaged(path, dice):
-    """Makes a byte of an answer in the last megabyte another one, so that the line is false or misspelt. Says where it is and what it was, and how many lines
-    there are from that one on."""
+    """Flips a bit of an answer in the last megabyte, or of its seal. Says where it is and what the byte was, and how many lines there are from that one on."""
     at = max(os.path.getsize(path) - (1 << 20) + dice.randrange(1 << 19), 0)
     with open(path, "r+b") as log:
         log.seek(at)
         behind = log.read()
         begin = behind.index(b"\na ") + 1
-        place = dice.choice((begin, behind.index(b"\n", begin) - 1))
+        place = dice.randrange(begin, behind.index(b"\n", begin))
         old = behind[place:place + 1]
         log.seek(at + place)
-        log.write(b"b" if place == begin else b"1" if old != b"1" else b"2")
+        log.write(bytes([old[0] ^ 1]))
     return at + place, old, behind[begin:].count(b"\n")
 
 
@@ -114,7 +125,7 @@ def told_of_damage(room, log, lines, dice):
         at, old, behind = damaged(log, dice)
         line, before = lines - behind + 1, state(room, log)
         printed, said, status, took = taken(words, room, asked)
-        is_told = printed in (f"no {line}\n", f"bad {line}\n") and not said if asked == log else f"line {line} " in said and "livevec: fault 13\n" in said
+        is_told = printed == f"bad {line}\n" and not said if asked == log else f"line {line} " in said and "livevec: fault 13\n" in said
         if status != 1 or not is_told or state(room, log) != before:
             stop(f"{words} of a log with line {line} damaged: status {status}, {printed!r}, {said!r}")
         mended(log, at, old)
@@ -164,7 +175,8 @@ def big(room):
     if printed != f"compacted '{log}': {last} base {len(elements)} elements, what it was is dropped\n" or status or said:
         stop(f"compact ended with {status}, {printed!r}, {said!r}")
     with open(log) as kept:
-        if next(kept) != f"livevec 2 {last} {len(elements)}\n" or any(line != f"j push {x}\n" for line, x in zip(kept, elements, strict=True)):
+        wanted = seals.sealed([f"livevec 3 {last} {len(elements)}", *(f"j push {x}" for x in elements)])
+        if any(line != f"{other}\n" for line, other in zip(kept, wanted, strict=True)):
             stop("a compacted log hasn't the elements of a plain list")
     print(f"big: compact: {took}; {os.path.getsize(log)} bytes remain, with each of {len(elements)} elements", flush=True)
     gone_on(room, log, ["serve", "--sync"], last, elements)

@@ -5,22 +5,36 @@ import signal
 import subprocess
 import time
 
+import seals
 from soak_parts.program import PROGRAM, SEED, but_start, knob, made_by, put, session, stop, told, whole_lines
 
 KILLS = knob("SOAK_KILLS", 100)
+# of so many lines at each end of a log the seals are looked at; that `audit --front` accepts a log shows them all to be what the program takes for right
+CHECKED = 1000
 SIGNALS = (signal.SIGKILL, signal.SIGTERM, signal.SIGINT)
 QUERIES = "".join(f"watch {kind} {kind} last 50\n" for kind in ("sum", "least", "greatest", "best")) + "watch all sum 0 1000000\n"
 
 
+def unsealed(path):
+    """The whole lines of a log without their seals, which only version 3 has."""
+    lines = whole_lines(path)
+    if not lines or not lines[0].startswith("livevec 3 "):
+        return lines
+    begin = max(len(lines) - CHECKED, 1)
+    if seals.first_wrong(lines[:CHECKED]) or seals.first_wrong(lines[begin:], lines[begin - 1]):
+        stop(f"{path} has a line with a wrong seal, among its first or its last {CHECKED}")
+    return [line[:-seals.WIDTH] for line in lines]
+
+
 class Log:
-    """What a log has: its base, how many of its updates are elements, its updates, and its answers."""
+    """What a log has: its version, its base, how many of its updates are elements, its updates, and its answers."""
 
     def __init__(self, path):
-        lines = whole_lines(path)
-        words = lines[0].split() if lines else ["livevec", "2", "0", "0"]
-        if words[:2] != ["livevec", "2"]:
+        lines = unsealed(path)
+        words = lines[0].split() if lines else ["livevec", "3", "0", "0"]
+        if words[0] != "livevec" or words[1] not in ("2", "3"):
             stop(f"{path} begins with {lines[0]!r}")
-        self.base, self.elements = int(words[2]), int(words[3])
+        self.version, self.base, self.elements = map(int, words[1:])
         self.edits = [line[2:] for line in lines if line.startswith("j ")]
         self.answers = sum(line.startswith("a ") for line in lines)
 

@@ -31,7 +31,7 @@ def ran(words, folder=None, data=None, seconds=600, **more):
         stop(f"{words} has not ended after {seconds} s")
 
 
-STARTS = re.compile(rb"livevec: (makes '.*'|goes on with '.*': \d+ updates in all, \d+ elements)\n")
+STARTS = re.compile(rb"livevec: (makes '.*'|goes on with '.*': \d+ updates in all, \d+ elements|'.*' was a log of version 2, and was made anew .*|'.*' stays a log of version 2, .*)\n")
 
 
 def but_start(said):

@@ -6,6 +6,7 @@ import subprocess
 import time
 from array import array
 
+import seals
 from soak_parts.cut_off import KILLS
 from soak_parts.logs import MADE, QUERIES, SIGNALS, Log, check_end, check_log
 from soak_parts.program import PROGRAM, SEED, but_start, knob, make, put, ran, session, stop, whole_lines
@@ -125,10 +126,10 @@ def check_worn(room, names, by, last):
         make(elements, next(lines[number - 1]))
     kept = array("q")
     with open(f"{room}/log") as file:
-        _, _, base, count = next(file).split()
+        _, _, base, count, _ = next(file).split()
         edits = 0
         for line in file:
-            make(kept, line[2:])
+            make(kept, line[2:-seals.WIDTH - 1])
             edits += 1
     if int(base) + edits - int(count) != last or int(base) == 0 and last > 16777215:
         stop(f"the log begins with {base} and {count}, has {edits} updates, and {last} were made")

@@ -5,22 +5,24 @@ import shutil
 import signal
 from concurrent.futures import ProcessPoolExecutor
 
+import seals
 from soak_parts.logs import Log, check_log
 from soak_parts.program import but_start, failing, library, put, ran, stop
 from soak_parts.swapped import swapped
 
 # for failing_writes.c: the program is killed before the call
 KILLED = -3
-LOG = "livevec 2 40 2\n" + "".join(f"j {edit}\n" for edit in ("push 5", "push -6", "push 7", "swap 0 2", "write 1 9", "pop", "push 8"))
-# what may lie beside a log: an older one, what a killed compaction left, and an end that isn't whole
-PLACES = ("alone", "kept", "linked", "compacting", "torn")
+OLD = "livevec 2 40 2\n" + "".join(f"j {edit}\n" for edit in ("push 5", "push -6", "push 7", "swap 0 2", "write 1 9", "pop", "push 8"))
+LOG = seals.seal(OLD)
+# what may be next to a log: an older one, what a killed compaction left, and an end that isn't whole; or the log is one of version 2
+PLACES = ("alone", "kept", "linked", "compacting", "torn", "old")
 COMMANDS = (["compact", "log"], ["compact", "--drop-old", "log"], ["serve", "--sync", "--log", "log", "session"])
 
 
 def prepare(folder, place):
     """A folder with a log, and with what lies beside it."""
     os.mkdir(folder)
-    put(LOG + "j push 12" * (place == "torn"), f"{folder}/log")
+    put(OLD if place == "old" else LOG + "j push 12" * (place == "torn"), f"{folder}/log")
     for name, count in (("session", 3), ("second", 2)):
         put("push 1\n" * count, f"{folder}/{name}")
     if place == "kept":

@@ -6,14 +6,16 @@ import shutil
 import subprocess
 import time
 
+import seals
 from soak_parts.logs import check_log
 from soak_parts.paced import Paced
 from soak_parts.program import PROGRAM, failing, put, ran, stop, text_at
 
 # for failing_writes.c: nothing goes wrong
 PASSES = -4
-LOG = "livevec 2 0 0\nj push 5\nj push 6\nj pop\n"
-OTHER = "livevec 2 7 1\nj push 777\n"
+TEXT = "livevec 3 0 0\nj push 5\nj push 6\nj pop\n"
+LOG, LONGER, OTHER = seals.seal(TEXT), seals.seal(TEXT + "j push 1\n"), seals.seal("livevec 3 7 1\nj push 777\n")
+ONE, TWO = (seals.seal("livevec 3 0 0\n" + pushes) for pushes in ("j push 1\n", "j push 1\nj push 2\n"))
 LOST = b"livevec: 'log' can't be written, and no session goes on: this name no longer leads to the log\n"
 COMPACT, DROP = ["compact", "log"], ["compact", "--drop-old", "log"]
 SERVE, SERVE_DROP = (["serve", *more, "--compact-at", "1", "--log", "log", "session"] for more in ([], ["--drop-old"]))
@@ -52,7 +54,7 @@ def swap(room, words, runs, name, wanted):
         stop(f"{words}, meanwhile `{runs}`: status {it.returncode}, {it.stdout!r}, {it.stderr!r}")
     if text_at(f"{folder}/{name}") != wanted or name == "log" and os.path.lexists(f"{folder}/log.compacting") or os.path.islink(f"{folder}/log") != runs.startswith("ln"):
         stop(f"{words}, meanwhile `{runs}`: {name} has {text_at(f'{folder}/{name}')!r}, beside {os.listdir(folder)}")
-    if name != "log" and text_at(f"{folder}/log") != LOG + "j push 1\n" * served:
+    if name != "log" and text_at(f"{folder}/log") != (LONGER if served else LOG):
         stop(f"{words}, meanwhile `{runs}`: the log has {text_at(f'{folder}/log')!r}")
     shutil.rmtree(folder)
 
@@ -65,14 +67,14 @@ def begun_by_another(room):
     shutil.copy(f"{folder}/session", f"{folder}/second")
     it = meanwhile(room, folder, ["serve", "--log", "log", "session"], "unlink", 1, f"{{ {PROGRAM} serve --drop-old --log log second; echo $? > status; }}")
     status = text_at(f"{folder}/status")
-    if it.returncode != 2 or status == "0\n" and text_at(f"{folder}/log") != "livevec 2 0 0\nj push 1\n" or status == "2\n" and os.path.exists(f"{folder}/log"):
+    if it.returncode != 2 or status == "0\n" and text_at(f"{folder}/log") != ONE or status == "2\n" and os.path.exists(f"{folder}/log"):
         stop(f"a log that is removed was served meanwhile: status {it.returncode} and {status!r}, {it.stderr!r}, {os.listdir(folder)}")
     shutil.rmtree(folder)
 
 
 def served_before_the_lock(room):
     """A server makes a log, which another serves and ends before the first has locked it. The first can't begin, and the log stays; or it is to be a transcript, and is emptied."""
-    for words, status, wanted in ((["--log"], 2, "livevec 2 0 0\nj push 1\nj push 2\n"), (["--transcript"], 0, "livevec 1\nj push 1\nend\n")):
+    for words, status, wanted in ((["--log"], 2, TWO), (["--transcript"], 0, "livevec 1\nj push 1\nend\n")):
         folder = folder_of(room, "before")
         os.remove(f"{folder}/log")
         os.mkdir(f"{folder}/log.1")
@@ -97,7 +99,7 @@ def unflushed(room):
     """The folder can't be flushed once the new log has its name: that it has is told."""
     folder = folder_of(room, "unflushed")
     it = meanwhile(room, folder, COMPACT, "fsync", 2, ":", errno.EIO)
-    if it.returncode != 1 or b"'log' was made anew, but its folder can't be flushed to the disk" not in it.stderr or text_at(f"{folder}/log") != "livevec 2 3 1\nj push 5\n":
+    if it.returncode != 1 or b"'log' was made anew, but its folder can't be flushed to the disk" not in it.stderr or text_at(f"{folder}/log") != seals.seal("livevec 3 3 1\nj push 5\n"):
         stop(f"a folder that can't be flushed: status {it.returncode}, {it.stderr!r}, {text_at(f'{folder}/log')!r}")
     shutil.rmtree(folder)
     # with --sync a transcript's name is on the disk too: its folder is what is flushed by this call
@@ -139,7 +141,7 @@ def written_since(room, words):
         second = ran(["serve", "--log", "session.out", "second"], folder)
         os.close(os.open(f"{folder}/later", os.O_RDWR))
         told, said = first.communicate(timeout=600)
-    if second.returncode or first.returncode != 2 or told or b"error: 'session.out' was made here, and another program has written to it since: rename one of the two\n" not in said or text_at(f"{folder}/session.out") != "livevec 2 0 0\nj push 1\n":
+    if second.returncode or first.returncode != 2 or told or b"error: 'session.out' was made here, and another program has written to it since: rename one of the two\n" not in said or text_at(f"{folder}/session.out") != ONE:
         stop(f"{words}, replies that another has written: status {second.returncode} and {first.returncode}, {told!r}, {said!r}, {text_at(f'{folder}/session.out')!r}")
     if sorted(os.listdir(folder)) != ["later", "log", "other", "second", "second.out", "session", "session.out"] or text_at(f"{folder}/log") != LOG:
         stop(f"{words}, replies that another has written: {os.listdir(folder)}, {text_at(f'{folder}/log')!r}")

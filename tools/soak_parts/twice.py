@@ -4,6 +4,7 @@ import random
 import subprocess
 import time
 
+import seals
 from soak_parts.logs import Log, check_log
 from soak_parts.paced import Paced
 from soak_parts.program import PROGRAM, ROUNDS, SEED, but_start, put, ran, receipts, session, stop
@@ -89,10 +90,11 @@ def beside_its_log(folder, name, tries):
     """A server has the file that another log's old or new file would take: that log isn't made anew, neither by its own server nor otherwise, and each update
     of the first is there. Says how long others took until they were turned away."""
     os.makedirs(f"{folder}/deep")
-    for place, text in (("x", "livevec 2 0 0\n"), (f"x.{name}", "livevec 2 0 0\n"), ("third", "push 3\n")):
+    empty = seals.seal("livevec 3 0 0\n")
+    for place, text in (("x", empty), (f"x.{name}", empty), ("third", "push 3\n")):
         put(text, f"{folder}/{place}")
     log, beside, told = f"{folder}/x", f"{folder}/x.{name}", 0
-    own = Paced([PROGRAM, "serve", "--compact-at", "60", "--log", log, f"{folder}/first"], folder, [f"{folder}/first"])
+    own = Paced([PROGRAM, "serve", "--compact-at", "100", "--log", log, f"{folder}/first"], folder, [f"{folder}/first"])
     # it has looked beside its log before another server comes
     if not own.turn([["push 1"]]):
         stop(f"the server beside whose log x.{name} is to be served said {open(own.said).read()!r}")
