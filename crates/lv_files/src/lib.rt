@@ -19,6 +19,7 @@ mod program_error;
 mod store_compaction;
 mod store_file;
 mod stored_log;
+mod stream_end;
 mod waited;
 
 pub use announced_file::AnnouncedFile;
@@ -35,4 +36,5 @@ pub use program_error::{ErrorText, Left, ProgramError, Reason};
 pub use store_compaction::{Compacted, compact_file};
 pub use store_file::{StartedLog, StoreFile, lasts};
 pub use stored_log::{LogPlan, StoredLog};
+pub use stream_end::StreamEnd;
 pub use waited::Waited;
