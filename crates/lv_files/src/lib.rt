@@ -5,6 +5,7 @@
 #![tactic(auto)]
 
 mod announced_file;
+mod client_file;
 mod escaped;
 mod folders;
 mod identity;
@@ -23,9 +24,10 @@ mod stream_end;
 mod waited;
 
 pub use announced_file::AnnouncedFile;
+pub use client_file::{ClientFile, PipeFolder};
 pub use escaped::{Escaped, EscapedBytes, is_shown};
 pub use folders::{Found, sync_folder};
-pub use identity::{Identity, is_written, null_files, standard_files};
+pub use identity::{Identity, NULL, is_written, null_files, pipe_at, standard_files};
 pub use input_file::open_input;
 pub use log_file::{LogFile, names_of, open_locked};
 pub use log_places::{LogFolder, LogPlaces};
