@@ -1,12 +1,12 @@
 -- What a stream hands on behind its own bytes is as they end.
-use Rattle.std.proofs.Common.{◌≡◌, ◌<◌, ℕ, suc, ◌+◌, ◌-◌, ◌==◌, Bool, true, false, not, List, [], ◌∷◌, ◌++◌, length, nat_eq, nat_lt, Option, Some, None, refl, sym, ap, ◌∙◌, inl, inr, arith, append_assoc}
+use Rattle.std.proofs.Common.{◌≡◌, ℕ, suc, ◌-◌, ◌==◌, Bool, true, false, not, List, [], ◌∷◌, ◌++◌, length, nat_eq, nat_lt, Option, Some, None, refl, sym, ap, ◌∙◌, inl, inr, arith, append_assoc}
 use Rattle.std.proofs.lemmas.Bool.{cases_Bool, eqb-true, lt-ltb, ltb-true}
 use Rattle.std.specs.Io.KnownBytes.{Consumes}
 use Rattle.std.specs.List.{slice_get}
 use Rattle.lv_lines.specs.declared.lines.Line.TheVariants.{Bad}
 use Rattle.lv_lines.specs.Grammar.{line_by, line_of}
 use Rattle.lv_lines.specs.Input.{has_end, lines_of}
-use Rattle.lv_files.specs.StreamEnds.{MakesBad, ends_within, mark_behind, with_mark}
+use Rattle.lv_files.specs.StreamEnds.{MakesBad, ends_within, with_mark}
 
 -- bytes behind others end as they do behind what these end as
 ends_within-append : (begun : Bool) (xs ys : List ℕ) → ends_within begun (xs ++ ys) ≡ ends_within (ends_within begun xs) ys

@@ -1,5 +1,5 @@
 -- What a stream of lines hands on at its end, behind its own bytes.
-use Rattle.std.specs.Prelude.{◌≡◌, ℕ, Bool, true, false, not, ◌==◌, if◌then◌else◌, List, [], ◌∷◌, ◌++◌, Option, option_map}
+use Rattle.std.specs.Prelude.{◌≡◌, ℕ, Bool, false, not, ◌==◌, if◌then◌else◌, List, [], ◌∷◌, ◌++◌, Option, option_map}
 use Rattle.lv_files.specs.declared.stream_end.StreamEnd.{StreamEnd}
 use Rattle.lv_lines.specs.declared.lines.Line.TheVariants.{Bad}
 use Rattle.lv_lines.specs.Grammar.{line_of}
