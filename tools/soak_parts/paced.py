@@ -11,6 +11,8 @@ class Paced:
     A reply, an error or an end that hasn't come after the longest wait, in seconds, is the failure."""
 
     def __init__(self, words, folder, names, env=None, longest=60):
+        # a session ends with its client here, also where the server goes on from a log
+        words = [*words[:2], "--once", *words[2:]] if "--log" in words else words
         self.longest, self.names, self.said, self.printed = longest, names, f"{folder}/said", f"{folder}/printed"
         self.outs, self.sent, self.counts = ([it] * len(names) for it in (None, 0, 0))
         for name in names:

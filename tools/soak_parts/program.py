@@ -31,11 +31,11 @@ def ran(words, folder=None, data=None, seconds=600, **more):
         stop(f"{words} has not ended after {seconds} s")
 
 
-STARTS = re.compile(rb"livevec: (makes '.*'|goes on with '.*': \d+ updates in all, \d+ elements|'.*' was a log of version 2, and was made anew .*|'.*' stays a log of version 2, .*)\n")
+STARTS = re.compile(rb"livevec: (makes '.*'|goes on with '.*': \d+ updates in all, \d+ elements|ready, \d+ clients|'.*' was a log of version 2, and was made anew .*|'.*' stays a log of version 2, .*)\n")
 
 
 def but_start(said):
-    """What the program said on standard error, without the line in which `serve --log` says with what it begins."""
+    """What the program said on standard error, without the lines in which `serve` says with what it begins and that it is ready."""
     return STARTS.sub(b"", said)
 
 

@@ -131,11 +131,11 @@ def removed_while_locked(room):
 
 
 def written_since(room, words):
-    """A server makes a file of replies and waits for its next client, while another serves that file as a log, and ends: the file is refused, and stays."""
+    """A server makes a file of replies and waits for what a subscriber asks, while another serves that file as a log, and ends: the file is refused, and stays."""
     folder = folder_of(room, "since")
     os.mkfifo(f"{folder}/later")
     shutil.copy(f"{folder}/session", f"{folder}/second")
-    with subprocess.Popen([PROGRAM, "serve", *words, "session", "later"], cwd=folder, stdin=subprocess.DEVNULL, stdout=subprocess.PIPE, stderr=subprocess.PIPE) as first:
+    with subprocess.Popen([PROGRAM, "serve", *words, "--watch", "later", "session"], cwd=folder, stdin=subprocess.DEVNULL, stdout=subprocess.PIPE, stderr=subprocess.PIPE) as first:
         while first.poll() is None and not os.path.exists(f"{folder}/session.out"):
             time.sleep(0.01)
         second = ran(["serve", "--log", "session.out", "second"], folder)

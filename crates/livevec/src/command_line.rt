@@ -166,6 +166,7 @@ pub fn names<'a>(matches: &ArgMatches<'_>, all: &'a [&'a str]) -> Names<'a> {
         sessions,
         clients: sessions.saturating_add(watches),
         syncs: matches.get_flag("sync"),
+        goes_on: matches.get_str("log").is_some() && !matches.get_flag("once"),
     }
 }
 

@@ -85,7 +85,8 @@ pub const SERVE: &str =
 
 /// The lines of a session, and its files.
 pub const SESSIONS: &str = "\
-Give 1 to 16 files, each once, and none of them another's FILE.out. The sessions share one vector.
+Give 1 to 16 files, or with --clients N up to N, each once, and none of them another's FILE.out. The
+sessions share one vector.
 They know the lines push, pop, write, reserve, swap, truncate, reduce, inc and exc; `livevec run
 --help` explains these. The reply to any other line is `bad N`.
 
@@ -96,6 +97,13 @@ Each FILE and its FILE.out are opened in order before a thread starts. The first
 opened is the fault, and then no file has changed. No FILE.out is emptied before all are open. It is a
 usage error if a FILE.out is a link, has a second name, is locked by another program, as a log is that
 is served, or is another name of a file that is read or written here, standard streams included.
+
+With --transcript or --log a FILE that is a pipe is opened by the thread of its session once the other
+files are there, so a client that comes later holds up nobody else. Standard error says `livevec: ready,
+N clients` then. The last line of a pipe is not done if it has no LF, since its writer may have been cut
+off: the reply is `bad N`. With --log a session goes on behind the end of its client, and answers who
+opens the pipe next, until a signal ends the server. With --once it ends with its first client. A client
+takes two open files (`ulimit -n`).
 
 The transcript goes to standard output: the updates, then each answered reduction in the order of
 updates. `livevec audit` accepts it. If a session ends with a fault, no transcript is written. If standard

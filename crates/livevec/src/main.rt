@@ -14,7 +14,8 @@ use crate::status::{CUT, show, show_misuse, status_of, status_of_front, status_t
 use clap::{ArgMatches, Error};
 use lv_bodies::Sum;
 use lv_files::{
-    Compacted, Escaped, LogFolder, Piped, ProgramError, Waited, compact_file, null_files,
+    Compacted, Escaped, LogFolder, PipeFolder, Piped, ProgramError, Waited, compact_file,
+    null_files,
 };
 use lv_machine::Machine;
 use lv_script::{
@@ -51,6 +52,7 @@ fn run<
         + Files<File = File>
         + Input
         + LogFolder
+        + PipeFolder
         + Print
         + Sync
         + Threads
@@ -106,6 +108,7 @@ fn obey<
         + Files<File = File>
         + Input
         + LogFolder
+        + PipeFolder
         + Print
         + Sync
         + Threads
@@ -131,6 +134,7 @@ fn answer<
         + Files<File = File>
         + Input
         + LogFolder
+        + PipeFolder
         + Print
         + Sync
         + Threads
@@ -209,6 +213,7 @@ fn serve<
         + Eprint
         + Files<File = File>
         + LogFolder
+        + PipeFolder
         + Print
         + Sync
         + Threads
@@ -289,10 +294,9 @@ fn restore<R: AllocGlobal + Clock + Eprint + Files<File = File> + Input + Print,
 }
 
 // Holds the sessions that a command line names at a board.
-fn board<R: AllocGlobal + Clock + Eprint + Files<File = File> + Print + Sync + Threads>(
-    rt: &R,
-    asked: &ArgMatches<'_>,
-) -> Result<u8, Fault> {
+fn board<
+    R: AllocGlobal + Clock + Eprint + Files<File = File> + PipeFolder + Print + Sync + Threads,
+>(rt: &R, asked: &ArgMatches<'_>) -> Result<u8, Fault> {
     let all = asked.get_strs("files").unwrap_or(&[]);
     let limits = command_line::limits(asked);
     let kind = command_line::kind(asked);

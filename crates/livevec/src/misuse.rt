@@ -2,6 +2,7 @@
 
 ghost use Rattle.std.specs.Prelude.{◌≤◌, length};
 
+use crate::modes::FEW_CLIENTS;
 use clap::ArgMatches;
 use lv_files::{Escaped, EscapedBytes, is_shown};
 use std::env::{Env, FillError};
@@ -14,7 +15,7 @@ pub const NAME_BYTES: usize = 4096;
 pub const WATCHES: usize = 4;
 
 // The options whose values are numbers.
-const NUMBERS: [&str; 8] = [
+const NUMBERS: [&str; 9] = [
     "buckets",
     "edits",
     "jobs",
@@ -23,10 +24,11 @@ const NUMBERS: [&str; 8] = [
     "turns",
     "answers",
     "compact-at",
+    "clients",
 ];
 
 // The flags that say something of a log.
-const OF_LOGS: [&str; 2] = ["log-answers", "must-exist"];
+const OF_LOGS: [&str; 3] = ["log-answers", "must-exist", "once"];
 
 // The options that say how a log is made anew while it is served.
 const OF_LOGS_MADE_ANEW: [&str; 2] = ["compact-at", "drop-old"];
@@ -45,6 +47,8 @@ pub enum Misuse<'a> {
     Unshown(&'a str),
     /// An option is given so often.
     TooOften(&'static str, usize),
+    /// More files of sessions are given than so many.
+    ManyFiles(usize),
     /// An option is given without another that it is for.
     Without(&'static str, &'static str),
     /// An option is given with something that leaves it nothing to say.
@@ -72,6 +76,10 @@ impl fmt::Display for Misuse<'_> {
             Misuse::TooOften(name, most) => {
                 write!(f, "error: --{name} may be given {most} times at most")?
             }
+            Misuse::ManyFiles(most) => write!(
+                f,
+                "error: {most} files of sessions are allowed at most: --clients N allows more, up to 1000"
+            )?,
             Misuse::Without(name, other) => {
                 write!(f, "error: --{name} says nothing without {other}")?
             }
@@ -90,6 +98,12 @@ pub fn misuse_in<'a>(mode: &str, matches: &ArgMatches<'a>) -> Option<Misuse<'a>>
         return Some(Misuse::TooOften("watch", WATCHES));
     }
     if mode == "serve" {
+        let most = matches
+            .get_one::<u32>("clients")
+            .map_or(FEW_CLIENTS, |most| most as usize);
+        if matches.get_strs("files").unwrap_or(&[]).len() > most {
+            return Some(Misuse::ManyFiles(most));
+        }
         if let Some(misuse) = idle_in(matches) {
             return Some(misuse);
         }

@@ -87,6 +87,19 @@ const COMPACT_AT_BYTES: Range = Range {
     most: 4_000_000_000,
 };
 
+/// How many files of sessions `serve` takes where nothing else is said, and at most.
+pub const FEW_CLIENTS: usize = 16;
+
+const MOST_CLIENTS: usize = 1000;
+
+const CLIENTS: Range = Range {
+    name: "clients",
+    value: "N",
+    says: "Takes up to N files of sessions, 1 to 1000; without it 16",
+    least: 1,
+    most: MOST_CLIENTS as i64,
+};
+
 // What each command takes that writes to standard output.
 const QUIET_PIPE: Argument = Argument::Flag(
     "quiet-pipe",
@@ -186,6 +199,11 @@ pub const SERVE: Mode = Mode {
             "Makes no log: a --log that isn't there is a fault",
         ),
         Argument::Flag("log-answers", "Writes answers to the log too"),
+        Argument::Flag(
+            "once",
+            "With --log: ends the session of a pipe once its writer has ended, and waits for no other",
+        ),
+        Argument::Range(CLIENTS),
         Argument::Range(COMPACT_AT_BYTES),
         Argument::Flag(
             "drop-old",
@@ -200,7 +218,7 @@ pub const SERVE: Mode = Mode {
             "A file of queries, whose answers are written to FILE.out as they change; up to 4 times",
         ),
         QUIET_PIPE,
-        Argument::Files(16),
+        Argument::Files(MOST_CLIENTS),
     ],
 };
 

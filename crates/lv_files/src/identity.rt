@@ -50,6 +50,14 @@ pub fn standard_files<R: Files>(rt: &R) -> [Option<Identity>; 3] {
     ]
 }
 
+/// What a name leads to that is neither a regular file nor a folder, such as a pipe, if it does.
+pub fn pipe_at<R: Files>(rt: &R, name: &str) -> Option<Identity> {
+    match metadata(rt, name) {
+        Ok(found) if !found.is_file() && !found.is_dir() => Some(Identity::of(&found)),
+        _ => None,
+    }
+}
+
 // The regular file behind a name, if there is one.
 fn behind<R: Files>(rt: &R, name: &str) -> Option<Identity> {
     match metadata(rt, name) {
@@ -63,6 +71,9 @@ pub fn is_written(standard: &[Option<Identity>; 3], input: Identity) -> bool {
     standard[1] == Some(input) || standard[2] == Some(input)
 }
 
+/// The null device.
+pub const NULL: &str = "/dev/null";
+
 /// Opens the null device as often as there are standard streams. So a standard stream that was closed at the start leads there, and
 /// no file that is opened later is taken for it. The files are kept until the program ends.
 pub fn null_files<R: Files>(rt: &R) -> [io::Result<R::File>; 3] {
@@ -71,8 +82,5 @@ pub fn null_files<R: Files>(rt: &R) -> [io::Result<R::File>; 3] {
 
 // The null device, to be read and written.
 fn null_file<R: Files>(rt: &R) -> io::Result<R::File> {
-    OpenOptions::new()
-        .read(true)
-        .write(true)
-        .open(rt, "/dev/null")
+    OpenOptions::new().read(true).write(true).open(rt, NULL)
 }

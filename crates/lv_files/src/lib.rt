@@ -5,6 +5,7 @@
 #![tactic(auto)]
 
 mod announced_file;
+mod client_file;
 mod escaped;
 mod folders;
 mod identity;
@@ -19,12 +20,14 @@ mod program_error;
 mod store_compaction;
 mod store_file;
 mod stored_log;
+mod stream_end;
 mod waited;
 
 pub use announced_file::AnnouncedFile;
+pub use client_file::{ClientFile, PipeFolder};
 pub use escaped::{Escaped, EscapedBytes, is_shown};
 pub use folders::{Found, sync_folder};
-pub use identity::{Identity, is_written, null_files, standard_files};
+pub use identity::{Identity, NULL, is_written, null_files, pipe_at, standard_files};
 pub use input_file::open_input;
 pub use log_file::{LogFile, names_of, open_locked};
 pub use log_places::{LogFolder, LogPlaces};
@@ -35,4 +38,5 @@ pub use program_error::{ErrorText, Left, ProgramError, Reason};
 pub use store_compaction::{Compacted, compact_file};
 pub use store_file::{StartedLog, StoreFile, lasts};
 pub use stored_log::{LogPlan, StoredLog};
+pub use stream_end::StreamEnd;
 pub use waited::Waited;

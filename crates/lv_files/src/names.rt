@@ -17,12 +17,19 @@ pub struct Names<'a> {
     pub clients: usize,
     /// Whether what is written to the transcript's file, or to the log, goes to the disk at once.
     pub syncs: bool,
+    /// Whether the session of a pipe goes on behind the end of its writer.
+    pub goes_on: bool,
 }
 
 impl<'a> Names<'a> {
     /// The names of sessions and subscribers.
     pub fn of_clients(&self) -> &'a [&'a str] {
         self.all.get(..self.clients).unwrap_or(self.all)
+    }
+
+    /// Whether a number is that of a session whose lines are opened once they are read if they come from a pipe. So it is with a transcript or a log.
+    pub fn may_be_absent(&self, number: usize) -> bool {
+        number < self.sessions && self.of_record().is_some()
     }
 
     /// The name of the file of the transcript or of the log, if there is one.

@@ -2,6 +2,7 @@
 
 use crate::folders::{Found, found_at};
 use crate::identity::Identity;
+use crate::input_file::reason_for;
 use crate::program_error::{Left, ProgramError, Reason};
 use std::fs::{Files, Metadata, OpenFile, OpenOptions, remove_file, symlink_metadata};
 use std::io::ErrorKind;
@@ -89,8 +90,9 @@ impl OutputFile {
         how: Access,
         name: &str,
     ) -> Result<(R::File, OutputFile), Reason> {
-        let Ok(file) = how.options().create_new(true).open(rt, name) else {
-            return Err(Reason::Unmade);
+        let file = match how.options().create_new(true).open(rt, name) {
+            Ok(file) => file,
+            Err(error) => return Err(reason_for(&error, Reason::Unmade)),
         };
         match file.metadata() {
             Ok(made) => {
@@ -195,11 +197,12 @@ fn open_found<R: Files>(
         identity: Identity::of(found),
         is_new: false,
     };
-    let Ok(file) = how.options().open(rt, name) else {
-        if output.is_named(rt, name) {
-            return Some(Err(Reason::Unmade));
+    let file = match how.options().open(rt, name) {
+        Ok(file) => file,
+        Err(error) if output.is_named(rt, name) => {
+            return Some(Err(reason_for(&error, Reason::Unmade)));
         }
-        return None;
+        Err(_) => return None,
     };
     match file.metadata() {
         Ok(opened) if Identity::of(&opened) == output.identity => Some(Ok((file, output))),

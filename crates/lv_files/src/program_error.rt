@@ -29,6 +29,8 @@ pub enum Reason {
     Beginning(Refusal),
     #[error("' can't be opened")]
     Unopened,
+    #[error("' or its replies can't be opened: this process may have no more open files, and each client takes two (`ulimit -n`)")]
+    Descriptors,
     #[error("' can't be read")]
     Unread,
     #[error("' has more than 2^30 bytes")]

@@ -5,13 +5,14 @@ use std::io::{Error, ErrorKind, Read, Write};
 use std::time::{Clock, Duration};
 use std::{io, thread};
 
-// How many microseconds pass before a stream is asked the second time, and after how many times the naps grow no more: at 20 ms.
+// How many microseconds pass before a stream is asked the second time, and after how many times the naps grow no more: at 50 ms.
 const NAP_MICROSECONDS: u64 = 100;
 
-const GROWING_NAPS: u64 = 200;
+const GROWING_NAPS: u64 = 500;
 
 /// A stream that is waited for. One that is shared may be set by another process to answer at once that it would block: it is asked
-/// again after naps that grow, until it gives or takes bytes, ends or fails. So is one whose call a signal has interrupted.
+/// again after naps that grow, until it gives or takes bytes, ends or fails. So is one whose call a signal has interrupted, and a pipe behind
+/// whose end another writer may come.
 #[derive(Drop)]
 pub struct Waited<C: Copy, S: Drop> {
     clock: C,

@@ -3,14 +3,15 @@
 use crate::board_sessions::hold_sessions;
 use crate::clients::{Clients, first_unwritten};
 use crate::log_server::serve_log;
-use crate::opened_client::{open_all, open_with_log};
+use crate::opened_client::{OpenedClient, open_all, open_with_log};
 use crate::server::{Plan, serve};
 use lv_bodies::Kind;
 use lv_files::{
-    AnnouncedFile, LogFolder, LogPlan, Names, ProgramError, Reason, StartedLog, StoredLog, Waited,
-    is_written, open_input, standard_files,
+    AnnouncedFile, LogFolder, LogPlan, Names, PipeFolder, ProgramError, Reason, StartedLog,
+    StoredLog, Waited, is_written, open_input, standard_files,
 };
 use lv_geometry::Limits;
+use lv_hub::Watched;
 use lv_script::{Fault, FrontVerdict, Unrestored, restore_script};
 use std::alloc::Global;
 use std::fs::{File, Files};
@@ -23,7 +24,7 @@ use std::time::Clock;
 /// else is done.
 pub fn serve_files<
     C: Clock + Copy + Send,
-    R: Eprint + Files<File = File> + Sync + Threads + Wait,
+    R: Eprint + Files<File = File> + PipeFolder + Sync + Threads + Wait,
     W: Write,
 >(
     clock: C,
@@ -34,16 +35,33 @@ pub fn serve_files<
     writer: &mut W,
 ) -> Result<(), ProgramError> {
     let (Clients { streams, watches }, file) = open_all(clock, rt, alloc, names)?;
+    tell_ready(rt, names, &streams);
     let file = announced(rt, names, file);
     let is_file = standard_files(rt)[1].is_some();
     let mut output = AnnouncedFile::of_output(rt, is_file, writer);
     match serve(rt, alloc, plan, &[], streams, watches, file, &mut output) {
         Ok((streams, file, watched)) => {
-            let ended = first_unwritten(&watched);
-            drop((streams, file, watched));
-            ended
+            drop(file);
+            closed(streams, watched)
         }
         Err(error) => Err(error),
+    }
+}
+
+// Closes the clients' files. What a subscriber was told that couldn't be written is the fault.
+fn closed<F: Write + Drop>(
+    streams: Vec<OpenedClient<F>>,
+    watched: Vec<Watched<F>>,
+) -> Result<(), ProgramError> {
+    let ended = first_unwritten(&watched);
+    drop((streams, watched));
+    ended
+}
+
+// Tells on standard error that all files are there and that clients are served from now on, if one of them may come later.
+fn tell_ready<R: Eprint, F: Drop>(rt: &R, names: Names<'_>, sessions: &[OpenedClient<F>]) {
+    if sessions.iter().any(|session| session.is_absent) {
+        let _ = eprintln!(rt; "livevec: ready, {} clients", names.clients);
     }
 }
 
@@ -67,7 +85,7 @@ where
 /// that couldn't be written is the fault once all else is done.
 pub fn serve_logged_files<
     C: Clock + Copy + Send,
-    R: Eprint + Files<File = File> + LogFolder + Sync + Threads + Wait,
+    R: Eprint + Files<File = File> + LogFolder + PipeFolder + Sync + Threads + Wait,
 >(
     clock: C,
     rt: &R,
@@ -90,6 +108,7 @@ pub fn serve_logged_files<
         edits,
         ..
     } = log;
+    tell_ready(rt, names, &streams);
     let file = AnnouncedFile::of_log(rt, names.of_record().unwrap_or(""), file);
     let begun = edits.journal();
     let served = serve_log(
@@ -107,8 +126,7 @@ pub fn serve_logged_files<
     match served {
         Ok((streams, file, watched)) => {
             let is_lost = is_lost(file);
-            let ended = first_unwritten(&watched);
-            drop((streams, watched));
+            let ended = closed(streams, watched);
             if is_lost {
                 return Err(ProgramError::new(Fault::WriteFault, Reason::Log, names.clients));
             }
@@ -137,7 +155,10 @@ fn about_log(error: ProgramError, names: Names<'_>) -> ProgramError {
 }
 
 /// Opens files, and holds their sessions at a board; they are waited for by a clock.
-pub fn hold_files<C: Clock + Copy + Send, R: Files<File = File> + Sync + Threads>(
+pub fn hold_files<
+    C: Clock + Copy + Send,
+    R: Eprint + Files<File = File> + PipeFolder + Sync + Threads,
+>(
     clock: C,
     rt: &R,
     alloc: Global,

@@ -5,15 +5,16 @@ ghost use Rattle.lv_files.specs.Stores.{IsFit, IsRightStore, MayStart};
 
 use crate::clients::Clients;
 use lv_files::{
-    Access, Found, Identity, Left, LogFile, LogFolder, LogPlaces, LogPlan, Names, OutputFile,
-    ProgramError, REPLIES, Reason, StartedLog, StoreFile, StoredLog, Use, Waited, first_clash,
-    is_written, lasts, names_of, open_input, open_locked, standard_files, sync_folder,
+    Access, ClientFile, Found, Identity, Left, LogFile, LogFolder, LogPlaces, LogPlan, NULL, Names,
+    OutputFile, PipeFolder, ProgramError, REPLIES, Reason, StartedLog, StoreFile, StoredLog,
+    StreamEnd, Use, Waited, first_clash, is_written, lasts, names_of, open_input, open_locked,
+    pipe_at, standard_files, sync_folder,
 };
 use lv_geometry::Limits;
 use lv_hub::{Query, Unasked, read_questions};
 use lv_script::Fault;
 use std::alloc::Global;
-use std::fs::{File, Files, OpenFile, TryLockError};
+use std::fs::{File, Files, TryLockError};
 use std::io::Read;
 use std::mem;
 use std::time::Clock;
@@ -27,29 +28,47 @@ pub struct OpenedClient<F: Drop> {
     pub replies: F,
     /// What a subscriber asks; a session asks nothing.
     pub questions: Vec<Query>,
+    /// Whether its lines come from a pipe that is opened once it is read.
+    pub is_absent: bool,
     input: Identity,
     output: OutputFile,
     // The name of the file of replies.
     name: String,
 }
 
-impl<F: Drop> OpenedClient<F> {
-    // The same, where its streams are waited for.
-    fn waited<C: Clock + Copy>(self, clock: C) -> OpenedClient<Waited<C, F>> {
+// A file of a client as it is served.
+type Served<'a, C, R> = Waited<C, ClientFile<'a, &'a R>>;
+
+impl OpenedClient<File> {
+    // The same as it is served: its streams are waited for, and a pipe that isn't open yet is opened once it is read. Until then another file has its descriptor.
+    fn served<'a, C: Clock + Copy, R: Eprint + PipeFolder>(
+        self,
+        clock: C,
+        rt: &'a R,
+        names: Names<'a>,
+    ) -> OpenedClient<Served<'a, C, R>> {
         let OpenedClient {
             number,
             lines,
             replies,
             questions,
+            is_absent,
             input,
             output,
             name,
         } = self;
+        let lines = if is_absent {
+            let file = names.of_clients().get(number).copied().unwrap_or("");
+            ClientFile::absent(rt, file, input, lines, StreamEnd::torn(names.goes_on))
+        } else {
+            ClientFile::new(rt, lines)
+        };
         OpenedClient {
             number,
             lines: Waited::new(clock, lines),
-            replies: Waited::new(clock, replies),
+            replies: Waited::new(clock, ClientFile::new(rt, replies)),
             questions,
+            is_absent,
             input,
             output,
             name,
@@ -57,8 +76,8 @@ impl<F: Drop> OpenedClient<F> {
     }
 }
 
-/// Opens each file and that of its replies, in order: those of sessions, and then those of subscribers. Files of replies are emptied once
-/// all are open, each is found to be a regular file that nothing else here reads or writes, under whatever name, where standard streams
+/// Opens each file and that of its replies, in order: those of sessions, and then those of subscribers. Where there is a transcript, the pipe of a session isn't
+/// opened here but once it is read, so that who serves it waits for its client. Files of replies are emptied once all are open, each is found to be a regular file that nothing else here reads or writes, under whatever name, where standard streams
 /// count, and it is known what subscribers ask. All are waited for by a clock.
 ///
 /// The first that fails is the fault: `ReadFault` where a file can't be opened or is a directory, `WriteFault` where that of its
@@ -66,15 +85,15 @@ impl<F: Drop> OpenedClient<F> {
 /// subscriber's file asks, which is read next, and with the file of a transcript, which comes last, and is locked. Each file of replies
 /// is locked too, until it is closed: one that another has locked, or has written to since it was made here, or whose name leads elsewhere
 /// by then, is refused and left as it is. Names that clash are told before any file is opened.
-pub fn open_all<C: Clock + Copy, R: Files<File = File>>(
+pub fn open_all<'a, C: Clock + Copy, R: Eprint + Files<File = File> + PipeFolder>(
     clock: C,
-    rt: &R,
+    rt: &'a R,
     alloc: Global,
-    names: Names<'_>,
-) -> Result<(Clients<Waited<C, File>>, Option<Waited<C, LogFile<File>>>), ProgramError> {
+    names: Names<'a>,
+) -> Result<(Clients<Served<'a, C, R>>, Option<Waited<C, LogFile<File>>>), ProgramError> {
     let (clients, mut all) = room_for(alloc, names)?;
     match open_and_ask(rt, alloc, names, &mut all) {
-        Ok(last) => empty_with(clock, all, clients, last, names),
+        Ok(last) => empty_with(clock, rt, all, clients, last, names),
         Err(error) => Err(without_new(rt, &all, error)),
     }
 }
@@ -82,7 +101,7 @@ pub fn open_all<C: Clock + Copy, R: Files<File = File>>(
 /// Opens each file and that of its replies likewise, behind the log that a server goes on from: this is locked before all else, and before it is read, so a second server on it is turned
 /// away at once. It begins, or has a torn line cut off, once all are found fit. It is so where it has whole lines that are a log, whose updates keep to these limits,
 /// or is new, if one may be made. One that may be made anew has nothing in its way beside it.
-pub fn open_with_log<'a, C: Clock + Copy, R: Eprint + Files<File = File> + LogFolder>(
+pub fn open_with_log<'a, C: Clock + Copy, R: Eprint + Files<File = File> + LogFolder + PipeFolder>(
     clock: C,
     rt: &'a R,
     alloc: Global,
@@ -91,7 +110,7 @@ pub fn open_with_log<'a, C: Clock + Copy, R: Eprint + Files<File = File> + LogFo
     names: Names<'a>,
 ) -> Result<
     (
-        Clients<Waited<C, File>>,
+        Clients<Served<'a, C, R>>,
         StartedLog<StoredLog<'a, C, &'a R>>,
     ),
     ProgramError,
@@ -102,7 +121,7 @@ pub fn open_with_log<'a, C: Clock + Copy, R: Eprint + Files<File = File> + LogFo
     let store = open_store(clock, rt, alloc, kept, names)?;
     match open_and_start(clock, rt, alloc, limits, kept, names, store, &mut all) {
         Ok(log) => {
-            let clients = empty_all(clock, all, clients, names.sessions)?;
+            let clients = empty_all(clock, rt, all, clients, names)?;
             Ok((clients, log))
         }
         Err(error) => Err(without_new(rt, &all, error)),
@@ -155,7 +174,7 @@ fn open_asked<R: Files<File = File>>(
     names: Names<'_>,
     all: &mut Vec<OpenedClient<File>>,
 ) -> Result<(), ProgramError> {
-    open_each(rt, alloc, names.of_clients(), all)?;
+    open_each(rt, alloc, names, all)?;
     ask_each(alloc, all.as_mut_slice(), names.sessions)
 }
 
@@ -326,11 +345,11 @@ fn stored<'a, C: Clock + Copy, R: Eprint + LogFolder>(
 fn open_each<R: Files<File = File>>(
     rt: &R,
     alloc: Global,
-    files: &[&str],
+    names: Names<'_>,
     all: &mut Vec<OpenedClient<File>>,
 ) -> Result<(), ProgramError> {
-    for (number, file) in files.iter().enumerate() {
-        let opened = open(rt, alloc, number, file)?;
+    for (number, file) in names.of_clients().iter().enumerate() {
+        let opened = open(rt, alloc, number, file, names.may_be_absent(number))?;
         if all.push(opened).is_err() {
             return Err(ProgramError::memory());
         }
@@ -344,14 +363,21 @@ fn open_each<R: Files<File = File>>(
     Ok(())
 }
 
-// Opens the file of a number and that of its replies.
+// Opens the file of a number and that of its replies. A pipe that may be absent isn't opened.
 fn open<R: Files<File = File>>(
     rt: &R,
     alloc: Global,
     number: usize,
     file: &str,
+    may_be_absent: bool,
 ) -> Result<OpenedClient<File>, ProgramError> {
-    let (lines, input) = open_input(rt, number, file)?;
+    let absent = if may_be_absent {
+        pipe_at(rt, file)
+    } else {
+        None
+    };
+    let opened = if absent.is_some() { NULL } else { file };
+    let (lines, input) = open_input(rt, number, opened)?;
     let Ok(name) = format!(in alloc; "{file}{REPLIES}") else {
         return Err(ProgramError::memory());
     };
@@ -361,7 +387,8 @@ fn open<R: Files<File = File>>(
             lines,
             replies,
             questions: Vec::new(alloc),
-            input,
+            is_absent: absent.is_some(),
+            input: absent.unwrap_or(input),
             output,
             name,
         }),
@@ -527,14 +554,15 @@ fn ask<F: Read + Drop>(alloc: Global, opened: &mut OpenedClient<F>) -> Result<()
 }
 
 // Empties the files of replies that were there before, and then that of the transcript.
-fn empty_with<C: Clock + Copy, F: OpenFile + Drop>(
+fn empty_with<'a, C: Clock + Copy, R: Eprint + PipeFolder>(
     clock: C,
-    all: Vec<OpenedClient<F>>,
-    clients: Clients<Waited<C, F>>,
-    last: Option<(F, OutputFile)>,
-    names: Names<'_>,
-) -> Result<(Clients<Waited<C, F>>, Option<Waited<C, LogFile<F>>>), ProgramError> {
-    let clients = empty_all(clock, all, clients, names.sessions)?;
+    rt: &'a R,
+    all: Vec<OpenedClient<File>>,
+    clients: Clients<Served<'a, C, R>>,
+    last: Option<(File, OutputFile)>,
+    names: Names<'a>,
+) -> Result<(Clients<Served<'a, C, R>>, Option<Waited<C, LogFile<File>>>), ProgramError> {
+    let clients = empty_all(clock, rt, all, clients, names)?;
     match last {
         None => Ok((clients, None)),
         Some((file, output)) if output.is_emptied(&file) => {
@@ -550,18 +578,19 @@ fn empty_with<C: Clock + Copy, F: OpenFile + Drop>(
 }
 
 // Empties the files of replies that were there before.
-fn empty_all<C: Clock + Copy, F: OpenFile + Drop>(
+fn empty_all<'a, C: Clock + Copy, R: Eprint + PipeFolder>(
     clock: C,
-    all: Vec<OpenedClient<F>>,
-    mut clients: Clients<Waited<C, F>>,
-    sessions: usize,
-) -> Result<Clients<Waited<C, F>>, ProgramError> {
+    rt: &'a R,
+    all: Vec<OpenedClient<File>>,
+    mut clients: Clients<Served<'a, C, R>>,
+    names: Names<'a>,
+) -> Result<Clients<Served<'a, C, R>>, ProgramError> {
     for opened in all {
         let number = opened.number;
         if !opened.output.is_emptied(&opened.replies) {
             return Err(ProgramError::new(Fault::WriteFault, Reason::Unmade, number));
         }
-        if !clients.add(opened.waited(clock), number < sessions) {
+        if !clients.add(opened.served(clock, rt, names), number < names.sessions) {
             return Err(ProgramError::memory());
         }
     }
