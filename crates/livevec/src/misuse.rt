@@ -26,7 +26,7 @@ const NUMBERS: [&str; 8] = [
 ];
 
 // The flags that say something of a log.
-const OF_LOGS: [&str; 2] = ["log-answers", "must-exist"];
+const OF_LOGS: [&str; 3] = ["log-answers", "must-exist", "keep-version"];
 
 // The options that say how a log is made anew while it is served.
 const OF_LOGS_MADE_ANEW: [&str; 2] = ["compact-at", "drop-old"];

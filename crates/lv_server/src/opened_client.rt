@@ -7,7 +7,7 @@ use crate::clients::Clients;
 use lv_files::{
     Access, Found, Identity, Left, LogFile, LogFolder, LogPlaces, LogPlan, Names, OutputFile,
     ProgramError, REPLIES, Reason, StartedLog, StoreFile, StoredLog, Use, Waited, first_clash,
-    is_written, lasts, names_of, open_input, open_locked, standard_files, sync_folder,
+    is_written, lasts, names_of, open_input, open_locked, renew_store, standard_files, sync_folder,
 };
 use lv_geometry::Limits;
 use lv_hub::{Query, Unasked, read_questions};
@@ -224,6 +224,9 @@ fn start<'a, C: Clock + Copy, R: Eprint + Files<File = File> + LogFolder>(
     let name = names.of_record().unwrap_or("");
     match see_log(rt, alloc, limits, kept, names, &mut store, all) {
         Ok(places) => {
+            let mut places = places;
+            let renews = lasts(limits) && !kept.keeps_version;
+            let store = renew_store(clock, rt, alloc, name, store, &mut places, renews)?;
             let started = store.start(clock, rt, alloc, name, names.syncs)?;
             Ok(stored(clock, rt, places, kept, names, started))
         }
@@ -310,7 +313,7 @@ fn stored<'a, C: Clock + Copy, R: Eprint + LogFolder>(
         rt,
         places,
         names.syncs,
-        kept.compact_at,
+        kept,
         file,
         output,
     );
@@ -538,11 +541,7 @@ fn empty_with<C: Clock + Copy, F: OpenFile + Drop>(
     match last {
         None => Ok((clients, None)),
         Some((file, output)) if output.is_emptied(&file) => {
-            let file = LogFile {
-                file,
-                syncs: names.syncs,
-                length: 0,
-            };
+            let file = LogFile::new(file, names.syncs, 0, None);
             Ok((clients, Some(Waited::new(clock, file))))
         }
         Some(_) => Err(ProgramError::new(Fault::WriteFault, Reason::Transcript, 0)),

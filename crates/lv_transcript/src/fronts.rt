@@ -8,6 +8,7 @@ ghost use Rattle.lv_transcript.specs.Fronts.{elements_of};
 
 use crate::auditor::{Auditor, Stage, elements_of};
 use crate::log_heading::LogHeading;
+use crate::seals::SEAL_BYTES;
 use crate::whole_lines::WholeLines;
 use lv_edits::Edits;
 use lv_lines::{Fault, LINE, MOST_NUMBERED, put, put_bad, put_number, serve_lines, write_whole};
@@ -40,8 +41,10 @@ pub struct FoundFront {
     pub edits: Edits,
     /// What its first line tells, where it is a log.
     pub heading: Option<LogHeading>,
-    /// How many bytes the first line and the lines of its edits and answers have.
+    /// How many bytes of the input the first line and the lines of its edits and answers are.
     pub whole: u64,
+    /// The checksum of these bytes, where each line ends in one.
+    pub hash: Option<u64>,
 }
 
 /// Audits a front of a transcript, or a log: reads it to its end, and writes the verdict as a line. An input of more than `most` bytes is
@@ -129,11 +132,16 @@ pub fn read_front<R: Read + Drop>(
     let Ok(mut auditor) = Auditor::new(alloc, true) else {
         return Err(Fault::NoMemory);
     };
-    let mut whole = WholeLines::new(reader);
+    let Ok(mut whole) = WholeLines::new(alloc, most + 1, reader) else {
+        return Err(Fault::NoMemory);
+    };
     match serve_lines(most, alloc, &mut auditor, &mut whole, &mut io::sink()) {
         Err(Fault::ReadFault) => {
+            if whole.is_full() {
+                return Err(Fault::TooLong);
+            }
             if whole.is_at_end() {
-                return auditor.found();
+                return auditor.found(whole.hash());
             }
             Err(Fault::ReadFault)
         }
@@ -145,7 +153,7 @@ pub fn read_front<R: Read + Drop>(
 
 impl Auditor {
     // What was found, once all lines were read.
-    fn found(self) -> Result<FoundFront, Fault>
+    fn found(self, hash: Option<u64>) -> Result<FoundFront, Fault>
         ensures { MatchResult result (λ found. (found.edits ≡ self.edits) × (found.heading ≡ self.heading) × (found.whole ≡ self.whole)
             × IsFoundAt self.stage (elements_of self.heading) self.lines (length self.edits.journal) found.verdict) (λ fault. fault ≡ Fault.NoMemory) }
     {
@@ -154,13 +162,15 @@ impl Auditor {
             edits,
             heading,
             whole,
+            lines,
             ..
         } = self;
         Ok(FoundFront {
             verdict,
             edits,
             heading,
-            whole,
+            whole: in_file(whole, lines, hash),
+            hash,
         })
     }
 
@@ -180,6 +190,14 @@ impl Auditor {
             Stage::Bad(line) => Ok(FrontVerdict::Bad(line)),
             Stage::NoMemory => Err(Fault::NoMemory),
         }
+    }
+}
+
+// How many bytes of a file so many bytes of its text are, which are so many lines.
+fn in_file(bytes: u64, lines: u32, hash: Option<u64>) -> u64 {
+    match hash {
+        Some(_) => bytes.saturating_add(u64::from(lines) * SEAL_BYTES as u64),
+        None => bytes,
     }
 }
 

@@ -1,0 +1,68 @@
+//! Bytes of a log on their way to its file, where each line ends in a checksum.
+
+use crate::program_error::ProgramError;
+use lv_shards::CHECKSUM_OF_NONE;
+use lv_transcript::{SEAL_BYTES, put_sealed};
+use std::alloc::Global;
+use std::io;
+use std::io::{Error, ErrorKind, Write};
+
+// At most how many bytes of a log's text are taken at once.
+const PIECE: usize = 4096;
+
+// How many bytes of its file that is at most.
+const ROOM: usize = PIECE * (SEAL_BYTES + 1);
+
+/// Bytes of a log on their way to its file: they are held with their checksums until there are many, or until they are sent.
+#[derive(Drop)]
+pub struct SealBuffer {
+    // The checksum of all bytes of the file, with those that are held.
+    hash: u64,
+    held: Vec<u8>,
+    // How many of the bytes that are held are in the file already.
+    sent: usize,
+}
+
+impl SealBuffer {
+    /// For a file of bytes with this checksum. All memory that is needed is taken here.
+    pub fn new(alloc: Global, hash: u64) -> Result<SealBuffer, ProgramError> {
+        match Vec::with_capacity(alloc, ROOM) {
+            Ok(held) => Ok(SealBuffer {
+                hash,
+                held,
+                sent: 0,
+            }),
+            Err(_) => Err(ProgramError::memory()),
+        }
+    }
+
+    /// For a file that has nothing yet.
+    pub fn of_new(alloc: Global) -> Result<SealBuffer, ProgramError> {
+        SealBuffer::new(alloc, CHECKSUM_OF_NONE)
+    }
+
+    /// Takes the first bytes of a text, as many as are taken at once, behind a file of so many bytes, with those that are held. What is held is written first if
+    /// there is no room. Returns how many it took.
+    pub fn take<W: Write>(&mut self, length: u64, text: &[u8], file: &mut W) -> io::Result<usize> {
+        let (piece, _) = text.split_at(text.len().min(PIECE));
+        if self.held.len() + piece.len() * (SEAL_BYTES + 1) > ROOM {
+            self.send(file)?;
+        }
+        self.hash = put_sealed(&mut self.held, self.hash, length, piece);
+        Ok(piece.len())
+    }
+
+    /// Writes what is held. If that fails, what is not in the file stays.
+    pub fn send<W: Write>(&mut self, file: &mut W) -> io::Result<()> {
+        while self.sent < self.held.len() {
+            match file.write(&self.held[self.sent..]) {
+                Ok(0) => return Err(Error::from(ErrorKind::WriteZero)),
+                Ok(count) => self.sent += count,
+                Err(error) => return Err(error),
+            }
+        }
+        self.held.clear();
+        self.sent = 0;
+        Ok(())
+    }
+}
