@@ -1,2 +1,3 @@
 -- Names the files of definitions of `lv_files`.
+pub mod Sealing
 pub mod Stores

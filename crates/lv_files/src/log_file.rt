@@ -123,7 +123,9 @@ pub fn names_of<F: OpenFile>(file: &F) -> Result<u64, Reason> {
 }
 
 impl<F: Write + OpenFile + Drop> Write for LogFile<F> {
-    ghost contents = { λ log. F.contents log.file };
+    ghost use Rattle.lv_files.specs.Sealing.{got};
+
+    ghost contents = { λ log. got log.seals (F.contents log.file) };
 
     fn write(&mut self, buf: &[u8]) -> io::Result<usize> {
         let more = match &self.seals {

@@ -1,5 +1,9 @@
 //! Bytes of a log on their way to its file, where each line ends in a checksum.
 
+ghost use Rattle.std.specs.Prelude.{◌≡◌, ◌<◌, ◌≤◌, ◌^◌, ◌++◌, ℕ, List, [], IfOk, OnOk, drop, length, take, vec_capacity};
+ghost use Rattle.std.specs.Io.KnownBytes.{Appends};
+ghost use Rattle.lv_files.specs.Sealing.{Seals, Sends};
+
 use crate::program_error::ProgramError;
 use lv_shards::CHECKSUM_OF_NONE;
 use lv_transcript::{SEAL_BYTES, put_sealed};
@@ -21,6 +25,8 @@ pub struct SealBuffer {
     held: Vec<u8>,
     // How many of the bytes that are held are in the file already.
     sent: usize,
+    ghost within: { sent ≤ length held.items },
+    ghost room: { 73728 ≤ vec_capacity held },
 }
 
 impl SealBuffer {
@@ -43,7 +49,12 @@ impl SealBuffer {
 
     /// Takes the first bytes of a text, as many as are taken at once, behind a file of so many bytes, with those that are held. What is held is written first if
     /// there is no room. Returns how many it took.
-    pub fn take<W: Write>(&mut self, length: u64, text: &[u8], file: &mut W) -> io::Result<usize> {
+    pub fn take<W: Write>(&mut self, length: u64, text: &[u8], file: &mut W) -> io::Result<usize>
+        requires within { length < 2 ^ 63 }
+        ensures few { IfOk result (λ count. count ≤ length text.now) }
+        // What went to the file and what is held is the text as a file has it, behind what was held.
+        ensures sealed { IfOk result (λ count. Seals self.old.hash length (take count text.now) (drop self.old.sent self.old.held.items) (drop self.new.sent self.new.held.items) self.new.hash (W.contents file.old) (W.contents file.new)) }
+    {
         let (piece, _) = text.split_at(text.len().min(PIECE));
         if self.held.len() + piece.len() * (SEAL_BYTES + 1) > ROOM {
             self.send(file)?;
@@ -53,7 +64,12 @@ impl SealBuffer {
     }
 
     /// Writes what is held. If that fails, what is not in the file stays.
-    pub fn send<W: Write>(&mut self, file: &mut W) -> io::Result<()> {
+    pub fn send<W: Write>(&mut self, file: &mut W) -> io::Result<()>
+        ensures sent { Sends (drop self.old.sent self.old.held.items) (drop self.new.sent self.new.held.items) (W.contents file.old) (W.contents file.new) }
+        ensures all { OnOk result (self.new.held.items ≡ []) }
+        ensures none { OnOk result (self.new.sent ≡ 0) }
+        ensures hash { self.new.hash ≡ self.old.hash }
+    {
         while self.sent < self.held.len() {
             match file.write(&self.held[self.sent..]) {
                 Ok(0) => return Err(Error::from(ErrorKind::WriteZero)),

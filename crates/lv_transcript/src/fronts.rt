@@ -1,10 +1,11 @@
 //! The audit of a front of a transcript, or of a log: edits and answers in the order of time, as far as they were written.
-ghost use Rattle.std.specs.Prelude.{◌≡◌, ◌≤◌, ◌++◌, None, Some, MatchResult, length};
+ghost use Rattle.std.specs.Prelude.{◌≡◌, ◌≤◌, ◌++◌, None, Some, IfOk, MatchResult, length};
 ghost use Rattle.lv_lines.specs.Output.{HasRoom};
 ghost use Rattle.lv_lines.specs.declared.replies.TheConstants.{LINE};
 ghost use Rattle.lv_transcript.specs.Auditing.{IsFoundAt, IsToldOf};
 ghost use Rattle.lv_transcript.specs.Audits.{FrontAudited, ReadsFront, counts_text, front_text};
 ghost use Rattle.lv_transcript.specs.Fronts.{elements_of};
+ghost use Rattle.lv_transcript.specs.Seals.{bytes_in_file};
 
 use crate::auditor::{Auditor, Stage, elements_of};
 use crate::log_heading::LogHeading;
@@ -132,14 +133,11 @@ pub fn read_front<R: Read + Drop>(
     let Ok(mut auditor) = Auditor::new(alloc, true) else {
         return Err(Fault::NoMemory);
     };
-    let Ok(mut whole) = WholeLines::new(alloc, most + 1, reader) else {
+    let Ok(mut whole) = WholeLines::new(alloc, reader) else {
         return Err(Fault::NoMemory);
     };
     match serve_lines(most, alloc, &mut auditor, &mut whole, &mut io::sink()) {
         Err(Fault::ReadFault) => {
-            if whole.is_full() {
-                return Err(Fault::TooLong);
-            }
             if whole.is_at_end() {
                 return auditor.found(whole.hash());
             }
@@ -154,7 +152,8 @@ pub fn read_front<R: Read + Drop>(
 impl Auditor {
     // What was found, once all lines were read.
     fn found(self, hash: Option<u64>) -> Result<FoundFront, Fault>
-        ensures { MatchResult result (λ found. (found.edits ≡ self.edits) × (found.heading ≡ self.heading) × (found.whole ≡ self.whole)
+        ensures hash { IfOk result (λ found. found.hash ≡ hash) }
+        ensures found { MatchResult result (λ found. (found.edits ≡ self.edits) × (found.heading ≡ self.heading) × (found.whole ≡ bytes_in_file found.hash self.whole self.lines)
             × IsFoundAt self.stage (elements_of self.heading) self.lines (length self.edits.journal) found.verdict) (λ fault. fault ≡ Fault.NoMemory) }
     {
         let verdict = self.front_verdict()?;
@@ -194,7 +193,9 @@ impl Auditor {
 }
 
 // How many bytes of a file so many bytes of its text are, which are so many lines.
-fn in_file(bytes: u64, lines: u32, hash: Option<u64>) -> u64 {
+fn in_file(bytes: u64, lines: u32, hash: Option<u64>) -> u64
+    ensures { result ≡ bytes_in_file hash bytes lines }
+{
     match hash {
         Some(_) => bytes.saturating_add(u64::from(lines) * SEAL_BYTES as u64),
         None => bytes,
