@@ -1,3 +1,4 @@
 -- Names the files of lemmas of `lv_files`.
+mod SealBufferLaws
 mod StoreLaws
 mod WaitedStreams

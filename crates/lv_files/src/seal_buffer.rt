@@ -1,7 +1,6 @@
 //! Bytes of a log on their way to its file, where each line ends in a checksum.
 
-ghost use Rattle.std.specs.Prelude.{◌≡◌, ◌<◌, ◌≤◌, ◌^◌, ◌++◌, ℕ, List, [], IfOk, OnOk, drop, length, take, vec_capacity};
-ghost use Rattle.std.specs.Io.KnownBytes.{Appends};
+ghost use Rattle.std.specs.Prelude.{◌≡◌, ◌+◌, ◌<◌, ◌≤◌, ◌^◌, [], IfOk, OnOk, drop, length, take, vec_capacity};
 ghost use Rattle.lv_files.specs.Sealing.{Seals, Sends};
 
 use crate::program_error::ProgramError;
@@ -49,18 +48,34 @@ impl SealBuffer {
 
     /// Takes the first bytes of a text, as many as are taken at once, behind a file of so many bytes, with those that are held. What is held is written first if
     /// there is no room. Returns how many it took.
-    pub fn take<W: Write>(&mut self, length: u64, text: &[u8], file: &mut W) -> io::Result<usize>
-        requires within { length < 2 ^ 63 }
+    pub fn take<W: Write>(&mut self, bytes: u64, text: &[u8], file: &mut W) -> io::Result<usize>
+        requires within { bytes < 2 ^ 63 }
         ensures few { IfOk result (λ count. count ≤ length text.now) }
         // What went to the file and what is held is the text as a file has it, behind what was held.
-        ensures sealed { IfOk result (λ count. Seals self.old.hash length (take count text.now) (drop self.old.sent self.old.held.items) (drop self.new.sent self.new.held.items) self.new.hash (W.contents file.old) (W.contents file.new)) }
+        ensures sealed { IfOk result (λ count. Seals self.old.hash bytes (take count text.now) (drop self.old.sent self.old.held.items) (drop self.new.sent self.new.held.items) self.new.hash (W.contents file.old) (W.contents file.new)) }
     {
         let (piece, _) = text.split_at(text.len().min(PIECE));
-        if self.held.len() + piece.len() * (SEAL_BYTES + 1) > ROOM {
-            self.send(file)?;
+        match self.make_room(piece.len() * (SEAL_BYTES + 1), file) {
+            Ok(()) => {
+                let hash = put_sealed(&mut self.held, self.hash, bytes, piece);
+                self.hash = hash;
+                Ok(piece.len())
+            }
+            Err(error) => Err(error),
         }
-        self.hash = put_sealed(&mut self.held, self.hash, length, piece);
-        Ok(piece.len())
+    }
+
+    // Writes what is held, if there is no room for so many bytes more.
+    fn make_room<W: Write>(&mut self, more: usize, file: &mut W) -> io::Result<()>
+        requires { more ≤ 73728 }
+        ensures sent { Sends (drop self.old.sent self.old.held.items) (drop self.new.sent self.new.held.items) (W.contents file.old) (W.contents file.new) }
+        ensures room { OnOk result (length self.new.held.items + more ≤ vec_capacity self.new.held) }
+        ensures hash { self.new.hash ≡ self.old.hash }
+    {
+        if self.held.capacity() - self.held.len() < more {
+            return self.send(file);
+        }
+        Ok(())
     }
 
     /// Writes what is held. If that fails, what is not in the file stays.
@@ -70,8 +85,8 @@ impl SealBuffer {
         ensures none { OnOk result (self.new.sent ≡ 0) }
         ensures hash { self.new.hash ≡ self.old.hash }
     {
-        while self.sent < self.held.len() {
-            match file.write(&self.held[self.sent..]) {
+        'sending: while self.sent < self.held.len() {
+            match file.write(unsent(&self.held, self.sent)) {
                 Ok(0) => return Err(Error::from(ErrorKind::WriteZero)),
                 Ok(count) => self.sent += count,
                 Err(error) => return Err(error),
@@ -81,4 +96,13 @@ impl SealBuffer {
         self.sent = 0;
         Ok(())
     }
+}
+
+// The bytes from an index on.
+fn unsent(held: &[u8], sent: usize) -> &[u8]
+    requires { sent ≤ length held.now }
+    ensures { result.now ≡ drop sent held.now }
+{
+    let (_, unsent) = held.split_at(sent);
+    unsent
 }

@@ -1,5 +1,6 @@
 //! The checksums (*seals*) that end the lines of a log in its file.
 ghost use Rattle.std.specs.Prelude.{◌≡◌, ◌+◌, ◌*◌, ◌<◌, ◌≤◌, ◌^◌, ◌++◌, ◌∷◌, ◌==◌, [], false, if◌then◌else◌, length, Some, vec_len};
+ghost use Rattle.std.specs.Str.{bytes_eq};
 ghost use Rattle.lv_lines.specs.Input.{has_end};
 ghost use Rattle.lv_lines.specs.Output.{HasRoom, KeepsRoom};
 ghost use Rattle.lv_shards.specs.Bytes.{checksum_from};
@@ -141,11 +142,18 @@ pub(crate) fn hash_behind(hash: u64, line: &[u8]) -> Option<u64>
     if line.len() > LONGEST_SEALED {
         return None;
     }
-    let (text, there) = line.split_at(line.len() - SEAL_BYTES);
+    let (text, seal) = line.split_at(line.len() - SEAL_BYTES);
     let before = checksum_more(checksum_more(hash, text), b" ");
-    let seal = seal_by(before);
-    if there == seal.as_slice() {
-        return Some(checksum_more(checksum_more(before, &seal[1..]), b"\n"));
+    if is_seal(seal, before) {
+        let (_, digits) = seal.split_at(1);
+        return Some(checksum_more(checksum_more(before, digits), b"\n"));
     }
     None
+}
+
+// Whether bytes are the seal of a line where all bytes up to its digits have this checksum.
+fn is_seal(bytes: &[u8], hash: u64) -> bool
+    ensures { result ≡ bytes_eq bytes.now (seal_by hash) }
+{
+    bytes == seal_by(hash).as_slice()
 }
