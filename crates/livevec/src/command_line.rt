@@ -154,6 +154,7 @@ pub fn kept(matches: &ArgMatches<'_>) -> LogPlan {
             .into(),
         drops_old: matches.get_flag("drop-old"),
         must_exist: matches.get_flag("must-exist"),
+        keeps_version: matches.get_flag("keep-version"),
     }
 }
 

@@ -28,7 +28,7 @@ const NUMBERS: [&str; 9] = [
 ];
 
 // The flags that say something of a log.
-const OF_LOGS: [&str; 3] = ["log-answers", "must-exist", "once"];
+const OF_LOGS: [&str; 4] = ["log-answers", "must-exist", "keep-version", "once"];
 
 // The options that say how a log is made anew while it is served.
 const OF_LOGS_MADE_ANEW: [&str; 2] = ["compact-at", "drop-old"];

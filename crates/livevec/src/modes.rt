@@ -210,6 +210,10 @@ pub const SERVE: Mode = Mode {
             "Doesn't keep what was there as FILE.1 when the log is made anew",
         ),
         Argument::Flag(
+            "keep-version",
+            "Leaves a log of version 2 in that version, without checksums",
+        ),
+        Argument::Flag(
             "sync",
             "Flushes to the disk what --transcript or --log writes, before its reply",
         ),

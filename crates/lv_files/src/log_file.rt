@@ -2,7 +2,9 @@
 
 use crate::output_file::{Access, OutputFile};
 use crate::program_error::Reason;
+use crate::seal_buffer::SealBuffer;
 use lv_lines::MOST_NUMBERED;
+use lv_transcript::sealed_length;
 use std::fs::{File, Files, OpenFile, TryLockError};
 use std::io;
 use std::io::{Error, ErrorKind, Write};
@@ -16,16 +18,47 @@ const MOST: u64 = MOST_NUMBERED as u64;
 
 const TOO_LONG: &str = "it would have more than 4294967293 bytes";
 
-/// The file of a transcript or of a log as it is written. What is flushed is on the disk, where that is wanted. A write is refused that would make it longer
-/// than what its readers take, so it stays readable.
+/// The file of a transcript or of a log as it is written. The lines of a log end in checksums there, unless it is of an older version. What is flushed is on
+/// the disk, where that is wanted. A write is refused that would make it longer than what its readers take, so it stays readable.
 #[derive(Drop)]
 pub struct LogFile<F: Drop> {
     /// The file.
     pub file: F,
-    /// Whether it is wanted.
-    pub syncs: bool,
-    /// How many bytes it has.
-    pub length: u64,
+    // Whether what is flushed is to be on the disk.
+    syncs: bool,
+    // How many bytes it has, with those that are held.
+    length: u64,
+    // What its bytes are held in, where lines end in checksums.
+    seals: Option<SealBuffer>,
+}
+
+impl<F: Drop> LogFile<F> {
+    /// A file with so many bytes, at its end. Lines end in checksums if there is a buffer for them, which was made for these bytes.
+    pub fn new(file: F, syncs: bool, length: u64, seals: Option<SealBuffer>) -> LogFile<F> {
+        LogFile {
+            file,
+            syncs,
+            length,
+            seals,
+        }
+    }
+
+    /// How many bytes it has, once all that was taken is written.
+    pub fn length(&self) -> u64 {
+        self.length
+    }
+
+    /// Whether each line that is written ends in a checksum.
+    pub fn is_sealed(&self) -> bool {
+        self.seals.is_some()
+    }
+
+    /// The file alone, once all is written.
+    pub fn into_file(self) -> F {
+        let LogFile { file, seals, .. } = self;
+        drop(seals);
+        file
+    }
 }
 
 /// Opens the file of a transcript or of a log, as those of replies are opened, and locks it before anything else, so that no second
@@ -90,20 +123,33 @@ pub fn names_of<F: OpenFile>(file: &F) -> Result<u64, Reason> {
 }
 
 impl<F: Write + OpenFile + Drop> Write for LogFile<F> {
-    ghost contents = { λ log. F.contents log.file };
+    ghost use Rattle.lv_files.specs.Sealing.{got};
+
+    ghost contents = { λ log. got log.seals (F.contents log.file) };
 
     fn write(&mut self, buf: &[u8]) -> io::Result<usize> {
-        if self.length.saturating_add(buf.len() as u64) > MOST {
+        let more = match &self.seals {
+            Some(_) => sealed_length(buf),
+            None => buf.len() as u64,
+        };
+        if self.length.saturating_add(more) > MOST {
             return Err(Error::new(ErrorKind::FileTooLarge, TOO_LONG));
         }
-        let written = self.file.write(buf);
-        if let Ok(count) = &written {
-            self.length = self.length.saturating_add(*count as u64);
-        }
-        written
+        let Some(seals) = &mut self.seals else {
+            let count = self.file.write(buf)?;
+            self.length = self.length.saturating_add(count as u64);
+            return Ok(count);
+        };
+        let count = seals.take(self.length, buf, &mut self.file)?;
+        let (taken, _) = buf.split_at(count);
+        self.length = self.length.saturating_add(sealed_length(taken));
+        Ok(count)
     }
 
     fn flush(&mut self) -> io::Result<()> {
+        if let Some(seals) = &mut self.seals {
+            seals.send(&mut self.file)?;
+        }
         self.file.flush()?;
         if self.syncs {
             self.file.sync_data()?;

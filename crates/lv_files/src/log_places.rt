@@ -69,6 +69,11 @@ impl<'a> LogPlaces<'a> {
         Ok(())
     }
 
+    /// Whether the old file is not kept.
+    pub fn drops_old(&self) -> bool {
+        self.drops_old
+    }
+
     /// Remembers that the old file, which is open, is where it is to be kept.
     pub fn remember(&mut self, old: &File) {
         self.older = SeenFile::of(old);

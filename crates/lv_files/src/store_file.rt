@@ -11,12 +11,13 @@ use crate::log_file::{LogFile, names_of, open_locked};
 use crate::log_lines::line_of;
 use crate::output_file::{Access, OutputFile, Use};
 use crate::program_error::{Left, ProgramError, Reason};
+use crate::seal_buffer::SealBuffer;
 use crate::waited::Waited;
 use lv_edits::{Edit, Edits};
 use lv_geometry::{Limits, Refusal};
 use lv_lines::{Fault, MOST_NUMBERED};
 use lv_transcript::{
-    FoundFront, FrontVerdict, LogHeading, compacted_heading, read_front, write_log,
+    FoundFront, FrontVerdict, LogHeading, SEAL_BYTES, compacted_heading, read_front, write_log,
 };
 use std::alloc::Global;
 use std::fs::{File, Files, OpenFile};
@@ -26,7 +27,7 @@ use std::time::Clock;
 // Fewer updates than these come before a log that is gone on with: else none could be numbered behind it.
 const MOST_NUMBERS: u64 = 4_611_686_018_427_387_904;
 
-// How many bytes a line has at most, without its LF.
+// How many bytes a line has at most, without its checksum and its LF.
 const LONGEST_LINE: u64 = 120;
 
 // How a log begins before which nothing came.
@@ -35,8 +36,10 @@ const NEW: LogHeading = LogHeading {
     elements: 0,
 };
 
-// The first line of a log before which nothing came, without its LF.
-const FIRST_LINE: [u8; 13] = *b"livevec 2 0 0";
+// The first line of a log before which nothing came, without its LF; and that of a log of version 2.
+const FIRST_LINE: [u8; 30] = *b"livevec 3 0 0 3048bf0ec06edf22";
+
+const OLD_FIRST_LINE: [u8; 13] = *b"livevec 2 0 0";
 
 // The last line of a whole transcript.
 const LAST_LINE: [u8; 4] = *b"end\n";
@@ -127,6 +130,45 @@ impl StoreFile {
         }
     }
 
+    /// The same log, in another file that has its name now, and which is read anew.
+    pub fn replaced<C: Clock + Copy, R: Files<File = File>>(
+        self,
+        clock: C,
+        rt: &R,
+        alloc: Global,
+        name: &str,
+        file: File,
+        output: OutputFile,
+    ) -> Result<StoreFile, ProgramError>
+        ensures { IfOk result (λ store. IsRightStore store.found) }
+    {
+        let number = self.number;
+        drop(self);
+        let mut file = file;
+        if file.seek(SeekFrom::Start(0)).is_err() {
+            return Err(ProgramError::new(Fault::ReadFault, Reason::Unread, number));
+        }
+        let ReadStore {
+            found,
+            length,
+            is_kept,
+        } = read_store(clock, rt, alloc, name, number, &file, output.identity)?;
+        let output = output.as_found(&file);
+        Ok(StoreFile {
+            file,
+            output,
+            found,
+            length,
+            is_kept,
+            number,
+        })
+    }
+
+    /// Whether it is a log whose lines have no checksums.
+    pub fn is_unsealed(&self) -> bool {
+        self.found.heading.is_some() && self.found.hash.is_none()
+    }
+
     /// An error, once the file is removed where it was made here: it is locked until then.
     pub fn without<R: Files>(self, rt: &R, name: &str, error: ProgramError) -> ProgramError {
         let left = Left::Record(self.number);
@@ -182,7 +224,7 @@ impl StoreFile {
             return Err(ProgramError::new(Fault::ReadFault, Reason::MisspeltLog(1), self.number));
         }
         let torn = self.length.saturating_sub(self.found.whole);
-        if torn > LONGEST_LINE {
+        if torn > self.longest_line() {
             return Err(ProgramError::new(Fault::ReadFault, Reason::LongEnd(torn), self.number));
         }
         Ok(())
@@ -204,17 +246,32 @@ impl StoreFile {
         self.check_limits(alloc, limits)
     }
 
+    // How many bytes a line has at most, without its LF.
+    fn longest_line(&self) -> u64 {
+        match self.found.hash {
+            Some(_) => LONGEST_LINE + SEAL_BYTES as u64,
+            None => LONGEST_LINE,
+        }
+    }
+
     // Whether a file without a whole line has a beginning of a new log's first line.
     fn is_first_line_torn(&mut self) -> bool
+        ensures { self.new.found ≡ self.old.found }
+    {
+        self.begins(&FIRST_LINE) || self.begins(&OLD_FIRST_LINE)
+    }
+
+    // Whether all that the file has is a beginning of a line.
+    fn begins(&mut self, line: &[u8]) -> bool
         ensures { self.new.found ≡ self.old.found }
     {
         let Ok(length) = usize::try_from(self.length) else {
             return false;
         };
-        let Some(first) = FIRST_LINE.get(..length) else {
+        let Some(first) = line.get(..length) else {
             return false;
         };
-        let mut bytes = [0u8; 13];
+        let mut bytes = [0u8; 30];
         let Some(there) = bytes.get_mut(..length) else {
             return false;
         };
@@ -336,14 +393,14 @@ impl StoreFile {
             edits,
             heading,
             whole,
+            hash,
             ..
         } = found;
-        let file = LogFile {
-            file,
-            syncs,
-            length: whole,
+        let seals = match seals_behind(alloc, heading, hash) {
+            Ok(seals) => seals,
+            Err(error) => return Err(output.without(rt, name, Left::Record(number), error)),
         };
-        let mut file = Waited::new(clock, file);
+        let mut file = Waited::new(clock, LogFile::new(file, syncs, whole, seals));
         let Some(heading) = heading else {
             drop(edits);
             write_new(rt, alloc, name, number, output, &mut file)?;
@@ -360,6 +417,19 @@ impl StoreFile {
             heading,
             edits,
         })
+    }
+}
+
+// What bytes are held in that come behind a log with this heading, or begin one: lines have no checksums where those of the log have none.
+fn seals_behind(
+    alloc: Global,
+    heading: Option<LogHeading>,
+    hash: Option<u64>,
+) -> Result<Option<SealBuffer>, ProgramError> {
+    match (heading, hash) {
+        (None, _) => Ok(Some(SealBuffer::of_new(alloc)?)),
+        (Some(_), Some(hash)) => Ok(Some(SealBuffer::new(alloc, hash)?)),
+        (Some(_), None) => Ok(None),
     }
 }
 

@@ -6,6 +6,7 @@ use crate::log_file::LogFile;
 use crate::log_places::{LogFolder, LogPlaces};
 use crate::output_file::OutputFile;
 use crate::program_error::{ProgramError, Reason};
+use crate::seal_buffer::SealBuffer;
 use crate::waited::Waited;
 use lv_lines::Fault;
 use lv_transcript::{LogHeading, LogWriter, write_log};
@@ -28,6 +29,8 @@ pub struct LogPlan {
     pub drops_old: bool,
     /// Whether it must be there already.
     pub must_exist: bool,
+    /// Whether a log of an older version stays one.
+    pub keeps_version: bool,
 }
 
 /// The log of a server. It is made anew, in another file that takes its place, once it has so many bytes and is twice as long as when it was made last.
@@ -38,8 +41,7 @@ pub struct StoredLog<'a, C: Copy, E: Copy> {
     places: LogPlaces<'a>,
     // Whether what is flushed is to be on the disk.
     syncs: bool,
-    // The least number of bytes from which on it is made anew.
-    least: u64,
+    plan: LogPlan,
     file: Waited<C, LogFile<File>>,
     output: OutputFile,
     // From how many bytes on it is made anew next.
@@ -53,13 +55,13 @@ pub struct StoredLog<'a, C: Copy, E: Copy> {
 }
 
 impl<'a, C: Clock + Copy, R: Eprint + LogFolder> StoredLog<'a, C, &'a R> {
-    /// A log that is open and locked, at its end. It is made anew from so many bytes on at least.
+    /// A log that is open and locked, at its end.
     pub fn new(
         clock: C,
         rt: &'a R,
         places: LogPlaces<'a>,
         syncs: bool,
-        least: u64,
+        plan: LogPlan,
         file: Waited<C, LogFile<File>>,
         output: OutputFile,
     ) -> StoredLog<'a, C, &'a R> {
@@ -68,10 +70,10 @@ impl<'a, C: Clock + Copy, R: Eprint + LogFolder> StoredLog<'a, C, &'a R> {
             rt,
             places,
             syncs,
-            least,
+            plan,
             file,
             output,
-            due: least,
+            due: plan.compact_at,
             is_told: false,
             is_lost: false,
             seen_at: None,
@@ -110,13 +112,9 @@ impl<'a, C: Clock + Copy, R: Eprint + LogFolder> StoredLog<'a, C, &'a R> {
         requires count { heading.elements ≡ length elements.now }
         requires few { length elements.now ≤ 1048568 }
     {
+        let seals = self.seals(alloc)?;
         let (file, output) = self.rt.make(&self.places, self.output)?;
-        let file = LogFile {
-            file,
-            syncs: self.syncs,
-            length: 0,
-        };
-        let mut log = Waited::new(self.clock, file);
+        let mut log = Waited::new(self.clock, LogFile::new(file, self.syncs, 0, seals));
         match self.fill_and_replace(alloc, heading, elements, &mut log, output) {
             Ok(()) => {
                 let old = mem::replace(&mut self.file, log);
@@ -132,6 +130,14 @@ impl<'a, C: Clock + Copy, R: Eprint + LogFolder> StoredLog<'a, C, &'a R> {
                 Err(error)
             }
         }
+    }
+
+    // What the bytes of the new file are held in: its lines end in checksums, unless those of the old one don't and that is to stay so.
+    fn seals(&self, alloc: Global) -> Result<Option<SealBuffer>, ProgramError> {
+        if self.plan.keeps_version && !self.file.stream().is_sealed() {
+            return Ok(None);
+        }
+        Ok(Some(SealBuffer::of_new(alloc)?))
     }
 
     // Fills the new file, and puts it in place of the old one.
@@ -199,7 +205,7 @@ impl<'a, C: Clock + Copy, R: Eprint + LogFolder> Write for StoredLog<'a, C, &'a 
 
 impl<'a, C: Clock + Copy, R: Eprint + LogFolder> LogWriter for StoredLog<'a, C, &'a R> {
     fn is_due(&self) -> bool {
-        self.file.stream().length >= self.due
+        self.file.stream().length() >= self.due
     }
 
     fn begin_anew(
@@ -209,8 +215,8 @@ impl<'a, C: Clock + Copy, R: Eprint + LogFolder> LogWriter for StoredLog<'a, C, 
         elements: &[i64],
     ) -> Result<(), Fault> {
         let renewed = self.renew(alloc, heading, elements);
-        let length = self.file.stream().length;
-        self.due = length.saturating_mul(2).max(self.least);
+        let length = self.file.stream().length();
+        self.due = length.saturating_mul(2).max(self.plan.compact_at);
         match renewed {
             Ok(()) => {
                 self.is_told = false;

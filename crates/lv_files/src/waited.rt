@@ -30,6 +30,12 @@ impl<C: Clock + Copy, S: Drop> Waited<C, S> {
         &self.stream
     }
 
+    /// The stream alone.
+    pub fn into_stream(self) -> S {
+        let Waited { stream, .. } = self;
+        stream
+    }
+
     // Lets some time pass, the more the oftener the stream was asked.
     fn nap(&self, times: u64) {
         let naps = times.min(GROWING_NAPS - 1) + 1;

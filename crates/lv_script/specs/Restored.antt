@@ -53,7 +53,7 @@ RestoreEnds rest seen remaining_old remaining_new contents_old contents_new (Err
 RestoreEnds rest seen remaining_old remaining_new contents_old contents_new (Err (unrestored.Front fault)) =
     ReadingEnds MOST_NUMBERED rest seen (Err fault) × Untouched remaining_old remaining_new contents_old contents_new
 
--- a front was read, of no more bytes than have numbered lines and one more, and what became of it
+-- the text of a front was read, of no more bytes than have numbered lines and one more, and what became of it
 pub record Restored (front remaining_old remaining_new contents_old contents_new : Option (List ℕ)) (result : Result FrontVerdict Unrestored) : Type 0 where
   pub rest : Option (List ℕ)
   pub seen : List ℕ

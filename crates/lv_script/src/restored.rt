@@ -5,6 +5,7 @@ ghost use Rattle.lv_edits.specs.History.{with_edit};
 ghost use Rattle.lv_edits.specs.Verdict.{verdict_of};
 ghost use Rattle.lv_live.specs.State.{SameRefresh};
 ghost use Rattle.lv_transcript.specs.Audits.{ReadingEnds};
+ghost use Rattle.lv_transcript.specs.Seals.{text_of};
 ghost use Rattle.lv_transcript.specs.Transcript.{AreAccepted, AreAcceptedAfter, greatest};
 ghost use Rattle.lv_script.specs.Restored.{AnswersAfter, RestoreEnds, Restored};
 
@@ -34,7 +35,7 @@ pub fn restore_script<F: Read + Drop, R: Read, W: Write>(
     reader: &mut R,
     writer: &mut W,
 ) -> Result<FrontVerdict, Unrestored>
-    ensures { Restored (F.remaining front) (R.remaining reader.old) (R.remaining reader.new) (W.contents writer.old) (W.contents writer.new) result }
+    ensures { Restored (text_of (F.remaining front)) (R.remaining reader.old) (R.remaining reader.new) (W.contents writer.old) (W.contents writer.new) result }
 {
     match read_front(alloc, MOST_NUMBERED, front) {
         Ok(found) => resume_found(alloc, found, reader, writer),

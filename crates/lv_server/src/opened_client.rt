@@ -8,7 +8,7 @@ use lv_files::{
     Access, ClientFile, Found, Identity, Left, LogFile, LogFolder, LogPlaces, LogPlan, NULL, Names,
     OutputFile, PipeFolder, ProgramError, REPLIES, Reason, StartedLog, StoreFile, StoredLog,
     StreamEnd, Use, Waited, first_clash, is_written, lasts, names_of, open_input, open_locked,
-    pipe_at, standard_files, sync_folder,
+    pipe_at, renew_store, standard_files, sync_folder,
 };
 use lv_geometry::Limits;
 use lv_hub::{Query, Unasked, read_questions};
@@ -243,6 +243,9 @@ fn start<'a, C: Clock + Copy, R: Eprint + Files<File = File> + LogFolder>(
     let name = names.of_record().unwrap_or("");
     match see_log(rt, alloc, limits, kept, names, &mut store, all) {
         Ok(places) => {
+            let mut places = places;
+            let renews = lasts(limits) && !kept.keeps_version;
+            let store = renew_store(clock, rt, alloc, name, store, &mut places, renews)?;
             let started = store.start(clock, rt, alloc, name, names.syncs)?;
             Ok(stored(clock, rt, places, kept, names, started))
         }
@@ -329,7 +332,7 @@ fn stored<'a, C: Clock + Copy, R: Eprint + LogFolder>(
         rt,
         places,
         names.syncs,
-        kept.compact_at,
+        kept,
         file,
         output,
     );
@@ -566,11 +569,7 @@ fn empty_with<'a, C: Clock + Copy, R: Eprint + PipeFolder>(
     match last {
         None => Ok((clients, None)),
         Some((file, output)) if output.is_emptied(&file) => {
-            let file = LogFile {
-                file,
-                syncs: names.syncs,
-                length: 0,
-            };
+            let file = LogFile::new(file, names.syncs, 0, None);
             Ok((clients, Some(Waited::new(clock, file))))
         }
         Some(_) => Err(ProgramError::new(Fault::WriteFault, Reason::Transcript, 0)),

@@ -24,6 +24,7 @@ use Rattle.lv_transcript.specs.Transcript.{answer_line, edit_line, end_line, fir
 use Rattle.lv_transcript.specs.Auditing.{AuditState, CountedState, CountedStep, IsFoundAt, IsToldOf, IsVerdictAt, MayEnd, counted_at, counted_start, is_fault, is_stopped, start_state}
 use Rattle.lv_transcript.specs.Fronts.{AreSound, AreTrueAfter, Entry, IsBadAt, IsFalseAt, IsToldBy, IsWholeFront, all_lines, answers_in, edits_in, elements_of, entry_line}
 use Rattle.lv_transcript.specs.Audits.{AuditsInput, FrontFound, IsNoFront, IsRight, IsRightFound, IsRightOfFront, IsRightVerdict, IsRightWhole, IsWholeUpTo, NamesRight, ReadsFront, ReadsInput}
+use Rattle.lv_transcript.specs.Seals.{bytes_in_file, text_of}
 use Rattle.lv_lines.proofs.InputLemmas.{length-whole_lines_of}
 use Rattle.lv_transcript.proofs.CountedBytes.{counted_none, counted_whole}
 use Rattle.lv_transcript.proofs.AuditRuns.{IsFound, Runs, all_taken, counted, fault_found, runs_no_fault, runs_short, taken_or_none}
@@ -304,13 +305,17 @@ module _ (seen text : List ℕ) (new : CountedState) (a : Answered CountedStep (
   right_front verdict NoMemory few at told = absurd told
 
 -- what was found is what an audit came to
-found_right : (seen : List ℕ) (found : FoundFront) (edits : History) (heading : Option LogHeading) (whole : ℕ) → found.edits ≡ edits → found.heading ≡ heading → found.whole ≡ whole
-    → Finds heading seen edits.journal whole found.verdict → IsRightFound seen found
-found_right seen found edits heading whole edits_are heading_is whole_is finds =
+found_right : (seen : List ℕ) (found : FoundFront) (edits : History) (heading : Option LogHeading) (whole lines : ℕ) → found.edits ≡ edits → found.heading ≡ heading → found.whole ≡ bytes_in_file found.hash whole lines
+    → lines ≡ length (whole_lines_of seen) → Finds heading seen edits.journal whole found.verdict → IsRightFound seen found
+found_right seen found edits heading whole lines edits_are heading_is whole_is count finds =
     let first : Finds found.heading seen edits.journal whole found.verdict = subst (λ (h : Option LogHeading). Finds h seen edits.journal whole found.verdict) (sym heading_is) finds in
     let second : Finds found.heading seen found.edits.journal whole found.verdict = subst (λ (h : History). Finds found.heading seen h.journal whole found.verdict) (sym edits_are) first in
-    let all : Finds found.heading seen found.edits.journal found.whole found.verdict = subst (λ (n : ℕ). Finds found.heading seen found.edits.journal n found.verdict) (sym whole_is) second in
-    record { right = all.0; whole = all.1 }
+    record { right = second.0; bytes = whole; whole = second.1; in_file = whole_is ∙ ap (bytes_in_file found.hash whole) count }
+
+-- the lines that were counted
+all_counted : (seen text : List ℕ) (new : CountedState) → Answered CountedStep (counted_start true) 1 (map (take 121) (whole_lines_of seen)) text new → new.lines ≡ length (whole_lines_of seen)
+all_counted seen text new a =
+    omega (arith, counted (counted_start true) 1 (map (take 121) (whole_lines_of seen)) text new a refl, length-map (whole_lines_of seen) (take 121))
 
 -- ---- how the reading ends
 
@@ -338,15 +343,15 @@ module _ {remaining rest before after : Option (List ℕ)} (old : CountedState) 
   pub read_front : (T : Type 0) (most : ℕ) (mixed : Bool) (heading : Option LogHeading) (stage : Stage) (edits : History) (last lines whole : ℕ) (result : Result FoundFront Fault) → old ≡ counted_start true
       → most ≤ 4294967293
       → LinesServedWithin CountedStep {T = T} most old (counted_at mixed heading stage edits last lines whole) remaining rest before after (Err fault.ReadFault) → IsAtEnd rest
-      → MatchResult result (λ found. (found.edits ≡ edits) × (found.heading ≡ heading) × (found.whole ≡ whole) × IsFoundAt stage (elements_of heading) lines (length edits.journal) found.verdict) (λ f. f ≡ fault.NoMemory)
+      → MatchResult result (λ found. (found.edits ≡ edits) × (found.heading ≡ heading) × (found.whole ≡ bytes_in_file found.hash whole lines) × IsFoundAt stage (elements_of heading) lines (length edits.journal) found.verdict) (λ f. f ≡ fault.NoMemory)
       → ReadsInput most IsRightFound remaining rest result
   read_front T most mixed heading stage edits last lines whole (Ok found) start fits c end told =
       let right = right_front c.seen c.ends.1.text (counted_at mixed heading stage edits last lines whole) (rw start at c.ends.1.answered) found.verdict stage (omega (arith, c.ends.0, fits)) refl told.3 in
-      record { seen = c.seen; read = c.read; few = c.few; ends = ((end, c.ends.0), found_right c.seen found edits heading whole told.0 told.1 told.2 right) }
+      record { seen = c.seen; read = c.read; few = c.few; ends = ((end, c.ends.0), found_right c.seen found edits heading whole lines told.0 told.1 told.2 (all_counted c.seen c.ends.1.text (counted_at mixed heading stage edits last lines whole) (rw start at c.ends.1.answered)) right) }
   read_front T most mixed heading stage edits last lines whole (Err f) start fits c end told = rw told record { seen = c.seen; read = c.read; few = c.few; ends = tt }
 
-module _ (most : ℕ) {rest : Option (List ℕ)} (remaining known : Option (List ℕ)) (same : remaining ≡ known) where
-  -- what was read of a front is that of what is known of its reader
+module _ (most : ℕ) {rest : Option (List ℕ)} (remaining known : Option (List ℕ)) (same : remaining ≡ text_of known) where
+  -- what was read of a front is the text of what is known of its reader
   pub as_front : (result : Result FoundFront Fault) → ReadsInput most IsRightFound remaining rest result → ReadsFront most known result
   as_front result r = (rest, subst (λ (k : Option (List ℕ)). ReadsInput most IsRightFound k rest result) same r)
 

@@ -16,5 +16,7 @@ pub mod KeptLaws
 pub mod TranscribedFronts
 pub mod LogTexts
 pub mod ContinuedLogs
+pub mod SealLaws
+pub mod UnsealLaws
 pub mod SeenTexts
 pub mod Compactions

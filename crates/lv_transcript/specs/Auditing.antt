@@ -291,8 +291,3 @@ IsFoundAt stages.End elements lines edits verdict = verdict ≡ fronts.Front edi
 IsFoundAt (stages.No n) elements lines edits verdict = verdict ≡ fronts.No n
 IsFoundAt (stages.Bad n) elements lines edits verdict = verdict ≡ fronts.Bad n
 IsFoundAt stages.NoMemory elements lines edits verdict = ⊥
-
--- a reader of whole lines: what it has still to give, and whether it has found its end
-pub record WholeState : Type 0 where
-  pub remaining : Option (List ℕ)
-  pub at_end : Bool

@@ -16,6 +16,7 @@ use Rattle.lv_transcript.specs.declared.fronts.FrontVerdict.TheVariants as front
 use Rattle.lv_transcript.specs.declared.fronts.FoundFront.{FoundFront}
 use Rattle.lv_transcript.specs.declared.log_heading.LogHeading.{LogHeading}
 use Rattle.lv_transcript.specs.Fronts.{Entry, IsBadAt, IsFalseAt, IsToldBy, IsWholeFront, answers_in, edits_in}
+use Rattle.lv_transcript.specs.Seals.{bytes_in_file, text_of}
 use Rattle.lv_transcript.specs.Transcribing.{front_bytes_of}
 use Rattle.lv_transcript.specs.Transcript.{AreAccepted, IsSoundTranscript, greatest, transcript_text}
 
@@ -133,20 +134,22 @@ pub record AuditsInput {V : Type 0} (most : ℕ) (Right : List ℕ → V → Typ
 abbrev pub Audited : Option (List ℕ) → Option (List ℕ) → Option (List ℕ) → Option (List ℕ) → Result Verdict Fault → Type 0
 Audited remaining_old remaining_new contents_old contents_new result = AuditsInput most_read IsRight verdict_text remaining_old remaining_new contents_old contents_new result
 
--- an input was audited as a front of at most so many bytes
+-- the text of an input was audited as a front of at most so many bytes
 abbrev pub FrontAudited : ℕ → Option (List ℕ) → Option (List ℕ) → Option (List ℕ) → Result FrontVerdict Fault → Type 0
 FrontAudited most remaining contents_old contents_new result =
-    (rest : Option (List ℕ)) × (heading : Option LogHeading) × AuditsInput most (IsRightVerdict heading) (front_text heading) remaining rest contents_old contents_new result
+    (rest : Option (List ℕ)) × (heading : Option LogHeading) × AuditsInput most (IsRightVerdict heading) (front_text heading) (text_of remaining) rest contents_old contents_new result
 
--- what was found of a front is right: the verdict, the heading and the edits, and how many bytes the lines have
+-- what was found of a front is right, by its text: the verdict, the heading and the edits, and how many bytes of the file the lines are
 pub record IsRightFound (seen : List ℕ) (found : FoundFront) : Type 0 where
   pub right : IsRightOfFront found.heading seen found.edits.journal found.verdict
-  pub whole : IsRightWhole found.heading seen found.edits.journal found.whole found.verdict right
+  pub bytes : ℕ
+  pub whole : IsRightWhole found.heading seen found.edits.journal bytes found.verdict right
+  pub in_file : found.whole ≡ bytes_in_file found.hash bytes (length (whole_lines_of seen))
 
 -- how the reading of a front ended
 abbrev pub ReadingEnds : ℕ → Option (List ℕ) → List ℕ → Result FoundFront Fault → Type 0
 ReadingEnds most remaining seen result = EndsReading most IsRightFound remaining seen result
 
--- an input was read as a front of at most so many bytes
+-- the text of an input was read as a front of at most so many bytes
 abbrev pub ReadsFront : ℕ → Option (List ℕ) → Result FoundFront Fault → Type 0
-ReadsFront most remaining result = (rest : Option (List ℕ)) × ReadsInput most IsRightFound remaining rest result
+ReadsFront most remaining result = (rest : Option (List ℕ)) × ReadsInput most IsRightFound (text_of remaining) rest result

@@ -9,5 +9,7 @@ pub mod LeastFirst
 pub mod Logs
 pub mod PutTexts
 pub mod ReadTexts
+pub mod Seals
 pub mod Transcribing
 pub mod Transcript
+pub mod Unsealing

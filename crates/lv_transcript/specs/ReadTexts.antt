@@ -7,6 +7,7 @@ use Rattle.lv_transcript.specs.declared.log_heading.LogHeading.{LogHeading}
 use Rattle.lv_transcript.specs.declared.fronts.FoundFront.{FoundFront}
 use Rattle.lv_transcript.specs.declared.fronts.FrontVerdict.{FrontVerdict}
 use Rattle.lv_transcript.specs.Audits.{IsRight, IsRightFound, IsRightVerdict}
+use Rattle.lv_transcript.specs.Seals.{logical_of}
 use Rattle.lv_transcript.specs.declared.text_audits.Unread.{Unread}
 use Rattle.lv_transcript.specs.declared.text_audits.Unread.TheVariants.{NoMemory, TooLong}
 
@@ -25,12 +26,13 @@ abbrev pub TellsOf : {V : Type 0} → (List ℕ → V → Type 0) → List ℕ �
 TellsOf Right text (Ok found) = (length text ≤ 2 ^ 30) × Right text found
 TellsOf Right text (Err why) = IsUnread text why
 
--- the verdict on bytes as a transcript, or as a front; and the edits that were read
+-- the verdict on bytes as a transcript
 abbrev pub AuditsText : List ℕ → Result Verdict Unread → Type 0
 AuditsText text result = TellsOf IsRight text result
 
+-- that on the text of bytes as a front; and the edits that were read
 abbrev pub AuditsFront : List ℕ → Result FrontVerdict Unread → Type 0
-AuditsFront text result = TellsOf (λ bytes verdict. (heading : Option LogHeading) × IsRightVerdict heading bytes verdict) text result
+AuditsFront text result = TellsOf (λ bytes verdict. (heading : Option LogHeading) × IsRightVerdict heading bytes verdict) (logical_of text) result
 
 abbrev pub FindsFront : List ℕ → Result FoundFront Unread → Type 0
-FindsFront text result = TellsOf IsRightFound text result
+FindsFront text result = TellsOf IsRightFound (logical_of text) result

@@ -1,13 +1,15 @@
 //! The audit of a front of a transcript, or of a log: edits and answers in the order of time, as far as they were written.
-ghost use Rattle.std.specs.Prelude.{◌≡◌, ◌≤◌, ◌++◌, None, Some, MatchResult, length};
+ghost use Rattle.std.specs.Prelude.{◌≡◌, ◌≤◌, ◌++◌, None, Some, IfOk, MatchResult, length};
 ghost use Rattle.lv_lines.specs.Output.{HasRoom};
 ghost use Rattle.lv_lines.specs.declared.replies.TheConstants.{LINE};
 ghost use Rattle.lv_transcript.specs.Auditing.{IsFoundAt, IsToldOf};
 ghost use Rattle.lv_transcript.specs.Audits.{FrontAudited, ReadsFront, counts_text, front_text};
 ghost use Rattle.lv_transcript.specs.Fronts.{elements_of};
+ghost use Rattle.lv_transcript.specs.Seals.{bytes_in_file};
 
 use crate::auditor::{Auditor, Stage, elements_of};
 use crate::log_heading::LogHeading;
+use crate::seals::SEAL_BYTES;
 use crate::whole_lines::WholeLines;
 use lv_edits::Edits;
 use lv_lines::{Fault, LINE, MOST_NUMBERED, put, put_bad, put_number, serve_lines, write_whole};
@@ -40,8 +42,10 @@ pub struct FoundFront {
     pub edits: Edits,
     /// What its first line tells, where it is a log.
     pub heading: Option<LogHeading>,
-    /// How many bytes the first line and the lines of its edits and answers have.
+    /// How many bytes of the input the first line and the lines of its edits and answers are.
     pub whole: u64,
+    /// The checksum of these bytes, where each line ends in one.
+    pub hash: Option<u64>,
 }
 
 /// Audits a front of a transcript, or a log: reads it to its end, and writes the verdict as a line. An input of more than `most` bytes is
@@ -129,11 +133,13 @@ pub fn read_front<R: Read + Drop>(
     let Ok(mut auditor) = Auditor::new(alloc, true) else {
         return Err(Fault::NoMemory);
     };
-    let mut whole = WholeLines::new(reader);
+    let Ok(mut whole) = WholeLines::new(alloc, reader) else {
+        return Err(Fault::NoMemory);
+    };
     match serve_lines(most, alloc, &mut auditor, &mut whole, &mut io::sink()) {
         Err(Fault::ReadFault) => {
             if whole.is_at_end() {
-                return auditor.found();
+                return auditor.found(whole.hash());
             }
             Err(Fault::ReadFault)
         }
@@ -145,8 +151,9 @@ pub fn read_front<R: Read + Drop>(
 
 impl Auditor {
     // What was found, once all lines were read.
-    fn found(self) -> Result<FoundFront, Fault>
-        ensures { MatchResult result (λ found. (found.edits ≡ self.edits) × (found.heading ≡ self.heading) × (found.whole ≡ self.whole)
+    fn found(self, hash: Option<u64>) -> Result<FoundFront, Fault>
+        ensures hash { IfOk result (λ found. found.hash ≡ hash) }
+        ensures found { MatchResult result (λ found. (found.edits ≡ self.edits) × (found.heading ≡ self.heading) × (found.whole ≡ bytes_in_file found.hash self.whole self.lines)
             × IsFoundAt self.stage (elements_of self.heading) self.lines (length self.edits.journal) found.verdict) (λ fault. fault ≡ Fault.NoMemory) }
     {
         let verdict = self.front_verdict()?;
@@ -154,13 +161,15 @@ impl Auditor {
             edits,
             heading,
             whole,
+            lines,
             ..
         } = self;
         Ok(FoundFront {
             verdict,
             edits,
             heading,
-            whole,
+            whole: in_file(whole, lines, hash),
+            hash,
         })
     }
 
@@ -180,6 +189,16 @@ impl Auditor {
             Stage::Bad(line) => Ok(FrontVerdict::Bad(line)),
             Stage::NoMemory => Err(Fault::NoMemory),
         }
+    }
+}
+
+// How many bytes of a file so many bytes of its text are, which are so many lines.
+fn in_file(bytes: u64, lines: u32, hash: Option<u64>) -> u64
+    ensures { result ≡ bytes_in_file hash bytes lines }
+{
+    match hash {
+        Some(_) => bytes.saturating_add(u64::from(lines) * SEAL_BYTES as u64),
+        None => bytes,
     }
 }
 

@@ -2,12 +2,13 @@
 use Rattle.std.proofs.Common.{List, ℕ, None, [], ◌++◌, ap, ◌∙◌, arith}
 use Rattle.std.proofs.KnownBytes.{Appends-nil, Consumes-nil}
 use Rattle.std.proofs.lemmas.Result.{err_from_is_err_and}
+use Rattle.lv_transcript.specs.Seals.{text_of}
 use Rattle.lv_transcript.specs.Audits.{IsRightFound, IsRightVerdict, front_text}
 use Rattle.lv_transcript.proofs.AuditLaws.{audit_sent, audit_stopped, audit_unsent, verdict_alone}
 use Rattle.lv_transcript.proofs.fronts.audit_front.Goals as goal
 
 pub returns-in_default : goal.returns-in_default
-returns-in_default g c = (g.R.Read.remaining c.args.reader, None, record { seen = []; read = Consumes-nil _; few = omega arith; ends = Appends-nil _ })
+returns-in_default g c = (text_of (g.R.Read.remaining c.args.reader), None, record { seen = []; read = Consumes-nil _; few = omega arith; ends = Appends-nil _ })
 
 pub returns-in_err-found : goal.returns-in_err-found
 returns-in_err-found g c =
