@@ -13,8 +13,10 @@ use std::io::{Error, ErrorKind, Write};
 // At most how many bytes of a log's text are taken at once.
 const PIECE: usize = 4096;
 
-// How many bytes of its file that is at most.
-const ROOM: usize = PIECE * (SEAL_BYTES + 1);
+// How many bytes are held until they are written, at least; and room for a piece behind them, which may be nothing but line ends.
+const HELD: usize = 65_536;
+
+const ROOM: usize = HELD + PIECE * (SEAL_BYTES + 1);
 
 /// Bytes of a log on their way to its file: they are held with their checksums until there are many, or until they are sent.
 #[derive(Drop)]

@@ -327,15 +327,7 @@ fn stored<'a, C: Clock + Copy, R: Eprint + LogFolder>(
         heading,
         edits,
     } = log;
-    let file = StoredLog::new(
-        clock,
-        rt,
-        places,
-        names.syncs,
-        kept,
-        file,
-        output,
-    );
+    let file = StoredLog::new(clock, rt, places, names.syncs, kept, file, output);
     StartedLog {
         file,
         output,
