@@ -13,7 +13,7 @@ pub mod RestoredLaws
 mod FoundLaws
 mod KnownLaws
 mod LongShown
-mod Notes
+pub mod Notes
 mod SearchedLaws
 mod SampleAnswerLaws
 mod ValueLaws
