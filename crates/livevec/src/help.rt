@@ -124,8 +124,10 @@ ones, each before its reply, and nothing goes to standard output. Their numbers 
 after `livevec compact`. With --log-answers answers are appended too. FILE is made if it isn't there, for
 its owner alone, opened before the others, and locked before it is read; the usage errors are those of
 --transcript. With --must-exist it is a fault if FILE isn't there or has no whole line. Standard error
-says how many updates and elements there are. If the last line isn't complete, that line is cut off, and
-standard error says so; if it has more than 120 bytes, that is a fault. If another line is wrong, or
+says how many updates and elements there are. Each line of FILE ends in a checksum of all bytes before it.
+If the last line isn't complete, that line is cut off, and standard error says so; if it has more than 137
+bytes, that is a fault. A log of version 2, which has no checksums, is made anew in version 3 at the start,
+as `livevec compact` does it; with --keep-version it stays as it is. If another line is wrong, or
 --buckets and --edits reject an update, that is a fault, which names the line, and no file has changed.
 A transcript is no log: `livevec compact FILE` makes a log of it. If FILE can't be written, would become
 longer than 4294967293 bytes, or was removed, renamed or replaced, standard error says so at once, no
