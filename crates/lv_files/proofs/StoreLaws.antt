@@ -7,7 +7,7 @@ use Rattle.lv_transcript.specs.declared.fronts.FoundFront.{FoundFront}
 use Rattle.lv_transcript.specs.declared.fronts.FrontVerdict.{FrontVerdict}
 use Rattle.lv_transcript.specs.declared.fronts.FrontVerdict.TheVariants as fronts
 use Rattle.lv_transcript.specs.declared.log_heading.LogHeading.{LogHeading}
-use Rattle.lv_transcript.specs.Audits.{FrontFound, IsRightOfFront, ReadsFront}
+use Rattle.lv_transcript.specs.Audits.{FrontFound, IsRightFound, IsRightOfFront, ReadsInput}
 use Rattle.lv_files.specs.Stores.{IsRightStore}
 
 -- where a verdict is right, and says that a front was found behind a log's first line, the edits are those of a log
@@ -18,8 +18,8 @@ right_journal there seen journal verdict right edits answers is heading has =
     let front : FrontFound (Some heading) seen journal edits answers = subst (λ (o : Option LogHeading). FrontFound o seen journal edits answers) has found in
     found_goes_on heading seen front.entries journal front.front front.journal_is
 
--- what was read of a file is right
-pub right_store : (most : ℕ) (remaining : Option (List ℕ)) (found : FoundFront) → ReadsFront most remaining (Ok found) → IsRightStore found
-right_store most remaining found read front heading has =
+-- what was found in the text of a file is right
+pub right_store : (most : ℕ) (text : Option (List ℕ)) (found : FoundFront) → ((rest : Option (List ℕ)) × ReadsInput most IsRightFound text rest (Ok found)) → IsRightStore found
+right_store most text found read front heading has =
     let right = read.1.ends.1.right in
     right_journal found.heading read.1.seen found.edits.journal found.verdict right front.0 front.1 front.2 heading has
