@@ -1,10 +1,12 @@
 //! The file of a transcript or of a log as it is written.
 
+ghost use Rattle.std.specs.Prelude.{◌≡◌, ◌<◌, ◌^◌, true};
+
 use crate::output_file::{Access, OutputFile};
 use crate::program_error::Reason;
 use crate::seal_buffer::SealBuffer;
 use lv_lines::MOST_NUMBERED;
-use lv_transcript::sealed_length;
+use lv_transcript::{SEAL_BYTES, sealed_length};
 use std::fs::{File, Files, OpenFile, TryLockError};
 use std::io;
 use std::io::{Error, ErrorKind, Write};
@@ -51,6 +53,21 @@ impl<F: Drop> LogFile<F> {
     /// Whether each line that is written ends in a checksum.
     pub fn is_sealed(&self) -> bool {
         self.seals.is_some()
+    }
+
+    // Whether the file stays as short as its readers want it with these bytes. Lines are counted only close to the limit: no byte becomes more than a line's end.
+    fn has_room(&self, bytes: &[u8]) -> bool
+        ensures { result ≡ true → self.now.length < 2 ^ 63 }
+    {
+        if self.length > MOST {
+            return false;
+        }
+        let room = MOST - self.length;
+        let count = bytes.len() as u64;
+        match self.seals {
+            Some(_) => count <= room / (SEAL_BYTES as u64 + 1) || sealed_length(bytes) <= room,
+            None => count <= room,
+        }
     }
 
     /// The file alone, once all is written.
@@ -128,11 +145,7 @@ impl<F: Write + OpenFile + Drop> Write for LogFile<F> {
     ghost contents = { λ log. got log.seals (F.contents log.file) };
 
     fn write(&mut self, buf: &[u8]) -> io::Result<usize> {
-        let more = match &self.seals {
-            Some(_) => sealed_length(buf),
-            None => buf.len() as u64,
-        };
-        if self.length.saturating_add(more) > MOST {
+        if !self.has_room(buf) {
             return Err(Error::new(ErrorKind::FileTooLarge, TOO_LONG));
         }
         let Some(seals) = &mut self.seals else {
