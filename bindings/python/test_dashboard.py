@@ -95,6 +95,30 @@ class Serving(unittest.TestCase):
                 other.close()
             self.assertEqual(viewer.until(lambda page: "a" in page.charts).charts["a"]["now"], "1")
 
+    def answered(self, host: Any, method: Any, path: Any, headers: Any) -> Any:
+        """The status of an answer, its headers but for the time, and what reads its body."""
+        lines = [f"{method} {path} HTTP/1.1", *(f"{name}: {value}" for name, value in {"Host": host, **headers}.items())]
+        told = self.slow(host, "".join(f"{line}\r\n" for line in [*lines, ""]).encode()).makefile("rb")
+        self.addCleanup(told.close)
+        status = int(told.readline().split()[1])
+        return status, {name: value for name, value in http.client.parse_headers(told).items() if name != "Date"}, told
+
+    def test_head_is_answered_as_get_without_a_body(self) -> None:
+        server, _ = self.serving(60, viewers=1)
+        host = server.url.split("/")[2]
+        for path, headers, wanted in (("/", {}, 200), ("/else", {}, 404), ("/view?nobody", {}, 404), ("/", {"Host": "evil.example"}, 403), ("/events", {"Sec-Fetch-Site": "cross-site"}, 403)):
+            got, head = (self.answered(host, method, path, headers) for method in ("GET", "HEAD"))
+            self.assertEqual((head[:2], head[0]), (got[:2], wanted), path)
+            self.assertEqual((head[1]["Content-Length"], head[2].read()), (str(len(got[2].read())), b""), path)
+        # of the stream there is no length, and HEAD takes the place of no viewer
+        for _ in range(2):
+            status, streamed, told = self.answered(host, "HEAD", "/events", {})
+            self.assertEqual((status, streamed["Content-Type"], "Content-Length" in streamed, told.read(), len(server.guests)), (200, "text/event-stream; charset=utf-8", False, b"", 0))
+        status, headers, _ = self.answered(host, "GET", "/events", {})
+        self.assertEqual((status, headers), (200, streamed))
+        got, head = (self.answered(host, method, "/events", {}) for method in ("GET", "HEAD"))
+        self.assertEqual((head[:2], head[0], head[2].read()), (got[:2], 503, b""))
+
     def test_pages_from_elsewhere_take_no_seats(self) -> None:
         with dashboard() as (pipe, url):
             viewer = self.client(url)

@@ -6,6 +6,7 @@ It is Python's own HTTP server, with a thread a connection: it needs nothing ins
 |---|---|
 | GET / | the page |
 | GET /events | server-sent events: `hello` with the viewer's key, then one message a frame, which has what changed |
+| HEAD of these | the status and the headers of GET, and no body; no viewer is made |
 | POST /view?KEY | takes what that viewer looks at, as JSON |
 """
 from __future__ import annotations
@@ -106,10 +107,14 @@ class Server(http.server.ThreadingHTTPServer):
         if not isinstance(sys.exc_info()[1], OSError):
             print(*map(shown, traceback.format_exc().splitlines()), sep="\n", file=sys.stderr)
 
+    def has_room(self) -> bool:
+        """Whether there is room for one more viewer."""
+        return len(self.guests) < self.bounds.viewers
+
     def seated(self) -> Optional[str]:
         """The key of a new viewer, if there is room for one."""
         with self.seating:
-            if len(self.guests) >= self.bounds.viewers:
+            if not self.has_room():
                 return None
             key = secrets.token_urlsafe(12)
             self.guests[key] = _Guest(Viewer(self.store, self.digits))
@@ -146,8 +151,16 @@ class Handler(http.server.BaseHTTPRequestHandler):
             self._text(404, "there is only the page, at /")
         elif not self._from_page():
             self._text(403, "a page of this server is wanted")
+        elif self.command == "HEAD" and self.server.has_room():
+            self._events_head()
+        elif self.command == "HEAD":
+            self._full()
         else:
             self._events()
+
+    def do_HEAD(self) -> None:
+        """Answers as GET does, but sends no body."""
+        self.do_GET()
 
     def do_POST(self) -> None:
         path, _, key = self.path.partition("?")
@@ -194,11 +207,11 @@ class Handler(http.server.BaseHTTPRequestHandler):
         """Sends frames until the viewer is gone, or takes nothing for too long."""
         key = self.server.seated()
         if key is None:
-            self._text(503, "there are as many viewers as there may be")
+            self._full()
             return
         try:
             self.connection.setsockopt(socket.SOL_SOCKET, socket.SO_SNDBUF, _BACKLOG)
-            self._head(200, "text/event-stream; charset=utf-8", {})
+            self._events_head()
             self._send("hello", {"viewer": key, "title": self.server.title, "digits": self.server.digits})
             self._frames(self.server.guests[key].viewer)
         except OSError:
@@ -220,6 +233,12 @@ class Handler(http.server.BaseHTTPRequestHandler):
                 self._send("beat", {})
             viewer.looked.wait(FRAME)
 
+    def _events_head(self) -> None:
+        self._head(200, "text/event-stream; charset=utf-8", {})
+
+    def _full(self) -> None:
+        self._text(503, "there are as many viewers as there may be")
+
     def _send(self, event: str, data: dict[str, Any]) -> None:
         self.wfile.write(f"event: {event}\ndata: {json.dumps(data, separators=(',', ':'))}\n\n".encode())
 
@@ -228,7 +247,8 @@ class Handler(http.server.BaseHTTPRequestHandler):
 
     def _reply(self, status: int, body: bytes, kind: str, headers: Optional[dict[str, str]] = None) -> None:
         self._head(status, kind, {"Content-Length": str(len(body)), **(headers or {})})
-        self.wfile.write(body)
+        if self.command != "HEAD":
+            self.wfile.write(body)
 
     def _head(self, status: int, kind: str, headers: dict[str, str]) -> None:
         self.server.connections.heard(self.request)
