@@ -47,7 +47,7 @@ def swap(room, words, runs, name, wanted):
     folder = folder_of(room, "swap")
     it = meanwhile(room, folder, words, "fsync", 1, runs)
     served = words[0] == "serve"
-    said = f"'{name}' is no longer the file that was {'opened' if name == 'log' else 'made'} here".encode()
+    said = f"'{name}' is no longer the file that livevec {'opened' if name == 'log' else 'created'}".encode()
     ends = not served or name == "log"
     wanted_too = [said] + [b"livevec: the log isn't made anew: "] * served + [b"livevec: fault 14\n"] * ends + [LOST] * (ends and served)
     if it.returncode != ends or not all(text in it.stderr for text in wanted_too) or served and text_at(f"{folder}/session.out") != "edit 4 at 1\n" * (not ends):
@@ -90,7 +90,7 @@ def left_behind(room):
     folder = folder_of(room, "left")
     os.remove(f"{folder}/log")
     it = meanwhile(room, folder, ["serve", "--log", "log", "session"], "write", 1, "mv log made && cp other log", errno.ENOSPC)
-    if it.returncode != 1 or b"\n'log' was made here and isn't taken away: another file may have its name by now\n" not in it.stderr or text_at(f"{folder}/log") != OTHER:
+    if it.returncode != 1 or b"\n'log' was created by this command, and isn't removed: another file may have its name by now\n" not in it.stderr or text_at(f"{folder}/log") != OTHER:
         stop(f"a log that was made and moved: status {it.returncode}, {it.stderr!r}, {os.listdir(folder)}")
     shutil.rmtree(folder)
 
@@ -141,7 +141,7 @@ def written_since(room, words):
         second = ran(["serve", "--log", "session.out", "second"], folder)
         os.close(os.open(f"{folder}/later", os.O_RDWR))
         told, said = first.communicate(timeout=600)
-    if second.returncode or first.returncode != 2 or told or b"error: 'session.out' was made here, and another program has written to it since: rename one of the two\n" not in said or text_at(f"{folder}/session.out") != ONE:
+    if second.returncode or first.returncode != 2 or told or b"error: 'session.out' was created by this command, and another program has written to it since: rename one of the two\n" not in said or text_at(f"{folder}/session.out") != ONE:
         stop(f"{words}, replies that another has written: status {second.returncode} and {first.returncode}, {told!r}, {said!r}, {text_at(f'{folder}/session.out')!r}")
     if sorted(os.listdir(folder)) != ["later", "log", "other", "second", "second.out", "session", "session.out"] or text_at(f"{folder}/log") != LOG:
         stop(f"{words}, replies that another has written: {os.listdir(folder)}, {text_at(f'{folder}/log')!r}")

@@ -9,7 +9,7 @@ from soak_parts.logs import Log, check_log
 from soak_parts.paced import Paced
 from soak_parts.program import PROGRAM, ROUNDS, SEED, but_start, put, ran, receipts, session, stop
 
-LOCKED = b"is locked, as by a server that writes it"
+LOCKED = b"is locked by another program, such as a server that writes it"
 
 
 def files_in(folder):
@@ -101,7 +101,7 @@ def beside_its_log(folder, name, tries):
     other = Paced([PROGRAM, "serve", "--log", beside, f"{folder}/deep/second"], f"{folder}/deep", [f"{folder}/deep/second"])
     while other.turn([["push 2"]]) and own.turn([["push 1"]]) and told < 99:
         told += 1
-    said = f"livevec: the log isn't made anew: '{log}.{name}' is locked, as by a server that writes it".encode()
+    said = f"livevec: the log isn't made anew: '{log}.{name}' is locked by another program, such as a server that writes it".encode()
     status, text = own.end()
     if status or said not in text:
         stop(f"a server beside whose log x.{name} is served: status {status}, {text!r}")

@@ -28,7 +28,7 @@ pub fn command<'a>(alloc: Global) -> Result<Command<'a>, AllocError> {
     with_command(command, command_of(alloc, &AUDIT))
 }
 
-// What stands above the commands.
+// The program's name, version and help, without its commands.
 fn heading<'a>(alloc: Global) -> Result<Command<'a>, AllocError> {
     Command::new(alloc, "livevec")
         .version(help::VERSION)
@@ -39,7 +39,7 @@ fn heading<'a>(alloc: Global) -> Result<Command<'a>, AllocError> {
         .bin_name("livevec")
 }
 
-// A command with one more below it, where there was memory for both.
+// A command with one more below it, if there was memory for both.
 fn with_command<'a>(
     command: Result<Command<'a>, AllocError>,
     below: Result<Command<'a>, AllocError>,
@@ -47,7 +47,7 @@ fn with_command<'a>(
     command?.subcommand(below?)
 }
 
-// A command that stands below the program's.
+// A command of the program.
 fn command_of<'a>(alloc: Global, mode: &Mode) -> Result<Command<'a>, AllocError> {
     let command = Command::new(alloc, mode.name)
         .about(mode.about)
@@ -55,7 +55,7 @@ fn command_of<'a>(alloc: Global, mode: &Mode) -> Result<Command<'a>, AllocError>
     with_arguments(alloc, command, mode.arguments)
 }
 
-// A command that takes these besides, where there was memory for them.
+// A command with these arguments too, if there was memory for them.
 fn with_arguments<'a>(
     alloc: Global,
     command: Command<'a>,
@@ -68,7 +68,7 @@ fn with_arguments<'a>(
     Ok(command)
 }
 
-// What a command takes, as `clap` has it.
+// An argument of a command, as `clap` has it.
 fn arg_of<'a>(alloc: Global, argument: &Argument) -> Result<Arg<'a>, AllocError> {
     match argument {
         Argument::Number(number) => Ok(number_arg(alloc, number)),
@@ -104,7 +104,7 @@ fn range_arg<'a>(alloc: Global, range: &Range) -> Arg<'a> {
         .value_parser(ValueParser::signed(range.least, range.most))
 }
 
-// An option with one value: its name, what stands for the value, what it says, what it takes, and the value where it is not given.
+// An option with one value: its name, the name of the value, its help, the values that it takes, and the value if it is not given.
 fn option<'a>(
     alloc: Global,
     name: &'static str,
@@ -122,14 +122,14 @@ fn option<'a>(
         .default_value(usual)
 }
 
-/// The limits that a command's options say, the greatest where they say nothing.
+/// The limits that a command's options say, and the greatest where they say nothing.
 pub fn limits(matches: &ArgMatches<'_>) -> Limits {
     let buckets = matches.get_one::<u32>("buckets").unwrap_or(17);
     let edits = matches.get_one::<u32>("edits").unwrap_or(16_777_215);
     limits_of(buckets, edits)
 }
 
-/// At most how many jobs a script may claim, by a command's options: more than it has lines for, where they say nothing.
+/// The greatest number of tasks that a script may claim, by a command's options. If they say nothing, it is more than a script has lines for.
 pub fn jobs(matches: &ArgMatches<'_>) -> usize {
     matches.get_one::<u32>("jobs").unwrap_or(u32::MAX) as usize
 }
@@ -158,7 +158,7 @@ pub fn kept(matches: &ArgMatches<'_>) -> LogPlan {
     }
 }
 
-/// What the files of a command are, by its options: those of sessions, those of subscribers behind them, and that of the transcript or of the log last.
+/// The files of a command, by its options: those of sessions, then those of subscribers, and last that of the transcript or of the log.
 pub fn names<'a>(matches: &ArgMatches<'_>, all: &'a [&'a str]) -> Names<'a> {
     let sessions = matches.get_strs("files").unwrap_or(&[]).len();
     let watches = matches.get_strs("watch").unwrap_or(&[]).len();
@@ -171,7 +171,7 @@ pub fn names<'a>(matches: &ArgMatches<'_>, all: &'a [&'a str]) -> Names<'a> {
     }
 }
 
-/// Whether nothing is told where what reads standard output has ended, by the options of the command that is asked for.
+/// Whether nothing is to be reported when the reader of standard output has ended, according to the options of the command that is asked for.
 pub fn is_quiet(matches: &ArgMatches<'_>) -> bool {
     match matches.subcommand() {
         Some((_, asked)) => asked.get_flag("quiet-pipe"),
@@ -196,7 +196,7 @@ pub fn kind(matches: &ArgMatches<'_>) -> Kind {
     }
 }
 
-/// That the files of a command can't be served together, told under the command's whole name.
+/// The error that the files of a command can't be served together, under the command's whole name.
 pub fn clash_error(alloc: Global, mode: &Mode, text: ErrorText<'_>) -> Result<Error, AllocError> {
     let mut command = named(alloc, mode)?;
     let error = error_of(alloc, &mut command, text);
@@ -209,7 +209,7 @@ fn named<'a>(alloc: Global, mode: &Mode) -> Result<Command<'a>, AllocError> {
     command_of(alloc, mode)?.bin_name(mode.whole_name)
 }
 
-// The same, of a command that is lent: the proof of a body that owns one is long.
+// An error of a command that is borrowed. The proof of a function that owns the command is long.
 fn error_of(
     alloc: Global,
     command: &mut Command<'_>,
@@ -219,7 +219,7 @@ fn error_of(
     command.error(ErrorKind::ValueValidation, text.as_str())
 }
 
-// The limits of these numbers, where they are allowed.
+// The limits of these numbers, if they are allowed.
 fn limits_of(buckets: u32, edits: u32) -> Limits
     ensures { AreAllowed buckets edits → (result.buckets ≡ buckets) × (result.edits ≡ edits) }
 {

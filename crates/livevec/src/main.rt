@@ -19,7 +19,8 @@ use lv_files::{
 };
 use lv_machine::Machine;
 use lv_script::{
-    Fault, MOST_NUMBERED, audit, audit_front, run_schedule, run_script_within, run_series_script,
+    Fault, MOST_NUMBERED, Verdict, audit, audit_front, run_schedule, run_script_within,
+    run_series_script,
 };
 use lv_server::{hold_files, restore_file, serve_files, serve_logged_files};
 use std::alloc::{AllocError, Global};
@@ -100,7 +101,7 @@ fn words_of<R: AllocGlobal + Env>(rt: &R) -> io::Result<Vec<String>> {
     Ok(env::args(rt)?.collect(rt.alloc())?)
 }
 
-// Does what a command line asks. With --quiet-pipe nothing is told where what reads standard output has ended.
+// Does what a command line asks for. With --quiet-pipe nothing is reported when the reader of standard output has ended.
 fn obey<
     R: AllocGlobal
         + Clock
@@ -126,7 +127,7 @@ fn obey<
     }
 }
 
-// Does it, writing to what stands for standard output.
+// Does what a command line asks for, writing to this writer in place of standard output.
 fn answer<
     R: AllocGlobal
         + Clock
@@ -175,8 +176,8 @@ fn answer<
     }
 }
 
-// Audits a transcript, or a front of one.
-fn audit_input<R: AllocGlobal + Clock + Input, W: Write>(
+// Audits a transcript, or a prefix (*front*) of one.
+fn audit_input<R: AllocGlobal + Clock + Eprint + Input, W: Write>(
     rt: &R,
     asked: &ArgMatches<'_>,
     writer: &mut W,
@@ -185,7 +186,11 @@ fn audit_input<R: AllocGlobal + Clock + Input, W: Write>(
     if asked.get_flag("front") {
         Ok(status_of_front(audit_front(alloc, MOST_NUMBERED, lines_of(rt), writer)?))
     } else {
-        Ok(status_of(audit(alloc, &mut lines_of(rt), writer)?))
+        let verdict = audit(alloc, &mut lines_of(rt), writer)?;
+        if let Verdict::Bad(1) = verdict {
+            let _ = eprintln!(rt; "{}", help::NO_TRANSCRIPT);
+        }
+        Ok(status_of(verdict))
     }
 }
 

@@ -1,4 +1,4 @@
-//! Words of the command line that are refused beside what `clap` refuses.
+//! Errors of the command line that `clap` doesn't detect.
 
 ghost use Rattle.std.specs.Prelude.{◌≤◌, length};
 
@@ -8,7 +8,7 @@ use lv_files::{Escaped, EscapedBytes, is_shown};
 use std::env::{Env, FillError};
 use std::{fmt, str};
 
-/// Up to how many bytes a word that isn't UTF-8 is shown.
+/// How many bytes of a word that isn't UTF-8 are shown at most.
 pub const NAME_BYTES: usize = 4096;
 
 /// How often --watch may be given.
@@ -27,31 +27,31 @@ const NUMBERS: [&str; 9] = [
     "clients",
 ];
 
-// The flags that say something of a log.
+// The flags that need --log.
 const OF_LOGS: [&str; 4] = ["log-answers", "must-exist", "keep-version", "once"];
 
-// The options that say how a log is made anew while it is served.
+// The options for the replacement of a log while it is served.
 const OF_LOGS_MADE_ANEW: [&str; 2] = ["compact-at", "drop-old"];
 
-// The limit of updates where a log may be made anew while it is served.
+// The limit of updates with which a log may be replaced while it is served.
 const MOST_EDITS: u32 = 16_777_215;
 
-/// Why a word of the command line is refused.
+/// Why a command line is rejected.
 #[derive(Clone, Copy)]
 pub enum Misuse<'a> {
-    /// A word isn't UTF-8. It has none of these bytes where it is too long to be shown.
+    /// A word isn't UTF-8. The bytes are empty if the word is too long to be shown.
     NotText(&'a [u8]),
-    /// A number is written with a plus.
+    /// A number has a plus sign.
     Plus(&'a str),
-    /// A word that isn't understood has letters that can't be shown as they are.
+    /// `clap` rejects the command line, and a word has characters that can't be shown as they are.
     Unshown(&'a str),
-    /// An option is given so often.
+    /// An option is given more often than this number of times.
     TooOften(&'static str, usize),
-    /// More files of sessions are given than so many.
+    /// More files of sessions are given than this number.
     ManyFiles(usize),
-    /// An option is given without another that it is for.
+    /// An option is given without another one that it needs.
     Without(&'static str, &'static str),
-    /// An option is given with something that leaves it nothing to say.
+    /// An option is given with another one that excludes it.
     Beside(&'static str, &'static str),
 }
 
@@ -60,38 +60,40 @@ impl fmt::Display for Misuse<'_> {
         match self {
             Misuse::NotText(word) => write!(
                 f,
-                "error: '{}' isn't UTF-8: give the file another name, or a link with one",
+                "error: '{}' is not valid UTF-8: rename the file, or make a link to it with another name",
                 EscapedBytes(word)
             )?,
             Misuse::Plus(word) => write!(
                 f,
-                "error: invalid value '{}': write numbers without a plus",
+                "error: invalid value '{}': write the number without a plus sign",
                 Escaped(word)
             )?,
             Misuse::Unshown(word) => write!(
                 f,
-                "error: '{}' isn't understood where it stands",
+                "error: unexpected or invalid argument '{}'",
                 Escaped(word)
             )?,
             Misuse::TooOften(name, most) => {
-                write!(f, "error: --{name} may be given {most} times at most")?
+                write!(f, "error: --{name} may be given at most {most} times")?
             }
             Misuse::ManyFiles(most) => write!(
                 f,
-                "error: {most} files of sessions are allowed at most: --clients N allows more, up to 1000"
+                "error: at most {most} files of sessions may be given: raise this limit with --clients N, up to 1000"
             )?,
-            Misuse::Without(name, other) => {
-                write!(f, "error: --{name} says nothing without {other}")?
-            }
-            Misuse::Beside(name, other) => {
-                write!(f, "error: --{name} says nothing with {other}")?
-            }
+            Misuse::Without(name, other) => write!(
+                f,
+                "error: --{name} has no effect without {other}: give both or neither"
+            )?,
+            Misuse::Beside(name, other) => write!(
+                f,
+                "error: --{name} has no effect with {other}: omit one of the two"
+            )?,
         }
         f.write_str("\n\nFor more information, try '--help'.")
     }
 }
 
-/// What the options of a command of this name say that is refused, if they do.
+/// Why the options of the command with this name are rejected, if they are.
 pub fn misuse_in<'a>(mode: &str, matches: &ArgMatches<'a>) -> Option<Misuse<'a>> {
     let watches = matches.get_strs("watch").unwrap_or(&[]);
     if watches.len() > WATCHES {
@@ -111,7 +113,7 @@ pub fn misuse_in<'a>(mode: &str, matches: &ArgMatches<'a>) -> Option<Misuse<'a>>
     plus_in(matches)
 }
 
-// The first option of `serve` that is given without another that it is for, if one is.
+// The first option of `serve` that is given without another one that it needs, or with one that excludes it, if there is one.
 fn idle_in<'a>(matches: &ArgMatches<'a>) -> Option<Misuse<'a>> {
     let is_logged = matches.get_str("log").is_some();
     let is_recorded = is_logged || matches.get_str("transcript").is_some();
@@ -141,7 +143,7 @@ fn is_given(matches: &ArgMatches<'_>, name: &str) -> bool {
     matches.get_one::<u32>(name).is_some() || matches.get_flag(name)
 }
 
-// The first number of a command's options that is written with a plus, if one is.
+// The first number among a command's options that has a plus sign, if there is one.
 fn plus_in<'a>(matches: &ArgMatches<'a>) -> Option<Misuse<'a>> {
     for name in &NUMBERS {
         if let Some(word) = matches.get_str(name) {
@@ -153,8 +155,8 @@ fn plus_in<'a>(matches: &ArgMatches<'a>) -> Option<Misuse<'a>> {
     None
 }
 
-/// Puts the first word of the command line that isn't UTF-8 at the start of some bytes, and says how many it has; none where it has
-/// more than there is room for.
+/// Copies the first word of the command line that isn't UTF-8 to the start of `name`, and returns its length: 0 if it is too
+/// long for `name`.
 pub fn unreadable_in<R: Env>(rt: &R, name: &mut [u8; NAME_BYTES]) -> usize
     ensures { result ≤ 4096 }
 {
@@ -169,7 +171,7 @@ pub fn unreadable_in<R: Env>(rt: &R, name: &mut [u8; NAME_BYTES]) -> usize
     0
 }
 
-// Whether so many first bytes are UTF-8.
+// Whether the first `count` bytes are UTF-8.
 fn is_text(name: &[u8], count: usize) -> bool
     requires { count ≤ length name.now }
 {

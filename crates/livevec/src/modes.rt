@@ -1,8 +1,8 @@
-//! The commands of the program, and what each of them takes.
+//! The commands of the program, and the arguments of each.
 
 use crate::help;
 
-/// An option whose value is a number: its name, what it says, its least and greatest number, and the one where it is not given.
+/// An option whose value is a number: its name, its help, the least and the greatest number, and the default.
 #[derive(Clone, Copy)]
 pub struct Number {
     pub name: &'static str,
@@ -14,7 +14,7 @@ pub struct Number {
 
 const BUCKETS: Number = Number {
     name: "buckets",
-    says: "The limit of buckets, 1 to 17: N hold 8 * (2^N - 1) elements",
+    says: "The limit of buckets, 1 to 17; N buckets hold 8 * (2^N - 1) elements",
     least: 1,
     most: 17,
     usual: "17",
@@ -22,7 +22,7 @@ const BUCKETS: Number = Number {
 
 const FEW_BUCKETS: Number = Number {
     name: "buckets",
-    says: "The limit of buckets, 1 to 9: N hold 8 * (2^N - 1) elements",
+    says: "The limit of buckets, 1 to 9; N buckets hold 8 * (2^N - 1) elements",
     least: 1,
     most: 9,
     usual: "9",
@@ -38,7 +38,7 @@ const EDITS: Number = Number {
 
 const JOBS: Number = Number {
     name: "jobs",
-    says: "The limit of tasks that are claimed, 0 to 4294967295, which no script reaches",
+    says: "The limit of tasks that a script may claim, 0 to 4294967295",
     least: 0,
     most: 4_294_967_295,
     usual: "4294967295",
@@ -46,7 +46,7 @@ const JOBS: Number = Number {
 
 const ACTORS: Number = Number {
     name: "actors",
-    says: "The number of threads (actors), 1 to 8; they are counted from 0",
+    says: "The number of threads (actors), 1 to 8; they are numbered from 0",
     least: 1,
     most: 8,
     usual: "2",
@@ -62,7 +62,7 @@ const WORKERS: Number = Number {
 
 const TURNS: Number = Number {
     name: "turns",
-    says: "The number of turns of each worker, one claim each, 0 to 1000000",
+    says: "How often each worker looks for a task before it ends, 0 to 1000000",
     least: 0,
     most: 1_000_000,
     usual: "1000",
@@ -76,18 +76,18 @@ const ANSWERS: Number = Number {
     usual: "100000000",
 };
 
-/// From how many bytes on a log is made anew where nothing else is said.
+/// The default size, in bytes, from which a log is replaced by a new one.
 pub const COMPACT_AT: u32 = 1_073_741_824;
 
 const COMPACT_AT_BYTES: Range = Range {
     name: "compact-at",
     value: "BYTES",
-    says: "Makes the log anew once it has so many bytes, 1 to 4000000000; without it 1073741824",
+    says: "Replaces the log by a new, short one when it reaches this size, 1 to 4000000000 [default: 1073741824]",
     least: 1,
     most: 4_000_000_000,
 };
 
-/// How many files of sessions `serve` takes where nothing else is said, and at most.
+/// How many files of sessions `serve` takes without --clients.
 pub const FEW_CLIENTS: usize = 16;
 
 const MOST_CLIENTS: usize = 1000;
@@ -95,18 +95,18 @@ const MOST_CLIENTS: usize = 1000;
 const CLIENTS: Range = Range {
     name: "clients",
     value: "N",
-    says: "Takes up to N files of sessions, 1 to 1000; without it 16",
+    says: "Takes up to N files of sessions, 1 to 1000 [default: 16]",
     least: 1,
     most: MOST_CLIENTS as i64,
 };
 
-// What each command takes that writes to standard output.
+// The option of each command that writes to standard output.
 const QUIET_PIPE: Argument = Argument::Flag(
     "quiet-pipe",
-    "If whatever reads standard output has ended, as `head` does, reports nothing (exit code 3)",
+    "Ends without a message, by exit code 3, if the reader of standard output has ended, as `head` does",
 );
 
-/// An option whose value is a number, and which may be missing: its name, what stands for the value, what it says, its least and greatest number.
+/// An option whose value is a number, and which has no default: its name, the placeholder of its value, its help, the least and the greatest number.
 #[derive(Clone, Copy)]
 pub struct Range {
     pub name: &'static str,
@@ -119,32 +119,32 @@ pub struct Range {
 /// The names of the kinds.
 pub const KINDS: [&str; 6] = ["sum", "least", "greatest", "best", "affine", "automaton"];
 
-/// What a command takes.
+/// An argument of a command.
 #[derive(Clone, Copy)]
 pub enum Argument {
     /// An option whose value is a number.
     Number(Number),
-    /// The same, which may be missing.
+    /// An option whose value is a number, without a default.
     Range(Range),
-    /// The option that says the kind of a board's body.
+    /// The option for the aggregate of a board.
     Body,
-    /// The files of sessions, at most so many.
+    /// The files of sessions, and how many there may be.
     Files(usize),
-    /// An option without a value: its name, and what it says.
+    /// An option without a value: its name and its help.
     Flag(&'static str, &'static str),
-    /// The same, which is not given beside others: their names.
+    /// An option without a value: its name, its help, and the options that it excludes.
     FlagWithout(&'static str, &'static str, &'static [&'static str]),
-    /// An option whose value is a file: its name, and what it says.
+    /// An option whose value is a file: its name and its help.
     File(&'static str, &'static str),
-    /// The same, which is not given beside others: their names.
+    /// An option whose value is a file: its name, its help, and the options that it excludes.
     FileWithout(&'static str, &'static str, &'static [&'static str]),
-    /// An option that may be given several times, each with a file: its name, and what it says.
+    /// An option whose value is a file, and which may be given several times: its name and its help.
     Several(&'static str, &'static str),
-    /// A file that is a front: what it says.
+    /// A file that is a log or a prefix of a transcript: its help.
     Front(&'static str),
 }
 
-/// A command: its name, that with the program's, what it says, what stands at the end of its help, and what it takes, in order.
+/// A command: its name, its name with that of the program, its summary, the end of its help, and its arguments, in order.
 #[derive(Clone, Copy)]
 pub struct Mode {
     pub name: &'static str,
@@ -166,7 +166,7 @@ pub const RUN: Mode = Mode {
         Argument::Number(JOBS),
         Argument::FlagWithout(
             "series",
-            "Answers a script on a series, an unbounded vector: see below",
+            "Answers a script on a series, which is an unbounded vector: see below",
             &["buckets", "edits", "jobs"],
         ),
         QUIET_PIPE,
@@ -187,39 +187,39 @@ pub const SERVE: Mode = Mode {
         Argument::Number(EDITS),
         Argument::File(
             "transcript",
-            "Writes updates and answers there as they come, in real order",
+            "Writes updates and answers to FILE as they happen, in real order; overwrites FILE",
         ),
         Argument::FileWithout(
             "log",
-            "Goes on from this log, and writes updates there as they come: it is the store",
+            "Continues from the log FILE, and appends updates to it as they happen; `livevec audit --front` checks a log",
             &["transcript", "answers"],
         ),
         Argument::Flag(
             "must-exist",
-            "Makes no log: a --log that isn't there is a fault",
+            "With --log: fails if FILE doesn't exist, and doesn't create it",
         ),
-        Argument::Flag("log-answers", "Writes answers to the log too"),
+        Argument::Flag("log-answers", "With --log: appends answers too"),
         Argument::Flag(
             "once",
-            "With --log: ends the session of a pipe once its writer has ended, and waits for no other",
+            "With --log: ends the session of a pipe when its first client closes it, and waits for no other client",
         ),
         Argument::Range(CLIENTS),
         Argument::Range(COMPACT_AT_BYTES),
         Argument::Flag(
             "drop-old",
-            "Doesn't keep what was there as FILE.1 when the log is made anew",
+            "With --log: doesn't keep the old log as FILE.1 when it is replaced",
         ),
         Argument::Flag(
             "keep-version",
-            "Leaves a log of version 2 in that version, without checksums",
+            "With --log: leaves a log of version 2 in that version, without checksums",
         ),
         Argument::Flag(
             "sync",
-            "Flushes to the disk what --transcript or --log writes, before its reply",
+            "With --log or --transcript: flushes each write to the disk before the reply",
         ),
         Argument::Several(
             "watch",
-            "A file of queries, whose answers are written to FILE.out as they change; up to 4 times",
+            "Reads queries from FILE, and writes their answers to FILE.out as they change; up to 4 times",
         ),
         QUIET_PIPE,
         Argument::Files(MOST_CLIENTS),
@@ -245,9 +245,9 @@ pub const COMPACT: Mode = Mode {
     about: help::COMPACT,
     after_help: help::COMPACTED,
     arguments: &[
-        Argument::Flag("drop-old", "Doesn't keep what was there as FILE.1"),
+        Argument::Flag("drop-old", "Doesn't keep the old file as FILE.1"),
         QUIET_PIPE,
-        Argument::Front("A log that nobody serves, a transcript, or a prefix of one"),
+        Argument::Front("A log that no server has open, a transcript, or a prefix of one"),
     ],
 };
 
@@ -286,10 +286,7 @@ pub const AUDIT: Mode = Mode {
     about: help::AUDIT,
     after_help: help::VERDICTS,
     arguments: &[
-        Argument::Flag(
-            "front",
-            "Checks a prefix: as much of a transcript as was written, in real order",
-        ),
+        Argument::Flag("front", "Checks a log, or a prefix of a transcript"),
         QUIET_PIPE,
     ],
 };

@@ -1,4 +1,4 @@
-//! By which status the program ends, and what it tells then.
+//! The status with which the program ends, and what it reports then.
 
 ghost use Rattle.std.specs.Prelude.{◌≡◌, ◌≢◌};
 
@@ -13,10 +13,10 @@ use std::io;
 use std::io::Write;
 use std::time::Clock;
 
-/// The status with --quiet-pipe where what reads standard output has ended.
+/// The status with --quiet-pipe if the reader of standard output has ended.
 pub const CUT: u8 = 3;
 
-/// Tells of an error on standard error, and gives the status that it ends with.
+/// Reports an error on standard error, and returns the status that it ends with.
 pub fn tell<R: Eprint>(rt: &R, error: ProgramError, files: &[&str]) -> u8
     ensures { result ≡ 1 }
 {
@@ -25,8 +25,8 @@ pub fn tell<R: Eprint>(rt: &R, error: ProgramError, files: &[&str]) -> u8
     1
 }
 
-/// Tells of how a command ended that was given these files, and gives the status. Nothing is told where what reads standard output has ended and
-/// nothing is to be told of that. Files that clash are a wrong use of the command.
+/// Reports how a command ended that was given these files, and returns the status. Nothing is reported if the reader of standard output has ended and
+/// that is not to be reported. Files that clash are a wrong use of the command.
 pub fn status_told<R: AllocGlobal + Clock + Eprint + Print>(
     rt: &R,
     mode: &Mode,
@@ -73,7 +73,7 @@ pub fn show<R: Clock + Eprint + Print>(rt: &R, error: &Error) -> Result<u8, Faul
     }
 }
 
-/// Tells on standard error why a word of the command line is refused, and gives the status that it ends with.
+/// Reports on standard error why a word of the command line is rejected, and returns the status that the program ends with.
 pub fn show_misuse<R: Eprint>(rt: &R, misuse: Misuse<'_>) -> u8
     ensures { result ≡ 2 }
 {
@@ -81,7 +81,7 @@ pub fn show_misuse<R: Eprint>(rt: &R, misuse: Misuse<'_>) -> u8
     2
 }
 
-/// The status that tells of a verdict.
+/// The status for a verdict.
 pub fn status_of(verdict: Verdict) -> u8
     ensures sound { verdict ≡ Verdict.Yes → result ≡ 0 }
     ensures unsound { verdict ≢ Verdict.Yes → result ≡ 1 }
@@ -92,7 +92,7 @@ pub fn status_of(verdict: Verdict) -> u8
     }
 }
 
-/// The status that tells of the verdict on a front.
+/// The status for the verdict on a prefix.
 pub fn status_of_front(verdict: FrontVerdict) -> u8 {
     match verdict {
         FrontVerdict::Front { .. } => 0,
