@@ -67,18 +67,18 @@ $(LIB)/liblivevec.a:
 endif
 
 test: ## runs every test, row, example, page and binding, without proofs; with CRATE=.. only that crate's tests
-	@CC="$(CC)" tools/timed test$(addprefix -,$(CRATE)) "runs $(if $(CRATE),the tests of $(CRATE),every test) without proofs" "$(if $(CRATE),1 to 3 min,some 8 min on 4 processors)" tools/test $(addprefix --crate ,$(CRATE))
+	@CC="$(CC)" tools/with_time test$(addprefix -,$(CRATE)) "runs $(if $(CRATE),the tests of $(CRATE),every test) without proofs" "$(if $(CRATE),1 to 3 min,some 8 min on 4 processors)" tools/test $(addprefix --crate ,$(CRATE))
 
 prove: ## every proof, every wrong body, memory refused in turn; with CRATE=.. proofs and wrong bodies of that crate and those below
 ifeq ($(CRATE),)
-	@CC="$(CC)" tools/timed prove "proves all crates, tries the wrong bodies, refuses memory in turn" "some 70 min on 4 processors" tools/prove
+	@CC="$(CC)" tools/with_time prove "proves all crates, tries the wrong bodies, refuses memory in turn" "some 70 min on 4 processors" tools/prove
 else
-	@tools/timed prove-$(CRATE) "proves $(CRATE) and what lies below it, tries their wrong bodies" "1 to 60 min, by how high the crate stands" tools/prove $(CRATE)
+	@tools/with_time prove-$(CRATE) "proves $(CRATE) and what lies below it, tries their wrong bodies" "1 to 60 min, by how high the crate stands" tools/prove $(CRATE)
 endif
 
 check: ## proves one crate, CRATE=.., and tells the time of each function
 	@[ -d "crates/$(CRATE)/src" ] && [ -n "$(CRATE)" ] || { echo "usage: make check CRATE=NAME, with NAME one of" $$(ls crates) >&2; exit 2; }
-	@tools/timed check-$(CRATE) "proves what changed in $(CRATE), and what lies below it" "1 to 15 min at first, by how high the crate stands" tools/check_crate $(CRATE)
+	@tools/with_time check-$(CRATE) "proves what changed in $(CRATE), and what lies below it" "1 to 15 min at first, by how high the crate stands" tools/check_crate $(CRATE)
 
 lib: ## proves the exports for C, then makes build/liblivevec.a
 	@CC="$(CC)" tools/c_library
@@ -107,7 +107,7 @@ $(REDIS)/livevec_redis.so: $(LIB)/liblivevec.a $(wildcard bindings/redis/*.[ch] 
 		-Wl,--exclude-libs,ALL $(REDIS)/redis/liblivevec.a
 
 test-c: build/liblivevec.a ## tests the library for C, also under sanitizers and valgrind
-	@tools/timed test-c "tests the library for C, plainly, under sanitizers and under valgrind" "some 2 min" env CC="$(CC)" bindings/c/check
+	@tools/with_time test-c "tests the library for C, plainly, under sanitizers and under valgrind" "some 2 min" env CC="$(CC)" bindings/c/check
 
 dashboard: so ## serves live charts of FEED=.., or of this machine, in a browser; WITH=.. are more options
 	@export LIVEVEC_LIB="$(abspath $(SO))/liblivevec.so" PYTHONPATH=bindings/python; \
@@ -115,7 +115,7 @@ dashboard: so ## serves live charts of FEED=.., or of this machine, in a browser
 	else examples/machine_load.py | python3 -m livevec_dashboard - --title "this machine" $(WITH); fi
 
 test-bindings: ## tests C++, Rust, Python, MPI, Dask, the module for Redis and what was installed
-	@tools/timed test-bindings "tests C++, Rust, Python, MPI, Dask, the module for Redis and what is installed" "some 5 min" bindings/check
+	@tools/with_time test-bindings "tests C++, Rust, Python, MPI, Dask, the module for Redis and what is installed" "some 5 min" bindings/check
 
 docs: ## makes build/docs of the sources, without proofs: pages of C, C++, Rust, Python and the program
 	@tools/docs $(LIB)
@@ -163,32 +163,32 @@ uninstall: whole-paths ## takes away what was installed below PREFIX
 	fi
 
 wrong: ## tries the wrong bodies outside the gate, those of CRATE=.. or all
-	@tools/timed wrong-tests-$(CRATE) "tries wrong bodies that a test refuses" "1 to 10 min" tools/tried tests $(CRATE)
-	@tools/timed wrong-$(CRATE) "tries wrong bodies, those of a crate together" "1 to 60 min" tools/tried more $(CRATE)
+	@tools/with_time wrong-tests-$(CRATE) "tries wrong bodies that a test refuses" "1 to 10 min" tools/tried tests $(CRATE)
+	@tools/with_time wrong-$(CRATE) "tries wrong bodies, those of a crate together" "1 to 60 min" tools/tried more $(CRATE)
 
 plant: ## looks for wrong bodies that the contracts of CRATE=.. let through
 	@[ -d "crates/$(CRATE)/src" ] && [ -n "$(CRATE)" ] || { echo "usage: make plant CRATE=NAME, with NAME one of" $$(ls crates) >&2; exit 2; }
-	@cd crates/$(CRATE) && ../../tools/timed plant-$(CRATE) "looks for wrong bodies that the contracts of $(CRATE) let through" "up to 60 min" rt plant --max 2000 --minutes 60
+	@cd crates/$(CRATE) && ../../tools/with_time plant-$(CRATE) "looks for wrong bodies that the contracts of $(CRATE) let through" "up to 60 min" rt plant --max 2000 --minutes 60
 
 soak: ## hard use: millions of lines, many threads, strange bytes, kills, refused memory
-	@tools/timed soak "tries hard use, part by part" "5 to 13 min, once its programs are proved" tools/soak
+	@tools/with_time soak "tries hard use, part by part" "5 to 13 min, once its programs are proved" tools/soak
 
 bench: build ## times it beside plain Rust, and makes the tables and the picture of the pages
-	@tools/timed bench "times livevec beside plain Rust, a line for each pair" "some 15 min, once its two programs are proved" bench/run
+	@tools/with_time bench "times livevec beside plain Rust, a line for each pair" "some 15 min, once its two programs are proved" bench/run
 	@bench/table
 	@bench/picture
 
 bench-board: ## times the board beside a lock
-	@tools/timed bench-board "times the board beside a lock, a line for each pair" "some 5 min, once its program is proved" bench/run board
+	@tools/with_time bench-board "times the board beside a lock, a line for each pair" "some 5 min, once its program is proved" bench/run board
 
 bench-bindings: ## times calls from C and C++
-	@tools/timed bench-bindings "times calls from C and C++, a line for each pair" "some 2 min" bench/run bindings
+	@tools/with_time bench-bindings "times calls from C and C++, a line for each pair" "some 2 min" bench/run bindings
 
 bench-engines: ## times MPI over several processes beside plain loops and MPI's own sum
-	@tools/timed bench-engines "times MPI over 1, 2 and 4 processes beside plain loops and MPI_SUM" "some 2 min" bench/run engines
+	@tools/with_time bench-engines "times MPI over 1, 2 and 4 processes beside plain loops and MPI_SUM" "some 2 min" bench/run engines
 
 bench-redis: redis ## times the module for Redis beside lists, sorted sets and scripts of Redis
-	@LIVEVEC_REDIS="$(abspath $(REDIS))/livevec_redis.so" tools/timed bench-redis "times the module for Redis by redis-benchmark, a line for each row" "some 3 min" bench/redis
+	@LIVEVEC_REDIS="$(abspath $(REDIS))/livevec_redis.so" tools/with_time bench-redis "times the module for Redis by redis-benchmark, a line for each row" "some 3 min" bench/redis
 
 fmt: ## formats each crate
 	@for crate in crates/*/; do echo "formats $$crate"; (cd $$crate && rt fmt); done
