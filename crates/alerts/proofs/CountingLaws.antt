@@ -1,4 +1,4 @@
--- What a push counts on a share.
+-- How a push changes the count of a share.
 use Rattle.std.proofs.Common.{◌≡◌, ◌+◌, List, Result, Ok, Err, ap, subst}
 use Rattle.lv_vector.specs.Edit.{Edit}
 use Rattle.lv_vector.specs.Counting.{Counts, ShareState, having_seen}

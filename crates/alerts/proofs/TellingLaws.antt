@@ -1,4 +1,4 @@
--- What a subscriber is told, one look after another, and at the end.
+-- The notifications of a subscriber, one look after another, and at the end.
 use Rattle.std.proofs.Common.{◌≡◌, ◌⊎◌, ℕ, ℤ, ◌<◌, ◌≤◌, Bool, true, false, true≢false, not, ◌&&◌, Option, Some, None, if◌then◌else◌, List, [], ◌∷◌, ◌++◌, All, Contains, length, map, get_or, refl, ap, sym, subst, ◌∙◌, ap₂, ◌==◌, inl, inr, arith}
 use Rattle.std.specs.List.{AllByRecursion, IsDistinct}
 use Rattle.std.specs.List.Sorted.{IsStrictlyIncreasing}
@@ -29,7 +29,7 @@ use Rattle.alerts.specs.Alerts.{IsNoteOf, IsTrueOf, TellsOf, edits_of, told_by, 
 use Rattle.alerts.specs.Followed.{AreUnbounded, Follows, KeepsFollowing}
 use Rattle.alerts.proofs.Beginnings.{prefix_length, prefix_self, prefix_trans, prefix_whole, rising_push}
 
--- an answer of which no note is due, where there is no bound, is as it was before
+-- an answer without a bound is unchanged if no note of it is due
 same_number : (a b : Option ℤ) → option_eq int_eq a b ≡ true → a ≡ b
 same_number None None same = refl
 same_number (Some a) (Some b) same = ap Some ((Decides-int_eq a b).0 same)
@@ -62,12 +62,12 @@ stays before now idle =
 abbrev pub names : List Query → List (List ℕ)
 names questions = map (λ q. q.name) questions
 
--- what was told last by some tellings and one more
+-- the last reported value of some notifications and one more
 told_more : (told : List Told) (t : Told) (q : Query) (before : Shown) → told_from (told ++ t ∷ []) q before ≡ told_by t.notes.items q (told_from told q before)
 told_more [] t q before = refl
 told_more (u ∷ told) t q before = told_more told t q (told_by u.notes.items q before)
 
--- notes of other questions tell nothing of this one
+-- notes of other questions report nothing of this one
 elsewhere : (q : Query) (before : Shown) (qs : List Query) (told values : List Shown) (notes : List Note) → AllByRecursion (λ name. bytes_eq q.name name ≡ false) (names qs) → AreNotesOf qs told values notes → told_by notes q before ≡ before
 elsewhere q before [] told values notes apart none = ap (λ ns. told_by ns q before) none
 elsewhere q before (p ∷ qs) [] values notes apart none = ap (λ ns. told_by ns q before) none
@@ -78,7 +78,7 @@ elsewhere q before (p ∷ qs) (b ∷ told) (v ∷ values) notes apart (inr note)
     ∙ ap (λ c. if c then v else told_by note.1 q before) apart.0
     ∙ elsewhere q before qs told values note.1 apart.1 note.3
 
--- a note of another question before theirs changes nothing
+-- a note of another question before the notes of this one changes nothing
 behind : (p : Query) (v : Shown) (rest : List Note) (f g : Query → Shown) (qs : List Query) → AllByRecursion (λ name. bytes_eq p.name name ≡ false) (names qs) → AllByRecursion (λ q. told_by rest q (f q) ≡ g q) qs
     → AllByRecursion (λ q. told_by (record { name = p.name; value = v } ∷ rest) q (f q) ≡ g q) qs
 behind p v rest f g [] apart told = tt
@@ -87,7 +87,7 @@ behind p v rest f g (q ∷ qs) apart told = (
   behind p v rest f g qs apart.1 told.1,
 )
 
--- by the notes of values each question is told its value
+-- after the notes of changed values, the last reported value of each question is its new value
 notes_tell : (f g : Query → Shown) (qs : List Query) (notes : List Note) → AllByRecursion (λ q. q.bound ≡ None) qs → IsDistinct bytes_eq (names qs) → AreNotesOf qs (map f qs) (map g qs) notes → AllByRecursion (λ q. told_by notes q (f q) ≡ g q) qs
 unfolding IsDistinct
 notes_tell f g [] notes unbounded apart none = tt
@@ -111,13 +111,13 @@ notes_true edits all f (p ∷ qs) notes asked (inr note) =
       notes_true edits all f qs note.1 asked.1 note.3,
     )
 
--- where no value is another, there are none
+-- if no value has changed, there are no notes
 none_new : (f : Query → Shown) (qs : List Query) (notes : List Note) → AreNotesOf qs (map f qs) (map f qs) notes → notes ≡ []
 none_new f [] notes none = none
 none_new f (p ∷ qs) notes (inl same) = none_new f qs notes same.1
 none_new f (p ∷ qs) notes (inr note) = absurd (true≢false (sym note.0 ∙ never_due p.bound (f p)))
 
--- a telling of the edits that there are now, after some
+-- a notification at the present updates, after some others
 module _ (qs : List Query) (at now : List Edit) (begins : IsPrefix at now) (told : List Told) (t : Told) (edit : t.edit ≡ length now) (notes : AreNotesOf qs (map (watch_answer at) qs) (map (watch_answer now) qs) t.notes.items) where
   true_now : IsTrueOf now qs t
   true_now = record {
@@ -127,12 +127,12 @@ module _ (qs : List Query) (at now : List Edit) (begins : IsPrefix at now) (told
     notes = All-from_recursion (IsNoteOf now qs) t.notes.items (notes_true now qs (watch_answer at) qs t.notes.items (recursion_from_All (Contains qs) qs (λ k d inside. Contains-get_or qs k d inside)) notes);
   }
 
-  -- what was told before is true still, and so is this
+  -- the earlier notifications are still true, and the new one is true too
   true_more : All (IsTrueOf at qs) told → All (IsTrueOf now qs) (told ++ t ∷ [])
   true_more before =
       All-push (IsTrueOf now qs) told t (All-weaker (IsTrueOf at qs) (IsTrueOf now qs) (λ u is. record { first = is.first; begins = prefix_trans is.first at now is.begins begins; edit = is.edit; notes = is.notes }) told before) true_now
 
-  -- each question was told its answer
+  -- the last reported value of each question is its answer
   answers_more : AreUnbounded qs → IsDistinct bytes_eq (names qs) → All (λ q. told_last told q ≡ watch_answer at q) qs → All (λ q. told_last (told ++ t ∷ []) q ≡ watch_answer now q) qs
   answers_more unbounded apart answers k d inside =
       let q = get_or qs k d in
@@ -140,13 +140,13 @@ module _ (qs : List Query) (at now : List Edit) (begins : IsPrefix at now) (told
       ∙ ap (told_by t.notes.items q) (answers k d inside)
       ∙ All-from_recursion (λ p. told_by t.notes.items p (watch_answer at p) ≡ watch_answer now p) qs (notes_tell (watch_answer at) (watch_answer now) qs t.notes.items (recursion_from_All (λ p. p.bound ≡ None) qs unbounded) apart notes) k d inside
 
-  -- the edits rise yet, where this one is later
+  -- the numbers still increase, if the new one is greater
   rising_more : length at < t.edit → All (IsTrueOf at qs) told → IsStrictlyIncreasing (edits_of told) → IsStrictlyIncreasing (edits_of (told ++ t ∷ []))
   rising_more later before rising =
       subst IsStrictlyIncreasing (sym (map_push (λ u. u.edit) told t))
       (rising_push (edits_of told) t.edit rising (All-map (λ e. e < t.edit) (λ u. u.edit) told (λ k d inside. let is = before k d inside in omega (arith, is.edit, prefix_length is.first at is.begins, later))))
 
--- a subscriber that follows is told more
+-- a subscriber that follows gets one more notification
 pub tells_more : (qs : List Query) (limits : Bounds) (old new : SubscriberState) (told : List Told) (t : Told) → HasTold limits old new t → Follows qs old.share.seen old.questions old.told told → Follows qs new.share.seen new.questions new.told (told ++ t ∷ [])
 tells_more qs limits old new told t has is =
     let now = new.share.seen in
@@ -185,7 +185,7 @@ keeps_trans r s t told more all first second = record {
   follows = λ qs is. second.follows qs (first.follows qs is);
 }
 
--- it follows yet where more was seen, whoever holds what it was told
+-- it still follows if more was seen, whoever has its notifications
 pub follows_so : (qs : List Query) (s : SubscriberState) (told : List Told) (seen : List Edit) (watched : List Query) (values : List Shown) (all : List Told) → IsPrefix s.share.seen seen → watched ≡ s.questions → values ≡ s.told → all ≡ told → Follows qs s.share.seen s.questions s.told told → Follows qs seen watched values all
 follows_so qs s told seen watched values all longer watched_are values_are all_are is =
     subst (Follows qs seen watched values) (sym all_are) record {
@@ -200,7 +200,7 @@ follows_so qs s told seen watched values all longer watched_are values_are all_a
       answers = is.answers;
     }
 
--- what is told at the end
+-- the last notification
 pub tells_last : (qs : List Query) (limits : Bounds) (seen : List Edit) (watched : List Query) (values : List Shown) (history : History) (r : Report) → Follows qs seen watched values r.told.items → IsVector limits history → IsPrefix seen history.journal
     → r.last.edit ≡ length history.journal → AreNotesOf watched values (map (watch_answer history.journal) watched) r.last.notes.items → length history.journal ≡ r.accepted → TellsOf limits qs r
 tells_last qs limits seen watched values history r is vector seen_so edit last counted =

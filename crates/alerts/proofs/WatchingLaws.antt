@@ -22,7 +22,7 @@ not_first : (is : Bool) (first : Query) (found : Option Query) → (if is then S
 not_first true first found none = absurd (cc none)
 not_first false first found none = (refl, none)
 
--- where no query has a name, it is that of none of the questions
+-- if no query has a name, it is the name of none of the questions
 unnamed : (qs : List Query) (name : List ℕ) → query_of qs name ≡ None → list_any (bytes_eq name) (names qs) ≡ false
 unnamed [] name none = refl
 unnamed (p ∷ qs) name none =
@@ -33,7 +33,7 @@ pub watches_none : (s : SubscriberState) → s.questions ≡ [] → s.told ≡ [
 unfolding IsDistinct
 watches_none s questions told = record { questions_are = questions; answers = told; apart = tt }
 
--- one question more, which wasn't refused
+-- one more question, which wasn't refused
 pub watches_more : (qs : List Query) (q : Query) (old new : SubscriberState) → IsWatching qs old → question_refusal old.questions q ≡ None → new.questions ≡ old.questions ++ q ∷ [] → new.told ≡ old.told ++ watch_answer [] q ∷ [] → IsWatching (qs ++ q ∷ []) new
 watches_more qs q old new is granted questions told =
     let found = new_name 64 qs q.name q.span (subst (λ ps. question_refusal ps q ≡ None) is.questions_are granted) in record {
@@ -42,12 +42,12 @@ watches_more qs q old new is granted questions told =
       apart = subst (IsDistinct bytes_eq) (sym (map_push (λ p. p.name) qs q)) (IsDistinct-push nat_list_eq_equiv (names qs) q.name is.apart (unnamed qs q.name found));
     }
 
--- the questions up to an index and what stands there
+-- the questions up to an index, and the one at that index
 pub watches_next : (qs : List Query) (i : ℕ) (q : Query) (old new : SubscriberState) → i < length qs → q ≡ get_or qs i q → IsWatching (take i qs) old → question_refusal old.questions q ≡ None → new.questions ≡ old.questions ++ q ∷ [] → new.told ≡ old.told ++ watch_answer [] q ∷ [] → IsWatching (take (i + 1) qs) new
 watches_next qs i q old new inside is watching granted questions told =
     subst (λ ps. IsWatching ps new) (sym (take_more qs i q inside ∙ ap (λ x. take i qs ++ x ∷ []) (sym is))) (watches_more (take i qs) q old new watching granted questions told)
 
--- a subscriber that was told nothing follows
+-- a subscriber that has reported nothing follows
 pub follows_new : (qs : List Query) (seen : List Edit) (s : SubscriberState) (told : List Told) → told ≡ [] → AreUnbounded qs → IsWatching qs s → Follows qs seen s.questions s.told told
 follows_new qs seen s told none unbounded is =
     subst (Follows qs seen s.questions s.told) (sym none) record {

@@ -1,4 +1,4 @@
-//! A subscriber that keeps what it is told.
+//! A subscriber that keeps its notifications.
 ghost use Rattle.std.specs.Prelude.{◌≡◌, [], IfOk, OnOk};
 ghost use Rattle.alerts.specs.Followed.{AreUnbounded, Follows, IsWatching, KeepsFollowing};
 
@@ -11,7 +11,7 @@ use std::time::Duration;
 // How long the subscriber pauses between two looks.
 const PAUSE_MICROSECONDS: u64 = 50;
 
-/// A subscriber, what it was told, in order, and whether it ended early for want of memory.
+/// A subscriber, its notifications in order, and whether it ended early because memory ran out.
 #[derive(Drop)]
 pub struct Follower<N: WithBody<Six>> {
     pub subscriber: Subscriber<N>,
@@ -19,7 +19,7 @@ pub struct Follower<N: WithBody<Six>> {
     pub starved: bool,
 }
 
-/// A subscriber with these questions and a share of its own, which was told nothing yet. Refused as `Subscriber::watch` is.
+/// A subscriber with these questions and this share, which has reported nothing yet. Refused as `Subscriber::watch` is.
 pub fn begin<N: WithBody<Six>>(
     alloc: Global,
     share: Share<N>,
@@ -41,7 +41,7 @@ pub fn begin<N: WithBody<Six>>(
     }
 }
 
-// Registers questions in order, where there are none yet.
+// Registers questions in order, for a subscriber that has none yet.
 fn watch_all<N: WithBody<Six>>(
     subscriber: &mut Subscriber<N>,
     questions: &[Query],
@@ -57,7 +57,7 @@ fn watch_all<N: WithBody<Six>>(
     Ok(())
 }
 
-/// Keeps what there is to tell until the hub's workers are dismissed, or until memory is wanting.
+/// Keeps all notifications until the hub's workers are dismissed, or until memory runs out.
 pub fn follow<N: WithBody<Six>, R: Wait>(
     rt: &R,
     alloc: Global,
@@ -70,7 +70,7 @@ pub fn follow<N: WithBody<Six>, R: Wait>(
     follower
 }
 
-// The same, where the follower stands.
+// Does what `follow` does, with a follower that is lent.
 fn follow_all<N: WithBody<Six>, R: Wait>(
     rt: &R,
     alloc: Global,
@@ -86,7 +86,7 @@ fn follow_all<N: WithBody<Six>, R: Wait>(
     }
 }
 
-// Keeps what there is to tell next. Says whether it goes on: not where the workers are dismissed, nor where memory is wanting.
+// Keeps the next notification. Returns whether there may be another, which isn't so if the workers are dismissed or if memory runs out.
 fn follow_once<N: WithBody<Six>, R: Wait>(
     rt: &R,
     alloc: Global,
@@ -95,7 +95,7 @@ fn follow_once<N: WithBody<Six>, R: Wait>(
 ) -> bool
     ensures { KeepsFollowing follower.old.subscriber follower.new.subscriber follower.old.told.items follower.new.told.items }
 {
-    // the room comes first, so that nothing that was told is lost
+    // Room is made first, so that no notification is lost.
     if follower.told.reserve(1).is_err() {
         follower.starved = true;
         return false;

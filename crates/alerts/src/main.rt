@@ -1,8 +1,9 @@
-//! A worked program on the crates as a library: two sensors push their readings onto one vector at a hub, each by a thread of its own,
-//! while a worker refreshes it and a subscriber is told of the hottest and the coldest reading and of their total, as they change.
+//! A worked program that uses the crates as a library. Two sensors push their readings onto one vector at a hub, each in a thread of its own.
+//! Meanwhile a worker precomputes aggregates, and a subscriber is notified of the hottest reading, the coldest reading and their total, as they
+//! change.
 //!
-//! Proved by the contract of `run`: each note is the plain value of its question after as many edits as it names; those edits rise;
-//! what each question was told last is its answer at the end; and the edits are as many as the readings that count as accepted.
+//! The contract of `run` proves this. Each note has the plain value of its question after as many updates as its number says. These numbers
+//! increase. The last reported value of each question is its answer at the end. There are as many updates as readings that count as accepted.
 #![tactic(auto)]
 
 ghost use Rattle.std.specs.Prelude.{◌≡◌, IfOk, None};
@@ -60,7 +61,7 @@ fn ask(name: &[u8], kind: Kind) -> Result<Query, Failure>
     }
 }
 
-// Shows how many readings there were, what each question was told last, and how many notes are of an edit that doesn't rise.
+// Shows how many readings there were, the last reported value of each question, and how many notifications have a number that doesn't increase.
 fn show<R: Print>(rt: &R, questions: &[Query], report: &Report) -> Result<(), Failure> {
     println!(rt;
         "{} readings accepted, {} refused",
@@ -74,7 +75,7 @@ fn show<R: Print>(rt: &R, questions: &[Query], report: &Report) -> Result<(), Fa
     Ok(())
 }
 
-// Shows what a question was told last.
+// Shows the last reported value of a question.
 fn show_one<R: Print>(rt: &R, question: &Query, value: Option<Shown>) -> Result<(), Failure> {
     let what = match question.kind {
         Kind::Greatest => "hottest",
@@ -89,7 +90,7 @@ fn show_one<R: Print>(rt: &R, question: &Query, value: Option<Shown>) -> Result<
     Ok(())
 }
 
-// What a question was told last, if anything.
+// The last reported value of a question, if there is one.
 fn last_told(question: &Query, report: &Report) -> Option<Shown> {
     let mut last = None;
     for told in &report.told {
@@ -98,7 +99,7 @@ fn last_told(question: &Query, report: &Report) -> Option<Shown> {
     told_by(question, &report.last).or(last)
 }
 
-// What a question was told at an edit, if anything.
+// The value of a question in a notification, if there is one.
 fn told_by(question: &Query, told: &Told) -> Option<Shown> {
     for note in &told.notes {
         if note.name == question.name {
@@ -108,8 +109,8 @@ fn told_by(question: &Query, told: &Told) -> Option<Shown> {
     None
 }
 
-// How many times the subscriber was told of an edit that isn't after the one before. Where it tells nothing at the end, that edit
-// may be the one before.
+// How many notifications have a number that isn't greater than the one before. If the last notification is empty, its number may equal the one
+// before.
 fn falls_in(report: &Report) -> u64 {
     let (mut edit, mut falls) = (0, 0_u64);
     for told in &report.told {

@@ -23,8 +23,8 @@ const PARTS: u64 = 3;
 // How many turns the worker has: more than it takes before it is dismissed.
 const TURNS: u64 = 1_000_000;
 
-/// What came of a run: what the subscriber was told while it followed, in order, and then at the end; how many readings were
-/// accepted and how many refused; and whether the subscriber ended early for want of memory.
+/// The result of a run: the notifications that the subscriber got while it followed, in order, and its last one at the end, how many readings
+/// were accepted and how many refused, and whether the subscriber ended early because memory ran out.
 #[derive(Drop)]
 pub struct Report {
     pub told: Vec<Told>,
@@ -34,7 +34,7 @@ pub struct Report {
     pub starved: bool,
 }
 
-// What the threads leave: their shares as one, and the rest.
+// What the threads leave, with their shares merged into one.
 #[derive(Drop)]
 struct Gathered<N: WithBody<Six>> {
     share: Share<N>,
@@ -76,7 +76,7 @@ pub fn run<R: Threads + Wait + Sync>(
     )
 }
 
-// The same at a hub of this name.
+// Does what `run` does, at a hub of this name.
 fn run_as<N: WithBody<Six> + Send + Sync, R: Threads + Wait + Sync>(
     rt: &R,
     alloc: Global,
@@ -106,7 +106,7 @@ fn run_as<N: WithBody<Six> + Send + Sync, R: Threads + Wait + Sync>(
     }
 }
 
-// Runs all threads at a hub that has no edits yet, and joins what they leave.
+// Runs all threads at a hub that has no updates yet, and merges what they leave.
 fn gather<N: WithBody<Six> + Send + Sync, R: Threads + Wait + Sync>(
     rt: &R,
     alloc: Global,
@@ -130,7 +130,7 @@ fn gather<N: WithBody<Six> + Send + Sync, R: Threads + Wait + Sync>(
     }
 }
 
-// The worker beside the others, who dismiss it. Where no thread can be made for it, it comes last, and ends at once.
+// Runs the worker and, at the same time, the others, which dismiss it. If no thread can be made for the worker, it runs last, and ends at once.
 fn run_all<N: WithBody<Six> + Send + Sync, R: Threads + Wait + Sync>(
     rt: &R,
     alloc: Global,
@@ -157,7 +157,8 @@ fn run_all<N: WithBody<Six> + Send + Sync, R: Threads + Wait + Sync>(
     done
 }
 
-// The subscriber beside the sensors, which dismiss it. Where no thread can be made for it, it comes last, and is told at the end alone.
+// Runs the subscriber and, at the same time, the sensors, which dismiss it. If no thread can be made for the subscriber, it runs last, and is
+// only notified at the end.
 fn follow_and_feed<N: WithBody<Six> + Send + Sync, R: Threads + Wait + Sync>(
     rt: &R,
     alloc: Global,
@@ -191,7 +192,7 @@ fn follow_and_feed<N: WithBody<Six> + Send + Sync, R: Threads + Wait + Sync>(
     }
 }
 
-// Both sensors beside one another.
+// Runs both sensors at the same time.
 fn feed_both<N: WithBody<Six> + Send + Sync, R: Threads + Wait + Sync>(
     rt: &R,
     hub: &Hub<Six, N>,
@@ -212,7 +213,7 @@ fn feed_both<N: WithBody<Six> + Send + Sync, R: Threads + Wait + Sync>(
     )
 }
 
-// The shares as one, and what the threads leave besides.
+// Merges the shares into one, and collects what else the threads leave.
 fn join_all<N: WithBody<Six>>(done: Done<N>) -> Gathered<N>
     requires first { done.first.accepted + done.first.refused ≡ READINGS }
     requires second { done.second.accepted + done.second.refused ≡ READINGS }
@@ -247,7 +248,7 @@ fn join_all<N: WithBody<Six>>(done: Done<N>) -> Gathered<N>
     }
 }
 
-// Closes the hub, and lets the subscriber tell its last. Takes no memory.
+// Closes the hub, and has the subscriber make its last notification. Allocates no memory.
 fn finish<N: WithBody<Six>>(hub: Hub<Six, N>, gathered: Gathered<N>) -> Report
     requires parts { gathered.share.parts ≡ N.parts }
     requires count { gathered.share.count ≡ gathered.accepted }

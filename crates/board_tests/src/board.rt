@@ -1,4 +1,4 @@
-//! Tests of the board: what its calls answer, and what is there when it is closed.
+//! Tests of the board: the results of its calls, and what it has when it is closed.
 ghost use Rattle.std.specs.Prelude.{◌≡◌, length};
 ghost use Rattle.lv_bodies.specs.Parts.{IsShort};
 ghost use Rattle.lv_board.specs.Closing.{IsStill};
@@ -17,7 +17,7 @@ use std::alloc::Global;
 use std::process::Abort;
 use std::test::Fail;
 
-// Pushes an element, and sees where it came.
+// Pushes an element, and checks its index.
 fn assert_pushed(
     rt: &impl Abort,
     board: &Board<Sum>,
@@ -34,7 +34,7 @@ fn assert_pushed(
     assert_same(rt, &pushed, &Ok(Receipt::Pushed { edit, index }));
 }
 
-// Reads an element, and sees what it is, and after which edit.
+// Reads an element, and checks its value and the version.
 fn assert_read(
     rt: &impl Abort,
     board: &Board<Sum>,
@@ -50,7 +50,7 @@ fn assert_read(
     assert_same(rt, &read, &Ok(Read { edit, value }));
 }
 
-// Two seats look, and the second comes first with its push.
+// Two seats look, and the second is faster with its push.
 fn contend(rt: &impl Abort, board: &Board<Sum>, a: &mut Seat<Sum>, b: &mut Seat<Sum>)
     requires a { IsAt board.now.table.shared.table_id board.now.terms a.old }
     requires b { IsAt board.now.table.shared.table_id board.now.terms b.old }
@@ -66,7 +66,7 @@ fn contend(rt: &impl Abort, board: &Board<Sum>, a: &mut Seat<Sum>, b: &mut Seat<
     assert_same(rt, &lost, &Err(Refusal::Contended { edit: 1 }));
 }
 
-// The first seat pushes, reads and is refused an element that is too wide.
+// The first seat pushes, reads, and is refused an element that is too wide.
 fn push(rt: &impl Abort, board: &Board<Sum>, a: &mut Seat<Sum>)
     requires { IsAt board.now.table.shared.table_id board.now.terms a.old }
     ensures { IsStill a.old a.new }
@@ -80,7 +80,7 @@ fn push(rt: &impl Abort, board: &Board<Sum>, a: &mut Seat<Sum>)
     assert_summed(rt, board, a, 4, 4, 8);
 }
 
-// Sums so many elements, and sees what they make, by cells alone or, where there are eight, by their summary alone.
+// Sums the first elements, and checks the result: it is read only from cells or, if there are eight, only from their aggregate.
 fn assert_summed(
     rt: &impl Abort,
     board: &Board<Sum>,
@@ -102,7 +102,7 @@ fn assert_summed(
     assert_same(rt, &summed, &Ok(answer));
 }
 
-// Refreshes the first block, and sees what comes of it.
+// Refreshes the first block, and checks the result.
 fn assert_refreshed(
     rt: &impl Abort,
     board: &Board<Sum>,
@@ -116,7 +116,7 @@ fn assert_refreshed(
     assert_same(rt, &refreshed, &wanted);
 }
 
-// The first four edits of two seats.
+// The first four updates of two seats.
 fn make_four(rt: &impl Abort, board: &Board<Sum>, a: &mut Seat<Sum>, b: &mut Seat<Sum>)
     requires a { IsAt board.now.table.shared.table_id board.now.terms a.old }
     requires b { IsAt board.now.table.shared.table_id board.now.terms b.old }
@@ -129,7 +129,7 @@ fn make_four(rt: &impl Abort, board: &Board<Sum>, a: &mut Seat<Sum>, b: &mut Sea
     assert_same(rt, &size, &Sized { edit: 4, size: 4 });
 }
 
-// The second seat drops the last element, and the first overwrites one; they meet.
+// The second seat drops the last element, and the first overwrites one. Then they meet.
 fn change(rt: &impl Abort, board: &Board<Sum>, a: &mut Seat<Sum>, b: &mut Seat<Sum>)
     requires a { IsAt board.now.table.shared.table_id board.now.terms a.old }
     requires b { IsAt board.now.table.shared.table_id board.now.terms b.old }
@@ -153,7 +153,7 @@ fn change(rt: &impl Abort, board: &Board<Sum>, a: &mut Seat<Sum>, b: &mut Seat<S
     assert_same(rt, &(a.seen(), b.seen()), &(10, 10));
 }
 
-// A board after its first four edits, closed.
+// A board after its first four updates is closed.
 fn four_edits(rt: &impl Abort, alloc: Global, board: Board<Sum>, seats: Vec<Seat<Sum>>)
     requires count { board.terms.seats ≡ 2 }
     requires two { length seats.items ≡ 2 }
@@ -165,7 +165,7 @@ fn four_edits(rt: &impl Abort, alloc: Global, board: Board<Sum>, seats: Vec<Seat
     assert_closed(rt, alloc, board, seats, 4, &[4, 5, 32767, -32768]);
 }
 
-// To be run with each allocation failing in turn, too.
+// It is also run with each allocation failing in turn.
 #[test]
 fn the_first_four_edits(rt: HostRuntime) -> Result<(), Fail> {
     let (board, seats) = open_or_again(&rt, rt.alloc())?;
@@ -184,7 +184,7 @@ fn push_ones(rt: &impl Abort, board: &Board<Sum>, b: &mut Seat<Sum>)
     assert_pushed(rt, board, b, 1, 8, 7);
 }
 
-// A board after ten edits, closed.
+// A board after ten updates is closed.
 fn ten_edits(rt: &impl Abort, alloc: Global, board: Board<Sum>, seats: Vec<Seat<Sum>>)
     requires count { board.terms.seats ≡ 2 }
     requires two { length seats.items ≡ 2 }
@@ -211,7 +211,7 @@ fn two_seats(rt: HostRuntime) -> Result<(), Fail> {
     Ok(())
 }
 
-// What a board of so many buckets and seats is refused by.
+// The refusal of a board with this number of buckets and seats.
 fn refused(alloc: Global, buckets: u32, seats: u32) -> Result<Option<Refusal>, Refusal> {
     let limits = Limits::new(buckets, 1)?;
     Ok(Board::new(alloc, limits, seats, Sum).err())

@@ -1,4 +1,4 @@
-//! Parts of a board: a refreshed block is read as one summary, also beside a thread that edits.
+//! Parts of a board: a refreshed block is read as one aggregate, also while another thread makes updates.
 ghost use Rattle.std.specs.Prelude.{◌≡◌, ◌<◌, ◌≤◌, length};
 ghost use Rattle.lv_board.specs.Closing.{IsStill};
 ghost use Rattle.lv_board.specs.Opening.{AreDealt};
@@ -17,7 +17,7 @@ use std::test::Fail;
 use std::thread;
 use std::thread::Threads;
 
-// An edit that was accepted: what it was answered, where it wrote if it is a write, and what it put there.
+// An update that was accepted: its receipt, where it wrote if it is a write, and which element it carried.
 #[derive(Clone, Copy)]
 struct Made {
     receipt: Receipt,
@@ -25,7 +25,7 @@ struct Made {
     value: i64,
 }
 
-// The first eight elements after an edit, by the receipts of all edits that were accepted after the pushes of 1 to 8.
+// The first eight elements after an update, from the receipts of all updates that were accepted after the pushes of 1 to 8.
 fn first_after(made: &[Made], edit: u32) -> [i64; 8] {
     let mut first: [i64; 8] = [1, 2, 3, 4, 5, 6, 7, 8];
     for one in made {
@@ -54,7 +54,7 @@ fn sum_after(made: &[Made], edit: u32) -> u64 {
     sum
 }
 
-// A try of a number: a push, a write and a pop by turns.
+// The try with this number: pushes, writes and pops take turns.
 fn try_edit(board: &Board<Sum>, seat: &mut Seat<Sum>, k: u32) -> Result<Receipt, Refusal>
     requires at { IsAt board.now.table.shared.table_id board.now.terms seat.old }
     requires short { k < 400 }
@@ -67,7 +67,7 @@ fn try_edit(board: &Board<Sum>, seat: &mut Seat<Sum>, k: u32) -> Result<Receipt,
     }
 }
 
-// Makes 400 tries. What was accepted, behind what is given.
+// Makes 400 tries. Returns those that were accepted, after those that were passed.
 fn edit_400(board: &Board<Sum>, seat: Seat<Sum>, made: Vec<Made>) -> Vec<Made>
     requires { IsAt board.now.table.shared.table_id board.now.terms seat }
 {
@@ -87,14 +87,14 @@ fn edit_400(board: &Board<Sum>, seat: Seat<Sum>, made: Vec<Made>) -> Vec<Made>
     made
 }
 
-// What the second thread was answered: its reductions, and how often it was refused because a later edit had written there.
+// The replies to the second thread: its reductions, and how often one was refused because a later update had written there.
 #[derive(Drop)]
 struct Summed {
     answers: Vec<Answer<u64>>,
     overtaken: usize,
 }
 
-// Refreshes the first block and sums it, and notes the answer.
+// Refreshes the first block and sums it, and notes the reply.
 fn refresh_and_sum(board: &Board<Sum>, seat: &mut Seat<Sum>, summed: &mut Summed)
     requires { IsAt board.now.table.shared.table_id board.now.terms seat.old }
     ensures { IsStill seat.old seat.new }
@@ -109,7 +109,7 @@ fn refresh_and_sum(board: &Board<Sum>, seat: &mut Seat<Sum>, summed: &mut Summed
     }
 }
 
-// Does so 400 times.
+// Does this 400 times.
 fn sum_400(board: &Board<Sum>, seat: Seat<Sum>, summed: Summed) -> (Seat<Sum>, Summed)
     requires { IsAt board.now.table.shared.table_id board.now.terms seat }
     ensures { IsStill seat result.0 }
@@ -133,7 +133,7 @@ fn push_eight(rt: &impl Abort, board: &Board<Sum>, seat: &mut Seat<Sum>)
     }
 }
 
-// One thread edits, and another refreshes and sums beside it.
+// One thread makes updates, and another refreshes and sums at the same time.
 fn edit_beside_sums<R: Threads + Sync>(
     rt: &R,
     board: &Board<Sum>,
@@ -158,7 +158,7 @@ fn edit_beside_sums<R: Threads + Sync>(
     )
 }
 
-// Each answer is the sum after its edit, by the receipts, and every other reduction was overtaken. At least one was answered.
+// Checks that each answer is the sum at its version, given the receipts, and that every other reduction was overtaken. At least one was answered.
 fn assert_sums(rt: &impl Abort, made: &[Made], summed: &Summed) {
     for answer in summed.answers.as_slice() {
         assert_same(
@@ -172,7 +172,7 @@ fn assert_sums(rt: &impl Abort, made: &[Made], summed: &Summed) {
     assert_same(rt, &(answered > 0), &true);
 }
 
-// Once nobody edits, a refresh tells the last write, and a sum reads one summary.
+// Once nobody makes updates, a refresh returns the last write, and a sum reads one aggregate.
 fn assert_fresh(rt: &impl Abort, board: &Board<Sum>, seat: &mut Seat<Sum>, made: &[Made])
     requires { IsAt board.now.table.shared.table_id board.now.terms seat.old }
 {
@@ -194,7 +194,7 @@ fn assert_fresh(rt: &impl Abort, board: &Board<Sum>, seat: &mut Seat<Sum>, made:
     assert_same(rt, &past, &Err(Refusal::OutOfRange { size: 9 }));
 }
 
-// A board whose seats do all that.
+// A board whose seats do all this.
 fn edits_and_sums<R: Threads + Abort + Sync>(
     rt: &R,
     board: &Board<Sum>,

@@ -1,4 +1,4 @@
-//! Tests of a board's sessions over readers and writers that fail, that give or take little, and where memory is wanting.
+//! Tests of a board's sessions with readers and writers that fail or transfer little at a time, and when memory runs out.
 ghost use Rattle.std.specs.Prelude.{IfOk};
 ghost use Rattle.lv_board.specs.Opening.{AreDealt};
 ghost use Rattle.lv_board.specs.Tells.{IsAt};
@@ -73,7 +73,7 @@ fn writes_that_fail(rt: HostRuntime) -> Result<(), Fail> {
     check_writes(&rt, rt.alloc(), &Session)
 }
 
-// Sees that nothing was read or written, and that the seat saw no edit.
+// Checks that nothing was read or written, and that the seat saw no update.
 fn assert_not_begun(
     rt: &impl Abort,
     reader: &FailingReader<'_>,
@@ -84,7 +84,7 @@ fn assert_not_begun(
     assert_same(rt, &read_written_seen, &(LINES.len(), 0, 0));
 }
 
-// Holds a session. Where memory is wanting it sees that nothing was read or written, and holds it again.
+// Runs a session. If memory runs out, it checks that nothing was read or written, and runs the session again.
 fn hold_or_again(
     rt: &impl Abort,
     alloc: Global,
@@ -108,7 +108,7 @@ fn hold_or_again(
     }
 }
 
-// To be run with each allocation failing in turn, too.
+// It is also run with each allocation failing in turn.
 #[test]
 fn a_session_without_memory_never_began(rt: HostRuntime) -> Result<(), Fail> {
     let mut writer = writer(rt.alloc(), all(1000))?;

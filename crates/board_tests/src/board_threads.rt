@@ -1,4 +1,4 @@
-//! Tests of a board with two threads: of tries that meet one is accepted, and each thread sees what the other did.
+//! Tests of a board with two threads. Of tries that collide one is accepted, and each thread sees what the other did.
 ghost use Rattle.std.specs.Prelude.{◌≡◌, length};
 ghost use Rattle.lv_bodies.specs.Parts.{IsShort};
 ghost use Rattle.lv_board.specs.Closing.{IsStill};
@@ -56,7 +56,7 @@ fn push_from_two<R: Threads + Sync>(
     )
 }
 
-// How often an element stands among some.
+// How often an element occurs among some.
 fn times(elements: &[i64], x: i64) -> usize {
     let mut count: usize = 0;
     for y in elements {
@@ -67,7 +67,7 @@ fn times(elements: &[i64], x: i64) -> usize {
     count
 }
 
-// Sees what a board of pushes of 1 and of 2 was, by how many were accepted: of two tries that meet, one is.
+// Checks a closed board of pushes of 1 and of 2, given how many were accepted. Of two tries that collide, one is.
 fn assert_counts(rt: &impl Abort, closed: &Closed, ones: usize, twos: usize) {
     let elements = closed.elements.as_slice();
     let accepted = ones.saturating_add(twos);
@@ -80,7 +80,7 @@ fn assert_counts(rt: &impl Abort, closed: &Closed, ones: usize, twos: usize) {
     assert_same(rt, &(times(elements, 1), times(elements, 2)), &(ones, twos));
 }
 
-// A board that two threads pushed to, closed.
+// A board to which two threads pushed is closed.
 fn thousand_tries<R: Threads + Abort + Sync>(
     rt: &R,
     alloc: Global,
@@ -106,7 +106,7 @@ fn two_threads_try(rt: HostRuntime) -> Result<(), Fail> {
     Ok(())
 }
 
-// Looks until there are so many elements, at most 1,000,000 times. Whether there were.
+// Looks until there are this many elements, at most 1,000,000 times. Returns whether there were.
 fn wait_for(board: &Board<Sum>, seat: &mut Seat<Sum>, size: u32) -> bool
     requires { IsAt board.now.table.shared.table_id board.now.terms seat.old }
     ensures { IsStill seat.old seat.new }
@@ -120,7 +120,7 @@ fn wait_for(board: &Board<Sum>, seat: &mut Seat<Sum>, size: u32) -> bool
     false
 }
 
-// Tries to push an element until that is accepted, at most 1,000,000 times. Whether it was.
+// Tries to push an element until that is accepted, at most 1,000,000 times. Returns whether it was.
 fn push_until(board: &Board<Sum>, seat: &mut Seat<Sum>, x: i64) -> bool
     requires at { IsAt board.now.table.shared.table_id board.now.terms seat.old }
     requires short { IsShort x }
@@ -157,7 +157,7 @@ fn wait_and_push(board: &Board<Sum>, seat: Seat<Sum>) -> (Seat<Sum>, bool)
     (mine, seen && pushed)
 }
 
-// Two threads, of which each waits for the other's push.
+// Two threads that each wait for the other's push.
 fn push_by_turns<R: Threads + Sync>(
     rt: &R,
     board: &Board<Sum>,
@@ -182,7 +182,7 @@ fn push_by_turns<R: Threads + Sync>(
     )
 }
 
-// A board to which two threads push by turns, closed.
+// A board to which two threads push by turns is closed.
 fn two_turns<R: Threads + Abort + Sync>(
     rt: &R,
     alloc: Global,

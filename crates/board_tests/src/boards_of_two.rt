@@ -20,7 +20,7 @@ pub(crate) fn open(alloc: Global) -> Result<(Board<Sum>, Vec<Seat<Sum>>), Refusa
     Board::new(alloc, Limits::new(9, 16_777_215)?, 2, Sum)
 }
 
-// The same, once more where memory is wanting.
+// Opens a board, and tries once more if memory runs out.
 pub(crate) fn open_or_again(
     rt: &impl Abort,
     alloc: Global,
@@ -39,7 +39,7 @@ pub(crate) fn open_or_again(
     Ok(opened)
 }
 
-// Closes a board, and once more where memory is wanting: then all came back.
+// Closes a board, and tries once more if memory runs out, in which case everything was returned.
 fn close_or_again(
     alloc: Global,
     board: Board<Sum>,
@@ -54,7 +54,7 @@ fn close_or_again(
     }
 }
 
-// What is left of a board, where memory is not wanting twice.
+// The result of closing a board, if memory doesn't run out twice.
 pub(crate) fn closed(
     rt: &impl Abort,
     alloc: Global,
@@ -74,7 +74,7 @@ pub(crate) fn closed(
     }
 }
 
-// Closes a board, and sees the number of its last edit and its elements.
+// Closes a board, and checks the number of its last update and its elements.
 pub(crate) fn assert_closed(
     rt: &impl Abort,
     alloc: Global,

@@ -1,10 +1,10 @@
-//! Tests of swaps and truncates on edits alone, over either journal, where memory is wanting too.
+//! Tests of swaps and truncates on an `Edits` without a vector around it, also when memory runs out.
 use crate::same::assert_same;
 use lv_edits::{Edits, Receipt};
 use lv_geometry::{Limits, Refusal};
 use std::process::Abort;
 
-// Exchanges two elements. Where memory is wanting it sees that nothing has changed, and tries again.
+// Exchanges two elements. If there is no memory, it checks that nothing has changed, and tries again.
 fn swap_or_again(
     rt: &impl Abort,
     edits: &mut Edits,
@@ -20,7 +20,7 @@ fn swap_or_again(
     answer
 }
 
-// Drops all but the first so many elements. Where memory is wanting it sees that nothing has changed, and tries again.
+// Drops all but the first `count` elements. If there is no memory, it checks that nothing has changed, and tries again.
 fn truncate_or_again(rt: &impl Abort, edits: &mut Edits, count: u32) -> Result<Receipt, Refusal> {
     let before = (edits.size(), edits.edit(), edits.get(0));
     let answer = edits.truncate(count);
@@ -31,7 +31,7 @@ fn truncate_or_again(rt: &impl Abort, edits: &mut Edits, count: u32) -> Result<R
     answer
 }
 
-// Pushes an element. Where memory is wanting it pushes again.
+// Pushes an element. If there is no memory, it pushes again.
 fn push_or_again(edits: &mut Edits, x: i64) -> Result<Receipt, Refusal> {
     match edits.push(x) {
         Err(Refusal::NoMemory) => edits.push(x),

@@ -1,4 +1,4 @@
-//! That jobs which are held to the end, and then delivered late and twice, change no answer.
+//! A test that jobs which are held to the end, and then delivered late and twice, change no answer.
 use crate::same::assert_same;
 use lv_bodies::{Affine, AffineMap};
 use lv_edits::{Edit, Receipt};
@@ -14,8 +14,8 @@ fn element(index: u32) -> i64 {
     if index == 0 { 515 } else { 257 }
 }
 
-// Eight blocks are pushed; the last element of every other block is popped and pushed again. After each eighth push a job is
-// claimed, where that is wanted.
+// Eight blocks are pushed; the last element of every other block is popped and pushed again. If `refreshes` is true, a job is claimed after each
+// eighth push.
 fn edits(alloc: Global, refreshes: bool) -> Result<Vec<Event>, AllocError> {
     let mut events = Vec::new(alloc);
     for index in 0..64 {
@@ -32,7 +32,7 @@ fn edits(alloc: Global, refreshes: bool) -> Result<Vec<Event>, AllocError> {
     Ok(events)
 }
 
-// The same, and where it is wanted all jobs last, in reverse order and each twice. Then come two reductions.
+// These edits. If `refreshes` is true, all jobs are delivered after them, in reverse order and each twice. Then come two reductions.
 fn events(alloc: Global, refreshes: bool) -> Result<Vec<Event>, AllocError> {
     let mut events = edits(alloc, refreshes)?;
     if refreshes {
@@ -47,7 +47,7 @@ fn events(alloc: Global, refreshes: bool) -> Result<Vec<Event>, AllocError> {
     Ok(events)
 }
 
-// The replies to these events, in a new world.
+// The replies to some events, in a new world.
 fn play(alloc: Global, events: &[Event]) -> Result<Vec<ReplyOf<AffineMap>>, Refusal> {
     let mut world = World::new(alloc, Limits::greatest(), Affine);
     let replies = run(alloc, &mut world, events);
@@ -55,7 +55,7 @@ fn play(alloc: Global, events: &[Event]) -> Result<Vec<ReplyOf<AffineMap>>, Refu
     replies
 }
 
-// What a refresh event has no part in: a receipt, or an answer without its counts.
+// The part of a reply that no refresh event changes: a receipt, or an answer without its counts.
 #[derive(Clone, Copy, PartialEq, Eq)]
 enum Plain {
     Did(Receipt),
@@ -75,7 +75,7 @@ fn answers_of(alloc: Global, replies: &[ReplyOf<AffineMap>]) -> Result<Vec<Plain
     Ok(all)
 }
 
-// What became of what was delivered.
+// What became of the outcomes that were delivered.
 fn given(alloc: Global, replies: &[ReplyOf<AffineMap>]) -> Result<Vec<Accepted>, AllocError> {
     let mut all = Vec::new(alloc);
     for reply in replies {
@@ -86,7 +86,7 @@ fn given(alloc: Global, replies: &[ReplyOf<AffineMap>]) -> Result<Vec<Accepted>,
     Ok(all)
 }
 
-// The last reply, where it is an answer.
+// The last reply, if it is an answer.
 fn last(replies: &[ReplyOf<AffineMap>]) -> Option<Answer<AffineMap>> {
     match replies.last() {
         Some(ReplyOf::Answered(answer)) => Some(*answer),
@@ -94,7 +94,7 @@ fn last(replies: &[ReplyOf<AffineMap>]) -> Option<Answer<AffineMap>> {
     }
 }
 
-// Job 2 is that of the second block before its last element was popped; job 3 is that of the same block after.
+// What becomes of the deliveries. Job 2 is that of the second block before its last element was popped; job 3 is that of the same block after.
 fn wanted() -> [Accepted; 16] {
     let mut wanted = [Accepted::Held; 16];
     for place in [0, 2, 4, 6, 8, 10, 14] {

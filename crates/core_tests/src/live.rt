@@ -1,4 +1,4 @@
-//! Tests what a live vector says of the outcomes of another.
+//! Tests what a live vector does with the outcomes of another.
 use crate::same::assert_same;
 use lv_bodies::{Body, Sum};
 use lv_edits::Edit;
@@ -27,7 +27,7 @@ pub(crate) fn give<B: Body>(live: &mut Live<B>, outcome: Outcome<B>) -> Option<A
     }
 }
 
-// The outcome of the first job of a new vector, made one of eight elements 2.
+// The outcome of the first job of a new vector to which eight elements 2 were pushed.
 fn first_outcome(live: &mut Live<Sum>) -> Result<Outcome<Sum>, Fail> {
     push_all(live, 8, 2)?;
     match live.claim() {
@@ -55,7 +55,7 @@ fn give_thrice(
     Ok([first, second, give(live, outcome)])
 }
 
-// Claims a job, and tells its node and version.
+// Claims a job, and returns its node and version.
 fn next(live: &mut Live<Sum>) -> Option<(Node, u32)> {
     let job = live.claim()?;
     Some((job.node(), job.version()))
@@ -91,7 +91,7 @@ fn outcomes_of_another_vector(rt: HostRuntime) -> Result<(), Fail> {
     Ok(seen?)
 }
 
-// Claims make room for the first block, of which none is claimed yet.
+// Checks that claims make room for the first block. None is claimed yet.
 fn check_claims(rt: &impl Abort, claims: &mut Claims) {
     assert_same(rt, &claims.blocks(), &0);
     assert_same(rt, &claims.grow(1), &Ok(()));

@@ -25,7 +25,7 @@ fn refused(refusal: Refusal) -> Outcome<u64> {
     Outcome::Done(Said::Refused(refusal))
 }
 
-// Two pushes that looked at the same descriptor, of which the second exchange finds another; a size; and an element too wide.
+// Two pushes that looked at the same descriptor, so that the exchange of the later one finds another descriptor; a size; and an element too wide.
 fn contended() -> [(Event, Outcome<u64>); 10] {
     let pushed = Receipt::Pushed { edit: 1, index: 0 };
     let sized = Sized { edit: 1, size: 1 };
@@ -62,7 +62,7 @@ fn a_list_of_events(rt: HostRuntime) -> Result<(), Fail> {
     seen
 }
 
-// Runs events. Where memory is wanting it runs them again, and they come to the same as if they had not been run.
+// Runs events. If there is no memory, it runs them again, and checks that the outcomes are those of a first run.
 fn run_or_again(rt: &impl Abort, machine: &mut Machine<Sum>) -> Result<(), Fail> {
     let events = [call(0, Call::Push(4)), step(0), step(0)];
     let mut outcomes = machine.run(&events);
@@ -76,7 +76,7 @@ fn run_or_again(rt: &impl Abort, machine: &mut Machine<Sum>) -> Result<(), Fail>
     Ok(())
 }
 
-// A machine with one actor. Where memory is wanting it is made again.
+// A machine with one actor. If there is no memory, it is made once more.
 fn made_or_again(alloc: Global) -> Result<Machine<Sum>, Refusal> {
     let made = Machine::new(alloc, greatest()?, 1, Sum);
     if matches!(made, Err(Refusal::NoMemory)) {

@@ -1,4 +1,4 @@
-//! Tests that nothing changes where memory is wanting.
+//! Tests that nothing changes when memory runs out.
 use crate::same::assert_same;
 use lv_bodies::Sum;
 use lv_edits::{Edit, Receipt};
@@ -7,7 +7,7 @@ use lv_live::{Event, Live, ReplyOf, World, run};
 use std::alloc::Global;
 use std::process::Abort;
 
-// Pushes a 1. Where memory is wanting it sees that nothing has changed, and pushes again.
+// Pushes a 1. If there is no memory, it checks that nothing has changed, and pushes again.
 fn push_or_again(rt: &impl Abort, live: &mut Live<Sum>) -> Result<Receipt, Refusal> {
     let before = (live.size(), live.edit(), live.capacity());
     let first = live.apply(Edit::Push(1));
@@ -45,7 +45,7 @@ fn want_of_memory_changes_nothing(rt: HostRuntime) {
     drop(live);
 }
 
-// What a push is answered as an event. Where memory is wanting it sees that nothing has changed, and runs it again.
+// The reply to a push as an event. If there is no memory, it checks that nothing has changed, and runs the event again.
 fn run_or_again(
     rt: &impl Abort,
     alloc: Global,

@@ -15,7 +15,7 @@ use std::process::Abort;
 use std::test::Fail;
 use std::thread::Threads;
 
-// Sees that a scan at edit 4096 has as many values, which begin and end with these.
+// Checks that a scan at edit 4096 has 4,096 values, which begin and end with these.
 fn assert_goes(rt: &impl Abort, scan: &Scan<u64>, first: &[u64], last: u64) {
     let values = scan.values.as_slice();
     let seen = (values.starts_with(first), values.last().copied());
@@ -26,7 +26,7 @@ fn assert_goes(rt: &impl Abort, scan: &Scan<u64>, first: &[u64], last: u64) {
     );
 }
 
-// Sees the scan of 0 to 4095 that is wanted.
+// Checks the inclusive or exclusive scan of 0 to 4095.
 fn check_scan<R: Threads + Sync + Abort>(
     rt: &R,
     alloc: Global,
@@ -41,7 +41,7 @@ fn check_scan<R: Threads + Sync + Abort>(
     Ok(())
 }
 
-// The scan of so many elements that is wanted.
+// The inclusive or exclusive scan of the first `hi` elements.
 fn either_scan<B: Body + Sync, R: Threads + Sync>(
     rt: &R,
     alloc: Global,
@@ -57,7 +57,7 @@ fn either_scan<B: Body + Sync, R: Threads + Sync>(
     }
 }
 
-// Pushes 0 to 4095, and asks for their sum, their scans, and what is refused.
+// Pushes 0 to 4095, and checks their sum, their scans, and which ranges are refused.
 fn check_answers<R: Threads + Sync + Abort>(
     rt: &R,
     alloc: Global,
@@ -84,7 +84,7 @@ fn check_answers<R: Threads + Sync + Abort>(
     Ok(())
 }
 
-// Sees that a range is refused by the three calls that take one.
+// Checks that a range is refused by the three calls that take one.
 fn check_refusal<R: Threads + Sync + Abort>(
     rt: &R,
     alloc: Global,
@@ -113,7 +113,7 @@ fn the_numbers_below_4096(rt: HostRuntime) -> Result<(), Fail> {
     Ok(done?)
 }
 
-// Sees the scan of a slice.
+// Checks the scan of a slice.
 fn check_slice<R: Threads + Sync + Abort>(
     rt: &R,
     alloc: Global,
@@ -136,7 +136,7 @@ fn slices_of_one_two_three(rt: HostRuntime) -> Result<(), Refusal> {
     check_slice(&rt, rt.alloc(), &[], true, &[])
 }
 
-// 65,536 elements, of which the first is 1, the last is 2 and all others 0.
+// 65,536 elements: the first is 1, the last is 2, and all others are 0.
 fn far_apart(alloc: Global) -> Result<Vec<i64>, AllocError>
     ensures { IfOk result (λ xs. length xs.items ≤ 2 ^ 20) }
 {
@@ -149,7 +149,7 @@ fn far_apart(alloc: Global) -> Result<Vec<i64>, AllocError>
     Ok(xs)
 }
 
-// Reduces a range by a new stage, and sees that its first element met the last there.
+// Reduces a range by a new stage, and checks that its first element met the last there.
 fn meet_in_reduce<R: Threads + Sync + Abort>(
     rt: &R,
     alloc: Global,
@@ -166,7 +166,7 @@ fn meet_in_reduce<R: Threads + Sync + Abort>(
     Ok(())
 }
 
-// The same by either scan of a range.
+// Scans a range by a new stage, either way, and checks that its first element met the last there.
 fn meet_in_scan<R: Threads + Sync + Abort>(
     rt: &R,
     alloc: Global,
@@ -182,7 +182,7 @@ fn meet_in_scan<R: Threads + Sync + Abort>(
     Ok(())
 }
 
-// The same by the scan of a slice.
+// Scans a slice by a new stage, and checks that its first element met the last there.
 fn meet_in_slice<R: Threads + Sync + Abort>(
     rt: &R,
     alloc: Global,
@@ -199,14 +199,14 @@ fn meet_in_slice<R: Threads + Sync + Abort>(
     Ok(())
 }
 
-// Sees that as many values end with the sum of all, or of all but the last.
+// Checks that there are 65,536 values, and that they end with the sum of all elements, or of all but the last.
 fn assert_last(rt: &impl Abort, values: &Values<u64>, inclusive: bool) {
     let last = if inclusive { 3 } else { 1 };
     assert_same(rt, &values.len(), &65_536);
     assert_same(rt, &values.as_slice().last().copied(), &Some(last));
 }
 
-// Pushes the elements, and has the three calls that take a range meet over them.
+// Pushes the elements, and makes the three calls that take a range meet over them.
 fn meet_in_ranges<R: Threads + Sync + Abort>(
     rt: &R,
     alloc: Global,

@@ -11,7 +11,7 @@ use lv_summary::Accepted;
 use std::alloc::Global;
 use std::process::Abort;
 
-// Claims a job, runs it and delivers its outcome, where there is a job.
+// Claims a job, runs it and delivers its outcome, if there is a job.
 fn refresh_counted(live: &mut Live<Staged<'_>>) -> Option<Accepted> {
     match live.claim() {
         Some(job) => give(live, job.run()),
@@ -19,7 +19,7 @@ fn refresh_counted(live: &mut Live<Staged<'_>>) -> Option<Accepted> {
     }
 }
 
-// Sums all of 64 ones but the first and the last: from how many elements and summaries, and with how many lifts.
+// Sums all of 64 ones but the first and the last, and checks how many elements and summaries it reads, and how many lifts it takes.
 fn assert_lifts(
     rt: &impl Abort,
     live: &Live<Staged<'_>>,
@@ -35,7 +35,7 @@ fn assert_lifts(
 
 fn check_lifts(rt: &impl Abort, live: &mut Live<Staged<'_>>, stage: &Stage) -> Result<(), Refusal> {
     push_all(live, 64, 1)?;
-    // A reduction keeps nothing: where no node is fresh it lifts each element of the range, and the next does so again.
+    // A reduction keeps nothing: if no node is fresh it lifts each element of the range, and the next reduction does so again.
     assert_lifts(rt, live, stage, (62, 0, 62))?;
     assert_lifts(rt, live, stage, (62, 0, 62))?;
     for block in 0..8_u32 {
@@ -54,7 +54,7 @@ fn lifts_are_counted(rt: HostRuntime) -> Result<(), Refusal> {
     seen
 }
 
-// Claims a job of a version, and delivers its outcome. Whether there was such a job, and its summary was installed.
+// Claims a job of a version, and delivers its outcome. Returns whether there was a job and its summary was installed.
 fn refresh_block(rt: &impl Abort, live: &mut Live<Sum>, version: u32) -> bool {
     match live.claim() {
         None => false,
@@ -65,7 +65,7 @@ fn refresh_block(rt: &impl Abort, live: &mut Live<Sum>, version: u32) -> bool {
     }
 }
 
-// Three fresh blocks of ones, read through a view: of all but the first and the last the middle block alone is read as a summary.
+// Three fresh blocks of ones, read through a view. Of all elements but the first and the last, only the middle block is read as a summary.
 fn check_view(rt: &impl Abort, live: &mut Live<Sum>) -> Result<(), Refusal> {
     push_all(live, 24, 1)?;
     for version in [8, 16, 24] {
@@ -92,7 +92,7 @@ fn a_view_of_three_fresh_blocks(rt: HostRuntime) -> Result<(), Refusal> {
     seen
 }
 
-// A reply, as a value that can be compared. Of a scan the edit, and whether the values are 1, 3 and 6.
+// A reply, as a value that can be compared. Of a scan it has the edit, and whether the values are 1, 3 and 6.
 #[derive(Clone, Copy, PartialEq, Eq)]
 enum Told {
     Did(Receipt),
@@ -135,7 +135,7 @@ fn sum(value: u64, cells_read: u32, summaries_read: u32) -> Told {
     })
 }
 
-// What events of each kind are answered, on the elements 1 to 8. The first ten are late and stale deliveries.
+// Events of each kind with their replies, on the elements 1 to 8. The first ten are late and stale deliveries.
 fn events_of_each_kind() -> [(Event, Told); 16] {
     let write = Event::Edit(Edit::Write { index: 3, value: 9 });
     let (lo, hi) = (0, 3);
@@ -188,7 +188,7 @@ fn events_of(table: &[(Event, Told); 16]) -> [Event; 24] {
     events
 }
 
-// Sees what each of such events was answered.
+// Checks the reply to each of such events.
 fn check_replies(rt: &impl Abort, replies: &[ReplyOf<u64>], table: &[(Event, Told); 16]) {
     assert_same(rt, &replies.len(), &24);
     for index in 0..8_u32 {

@@ -6,7 +6,7 @@ use lv_series::{Samples, Series};
 use std::alloc::Global;
 use std::process::Abort;
 
-// A series of one element, -2, after one edit: what a program in Python wrote by the table of the layout.
+// A series of one element, -2, after one edit, as a program in Python wrote it by the table of the layout.
 const ONE: [u8; 96] = [
     108, 105, 118, 101, 118, 101, 99, 58, 1, 0, 0, 0, 0, 0, 0, 0, 1, 0, 0, 0, 0, 0, 0, 0, 0, 0, 0,
     0, 0, 0, 0, 0, 1, 0, 0, 0, 0, 0, 0, 0, 1, 0, 0, 0, 0, 0, 0, 0, 0, 2, 4, 6, 0, 2, 4, 6, 1, 3, 5,
@@ -38,7 +38,7 @@ fn few_samples(rt: &impl Abort, alloc: Global) -> Samples {
     samples
 }
 
-// Takes in bytes, by pieces of 50.
+// Takes in bytes, in pieces of 50.
 fn load(alloc: Global, bytes: &[u8]) -> Result<Loader, LoadRefusal> {
     let mut loader = Loader::new(alloc);
     for part in bytes.chunks(50) {
@@ -50,7 +50,7 @@ fn load(alloc: Global, bytes: &[u8]) -> Result<Loader, LoadRefusal> {
     Ok(loader)
 }
 
-// The number of the refusal of bytes as a series, 0 where they are one.
+// The number of the refusal of bytes as a series, 0 if they are one.
 fn refusal_of_series(alloc: Global, bytes: &[u8]) -> u32 {
     match load(alloc, bytes) {
         Ok(loader) => match loader.series(alloc) {
@@ -64,7 +64,7 @@ fn refusal_of_series(alloc: Global, bytes: &[u8]) -> u32 {
     }
 }
 
-// The same of bytes as samples.
+// The number of the refusal of bytes as samples, 0 if they are those of some.
 fn refusal_of_samples(alloc: Global, bytes: &[u8]) -> u32 {
     match load(alloc, bytes) {
         Ok(loader) => match loader.samples(alloc) {

@@ -9,7 +9,7 @@ use std::alloc::Global;
 use std::process::Abort;
 use std::test::Fail;
 
-// A store of the greatest limits, with so many cells open and nothing written.
+// A store of the greatest limits, with at least so many open cells and nothing written.
 fn opened(alloc: Global, cells: u32) -> Result<Store, Refusal>
     requires { cells ≤ 1048568 }
     ensures cells { IfOk result (λ store. cells ≤ capacity_of store.buckets) }
@@ -33,7 +33,7 @@ fn first(store: &Store) -> (i64, u32, u32)
     (store.read(0), store.edit(), store.version(0))
 }
 
-// How many elements there are, and the same numbers.
+// How many elements there are, the number of the last edit, and that of the last one in the first block.
 fn extent(store: &Store) -> (u32, u32, u32) {
     (store.size(), store.edit(), store.version(0))
 }
@@ -67,7 +67,7 @@ fn a_pending_write_is_read(rt: HostRuntime) -> Result<(), Fail> {
     Ok(())
 }
 
-// Opens the buckets of so many cells. Where memory is wanting it sees that nothing has changed, and opens them again.
+// Opens the buckets of so many cells. If there is no memory, it checks that nothing has changed, and opens them again.
 fn open_or_again(rt: &impl Abort, store: &mut Store, cells: u32) -> Result<(), Refusal>
     requires { cells ≤ capacity_of store.old.limits.buckets }
     ensures { store.new.limits ≡ store.old.limits }

@@ -11,7 +11,7 @@ fn node(level: u32, number: u32) -> Node {
     Node { level, number }
 }
 
-// Makes room for blocks, whose indices edits 1, 2, 3 and so on touch in turn.
+// Makes room for blocks, and has edits 1, 2, 3 and so on touch their indices in turn.
 fn fill(table: &mut Summaries<u64>, blocks: u32) -> Result<(), Refusal>
     requires { blocks ≤ 8 }
     ensures { OnOk result (blocks ≤ blocks_in table.new) }

@@ -1,4 +1,4 @@
-//! What the tests share: a hub that is made for a test and closed after it, and what they do to a hub and see of it.
+//! What the tests share: a hub that is made for a test and closed after it, and calls that tests make at a hub and check.
 ghost use Rattle.std.specs.Prelude.{◌≡◌, Some, true};
 ghost use Rattle.lv_history.specs.Numbering.{from_the_first};
 ghost use Rattle.lv_hub.specs.Renewing.{IsOfOneVector};
@@ -20,9 +20,9 @@ use std::sync::Wait;
 use std::sync::ledger::Blank;
 use std::test::Fail;
 
-// What a test does at a new hub with a share of two parts, which it hands back.
+// A test that runs at a new hub with a share of two parts, which it returns.
 pub(crate) trait AtHub<B: Body> {
-    // What it sees there.
+    // What the test saw.
     type Seen;
 
     fn meet<N: WithBody<B>, R: Wait + Abort>(
@@ -39,7 +39,8 @@ pub(crate) trait AtHub<B: Body> {
         ensures { result.0.parts ≡ 2 };
 }
 
-// Does so at a hub with this body, and closes it: what was seen, how many edits the share counts, and the vector.
+// Runs a test at a hub with this monoid instance, and closes the hub. Returns what the test saw, how many updates the share counts, and the
+// vector.
 pub(crate) fn at_hub<B: Body, T: AtHub<B>, R: Wait + Abort>(
     rt: &R,
     alloc: Global,
@@ -50,7 +51,7 @@ pub(crate) fn at_hub<B: Body, T: AtHub<B>, R: Wait + Abort>(
     hold::<B, Brand, T, R>(rt, alloc, limits, blank, opened, body, test)
 }
 
-// The same, by whose ledger, names and body the hub has.
+// Does what `at_hub` does, with a hub of this name.
 fn hold<B: Body, N: WithBody<B>, T: AtHub<B>, R: Wait + Abort>(
     rt: &R,
     alloc: Global,
@@ -75,13 +76,13 @@ fn hold<B: Body, N: WithBody<B>, T: AtHub<B>, R: Wait + Abort>(
     (seen, counted, hub.close(share))
 }
 
-// Sees that the share of a closed hub counts all edits of its vector, which are so many.
+// Checks that the share of a closed hub counts all updates of its vector, and that there are this many.
 pub(crate) fn assert_counted<B: Body>(rt: &impl Abort, counted: u64, live: Live<B>, edits: usize) {
     assert_same(rt, &(counted, live.journal().len()), &(edits as u64, edits));
     drop(live);
 }
 
-// Where a session is held at a hub whose edits are told by their own numbers: it lists all reductions that it is answered.
+// A session's place at a hub whose updates have their own numbers. The session lists all reductions that it is answered.
 pub(crate) fn place_of<'a, N: WithBody<Six>, R: Wait>(
     rt: &'a R,
     alloc: Global,
@@ -100,7 +101,7 @@ pub(crate) fn place_of<'a, N: WithBody<Six>, R: Wait>(
     }
 }
 
-// Closes a hub, and ends its log by all edits. Gives the file, and how the log ended.
+// Closes a hub, and ends its log with all updates. Returns the file, and how the log ended.
 pub(crate) fn end_log<N: WithBody<Six>, K: Begun, W: LogWriter + Drop>(
     hub: Hub<Six, N>,
     share: Share<N>,
@@ -115,7 +116,7 @@ pub(crate) fn end_log<N: WithBody<Six>, K: Begun, W: LogWriter + Drop>(
     log.end(&edits)
 }
 
-// Pushes equal elements in turn, and sees that each is accepted.
+// Pushes equal elements in turn, and checks that each is accepted.
 pub(crate) fn push_all<B: Body, N: WithBody<B>, R: Wait + Abort>(
     rt: &R,
     hub: &Hub<B, N>,
@@ -142,7 +143,7 @@ pub(crate) fn next_outcome<B: Body, N: WithBody<B>, R: Wait>(
     }
 }
 
-// Sees what a reduction from the first element answers: at which edit, and the sum.
+// Checks the result of a reduction from the first element: its version, and the sum.
 pub(crate) fn assert_sum<N: WithBody<Sum>, R: Wait + Abort>(
     rt: &R,
     hub: &Hub<Sum, N>,
@@ -158,7 +159,7 @@ pub(crate) fn assert_sum<N: WithBody<Sum>, R: Wait + Abort>(
     Ok(())
 }
 
-// Sees what a hub answers where it is given an outcome.
+// Checks the reply of a hub to an outcome.
 pub(crate) fn assert_given<N: WithBody<Sum>, R: Wait + Abort>(
     rt: &R,
     hub: &Hub<Sum, N>,
@@ -168,7 +169,7 @@ pub(crate) fn assert_given<N: WithBody<Sum>, R: Wait + Abort>(
     assert_same(rt, &hub.give(rt, outcome), &answer);
 }
 
-// Writes over an element, and sees the edit's number and that a 1 stood there.
+// Overwrites an element, and checks the update's number and that the old element was 1.
 pub(crate) fn overwrite_a_one<N: WithBody<Sum>, R: Wait + Abort>(
     rt: &R,
     hub: &Hub<Sum, N>,
@@ -183,7 +184,7 @@ pub(crate) fn overwrite_a_one<N: WithBody<Sum>, R: Wait + Abort>(
     assert_same(rt, &receipt, &Ok(Receipt::Written { edit, before: 1 }));
 }
 
-// What a worker did that installed so many outcomes.
+// The counts of a worker that installed this many outcomes.
 pub(crate) fn installed(count: u64) -> Worked {
     Worked {
         claimed: count,

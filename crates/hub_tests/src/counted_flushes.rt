@@ -1,4 +1,4 @@
-//! A test that who finds its own updates recorded leaves those of others to them: it neither writes nor flushes the log.
+//! A test that a session which finds its own updates recorded leaves those of others to them: it neither writes nor flushes the log.
 ghost use Rattle.std.specs.Prelude.{◌≡◌, None, Some, true};
 ghost use Rattle.lv_history.specs.Numbering.{from_the_first};
 ghost use Rattle.lv_hub.specs.Renewing.{IsOfOneVector};
@@ -40,7 +40,7 @@ impl Write for CountedFile {
 
 impl LogWriter for CountedFile {}
 
-// Holds a session by a share, and sees that it hears what it should.
+// Runs a session with a share, and checks its replies.
 fn hear<N: WithBody<Six>, K: Begun, R: Wait + Abort>(
     place: SessionPlace<'_, N, R>,
     log: &Mutex<OperationLog<N, CountedFile, K>>,
@@ -57,7 +57,8 @@ fn hear<N: WithBody<Six>, K: Begun, R: Wait + Abort>(
     assert_same(rt, &heard.as_slice(), &replies);
 }
 
-// An update of another client waits for the log, and a session has none to wait for when it begins: so it doesn't write that one. It has both written with its own.
+// An update of another client waits for the log. A session has no update that waits when it begins, so it doesn't write that one. It has both
+// written together with its own.
 fn hear_beside<N: WithBody<Six>, K: Begun, R: Wait + Abort>(
     rt: &R,
     alloc: Global,
@@ -81,7 +82,7 @@ fn hear_beside<N: WithBody<Six>, K: Begun, R: Wait + Abort>(
     mine
 }
 
-// Does so at a hub with a log, which it closes, and ends the log.
+// Does this at a hub with a log, which it closes, and ends the log.
 fn hold_counted<N: WithBody<Six>, K: Begun, R: Wait + Abort>(
     rt: &R,
     alloc: Global,

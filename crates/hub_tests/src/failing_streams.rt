@@ -1,4 +1,4 @@
-//! Tests of one session at a hub whose reader and writer take any steps, and may fail.
+//! Tests of one session at a hub whose reader and writer transfer any number of bytes at a time, and may fail.
 ghost use Rattle.std.specs.Prelude.{◌≡◌, Some, true};
 ghost use Rattle.lv_history.specs.Numbering.{from_the_first};
 
@@ -17,7 +17,7 @@ use std::sync::ledger::Blank;
 use std::test::Fail;
 use stream_fixtures::{Server, check_all, check_reads, check_writes};
 
-// Holds a session at a hub, which it closes, and sees that its share counts all edits.
+// Runs a session at a hub, which it closes, and checks that its share counts all updates.
 fn hold_alone<N: WithBody<Six>, R: Wait + Abort>(
     rt: &R,
     alloc: Global,
@@ -47,7 +47,7 @@ fn hold_alone<N: WithBody<Six>, R: Wait + Abort>(
     answers
 }
 
-// The same at a hub that is made here.
+// Runs a session at a hub that is made here.
 fn hold_new<R: Wait + Abort>(
     rt: &R,
     alloc: Global,
@@ -69,7 +69,7 @@ impl<R: Wait + Abort> Server<R> for Session {
         b"edit 1 at 0\nat 1 sum 5\nedit 2 value 5\nrefused 2\n"
     }
 
-    // Sees that the one reduction is listed where the session ends without a fault.
+    // Checks that the one reduction is listed if the session ends without a fault.
     fn serve(
         &self,
         rt: &R,

@@ -1,4 +1,4 @@
-//! Tests that a worker which stands at its gate, or within a body's `lift`, holds nobody up.
+//! Tests that a worker which waits at its gate, or within a body's `lift`, blocks nobody.
 ghost use Rattle.std.specs.Prelude.{◌≡◌, Some};
 
 use crate::common::*;
@@ -18,7 +18,7 @@ use std::sync::ledger::Blank;
 use std::thread;
 use std::thread::Threads;
 
-// A gate where a worker stands, and after which the next call of `lift` stands; and how often an element was lifted before it.
+// A gate at which a worker waits, and after which the next call of `lift` waits. It also has the number of elements that were lifted before.
 #[derive(Drop)]
 struct JobGate<'a> {
     latch: Latch,
@@ -34,14 +34,15 @@ impl Gate for JobGate<'_> {
     }
 }
 
-// What the main thread is answered while a job is held: at the gate a push and a reduction, within `lift` another push.
+// The replies to the main thread while a job is held: to a push and a reduction while the worker is at the gate, and to another push while it is
+// within `lift`.
 type HeldAnswers = (
     Result<Receipt, Refusal>,
     Result<Answer<u64>, Refusal>,
     Result<Receipt, Refusal>,
 );
 
-// Asks so, while a worker stands.
+// Makes these calls while a worker waits.
 fn while_held<B: Body<S = u64>, N: WithBody<B>, R: Wait>(
     rt: &R,
     hub: &Hub<B, N>,
@@ -58,7 +59,7 @@ fn while_held<B: Body<S = u64>, N: WithBody<B>, R: Wait>(
     (first, answer, second)
 }
 
-// Makes a new hub one of eight elements 1. A worker's first job is held, and the main thread asks beside it.
+// Gives a new hub eight elements 1. A worker's first job is held, and the main thread makes its calls at the same time.
 fn hold_once<B: Body<S = u64>, N: WithBody<B> + Send + Sync, R: Threads + Wait + Abort + Sync>(
     rt: &R,
     hub: &Hub<B, N>,
@@ -73,7 +74,7 @@ fn hold_once<B: Body<S = u64>, N: WithBody<B> + Send + Sync, R: Threads + Wait +
     )
 }
 
-// What was done while a job of a hub of eight elements 1 was held.
+// The results while a job of a hub of eight elements 1 was held.
 fn hold_a_job<B: Body<S = u64>, N: WithBody<B> + Send + Sync, R: Threads + Wait + Abort + Sync>(
     rt: &R,
     alloc: Global,
@@ -96,7 +97,7 @@ fn hold_a_job<B: Body<S = u64>, N: WithBody<B> + Send + Sync, R: Threads + Wait 
     done
 }
 
-// Sees what was done while a job was held.
+// Checks the results while a job was held.
 fn assert_held(rt: &impl Abort, done: (Worked, HeldAnswers)) -> Result<(), Refusal> {
     let (worked, (first, answer, second)) = done;
     let first_wanted = Receipt::Pushed { edit: 9, index: 8 };
@@ -127,7 +128,7 @@ fn a_held_job_holds_nobody(rt: HostRuntime) -> Result<(), Refusal> {
     );
     assert_same(&rt, &gate.latch.was_in_time(), &true);
     assert_same(&rt, &stage.latch.was_in_time(), &true);
-    // a claim that computes its job under the lock lifts before the gate
+    // A claim that computes its job under the lock lifts elements before the gate.
     assert_same(&rt, &gate.early.load(Ordering::SeqCst), &0);
     assert_held(&rt, done)
 }

@@ -1,4 +1,4 @@
-//! Tests that a hub's lock is free while the file of its log is written, and that no reply goes out before what it tells is there.
+//! Tests that a hub's lock is free while the file of its log is written, and that no reply is sent before the file has what it reports.
 ghost use Rattle.std.specs.Prelude.{◌≡◌, None, Some, true};
 ghost use Rattle.lv_history.specs.Numbering.{from_the_first};
 
@@ -22,8 +22,8 @@ use std::test::Fail;
 use std::thread::Threads;
 use std::{io, thread};
 
-// Where the first write behind the first line of a log's file stands, until the hub was asked. Whether a write has ended, and whether a reply to
-// what it records came first.
+// Where the first write after the first line of a log's file waits, until the hub was asked. It also says whether a write has ended, and whether
+// a reply to what it records came first.
 #[derive(Drop)]
 struct Stage {
     latch: Latch,
@@ -46,7 +46,7 @@ impl Stage {
     }
 }
 
-// The file of a log, whose first line is written at once, and whose next write stands until it is released.
+// The file of a log. Its first line is written at once, and its next write waits until it is released.
 #[derive(Drop)]
 struct HeldFile<'a> {
     stage: &'a Stage,
@@ -71,7 +71,7 @@ impl Write for HeldFile<'_> {
 
 impl LogWriter for HeldFile<'_> {}
 
-// The replies of the session whose edit is recorded. Notes whether they come before the file was written.
+// The replies of the session whose update is recorded. Notes whether they come before the file was written.
 #[derive(Drop)]
 struct LateReplies<'a> {
     stage: &'a Stage,
@@ -94,17 +94,17 @@ impl Write for LateReplies<'_> {
 // How a session ends, and its replies.
 type Heard = (Result<Vec<Claimed>, Fault>, Vec<u8>);
 
-// What the hub answers.
+// The hub's answer.
 type Asked = Result<Answered, Refusal>;
 
-// Sees that a session answered no reduction, and what it replied.
+// Checks that a session answered no reduction, and its replies.
 fn assert_heard(rt: &impl Abort, heard: Heard, replies: &[u8]) {
     let (ended, bytes) = heard;
     assert_same(rt, &ended.map(|answers| answers.len()), &Ok(0));
     assert_same(rt, &bytes.as_slice(), &replies);
 }
 
-// Holds a session that pushes, on a share of its own, which it hands back.
+// Runs a session that pushes, with a share of its own, which it returns.
 fn hold_pushing<N: WithBody<Six>, K: Begun, R: Wait>(
     place: SessionPlace<'_, N, R>,
     log: &Mutex<OperationLog<N, HeldFile<'_>, K>>,
@@ -123,7 +123,7 @@ fn hold_pushing<N: WithBody<Six>, K: Begun, R: Wait>(
     (share, (ended, replies.bytes))
 }
 
-// Asks the hub for the sum of its first element while the file is written, on a share of its own, which it hands back, and lets the write go on then.
+// Asks the hub for the sum of its first element while the file is written, with a share of its own, which it returns. Then it releases the write.
 fn ask_meanwhile<N: WithBody<Six>, R: Wait>(
     place: SessionPlace<'_, N, R>,
     share: Share<N>,
@@ -138,7 +138,7 @@ fn ask_meanwhile<N: WithBody<Six>, R: Wait>(
     (share, asked)
 }
 
-// Does both, each in a thread of its own; both shares together are handed back.
+// Does both, each in a thread of its own. Both shares are returned as one.
 fn hold_two<N: WithBody<Six> + Send + Sync, K: Begun + Send + Sync, R: Threads + Wait + Sync>(
     rt: &R,
     places: (SessionPlace<'_, N, R>, SessionPlace<'_, N, R>),
@@ -164,10 +164,10 @@ fn hold_two<N: WithBody<Six> + Send + Sync, K: Begun + Send + Sync, R: Threads +
 // What the file of a log has got once its hub is closed, and how the log ended.
 type Written = (Vec<u8>, Result<(), Fault>);
 
-// What a session heard, what the hub answered meanwhile, and what was written.
+// The replies of a session, the hub's answer meanwhile, and what was written.
 type Held = (Heard, Asked, Written);
 
-// A hub with a log at which a session is held, and which is asked meanwhile, closed.
+// A hub with a log, at which a session runs and which is asked meanwhile, is closed.
 fn hold_logged<N: WithBody<Six> + Send + Sync, K: Begun + Send + Sync, R: Threads + Wait + Sync>(
     rt: &R,
     alloc: Global,

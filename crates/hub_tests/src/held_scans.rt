@@ -1,4 +1,4 @@
-//! Tests that a scan which stands within a body's `lift` holds nobody up: its elements were copied, and the lock is free again.
+//! Tests that a scan which waits within a body's `lift` blocks nobody: its elements were copied, and the lock is free again.
 ghost use Rattle.std.specs.Prelude.{◌≡◌, Some};
 
 use crate::common::*;
@@ -18,7 +18,7 @@ use std::test::Fail;
 use std::thread;
 use std::thread::Threads;
 
-// One of the two scans of a hub's first two elements. The first `lift` of it stands.
+// One of the two scans of a hub's first two elements. Its first `lift` waits.
 fn scan_two<B: Body<S = u64>, N: WithBody<B>, R: Threads + Wait + Sync>(
     rt: &R,
     alloc: Global,
@@ -34,7 +34,7 @@ fn scan_two<B: Body<S = u64>, N: WithBody<B>, R: Threads + Wait + Sync>(
     hub.scan_exclusive(rt, alloc, share, 0, 2)
 }
 
-// Pushes while a scan stands, and lets it go on.
+// Pushes while a scan waits, and then releases it.
 fn push_meanwhile<B: Body<S = u64>, N: WithBody<B>, R: Wait>(
     rt: &R,
     hub: &Hub<B, N>,
@@ -47,10 +47,10 @@ fn push_meanwhile<B: Body<S = u64>, N: WithBody<B>, R: Wait>(
     pushed
 }
 
-// What a held scan answers, and what the push beside it does.
+// The result of a held scan, and of the push that was made at the same time.
 type ScanAndPush = (Result<Scan<u64>, Refusal>, Result<Receipt, Refusal>);
 
-// Makes a new hub one of two elements 1. One thread scans them and is held, and another pushes.
+// Gives a new hub two elements 1. One thread scans them and is held, and another pushes.
 fn hold_once<B: Body<S = u64>, N: WithBody<B> + Send + Sync, R: Threads + Wait + Abort + Sync>(
     rt: &R,
     alloc: Global,
@@ -71,7 +71,7 @@ fn hold_once<B: Body<S = u64>, N: WithBody<B> + Send + Sync, R: Threads + Wait +
     )
 }
 
-// The same of a hub of its own.
+// Holds a scan at a hub of its own.
 fn hold_a_scan<B: Body<S = u64>, N: WithBody<B> + Send + Sync, R: Threads + Wait + Abort + Sync>(
     rt: &R,
     alloc: Global,
@@ -95,7 +95,7 @@ fn hold_a_scan<B: Body<S = u64>, N: WithBody<B> + Send + Sync, R: Threads + Wait
     done
 }
 
-// Sees that a push during a held scan waits for nothing, and that the scan answers at the edit before it.
+// Checks that a push during a held scan waits for nothing, and that the scan's version is that before the push.
 fn assert_held_scan<R: Threads + Wait + Abort + Sync>(
     rt: &R,
     alloc: Global,

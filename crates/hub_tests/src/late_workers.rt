@@ -1,4 +1,4 @@
-//! Tests a worker whose outcome comes late, after another worker and an edit.
+//! Tests a worker whose outcome comes late, after another worker and an update.
 ghost use Rattle.std.specs.Prelude.{◌≡◌, Some};
 
 use crate::common::*;
@@ -17,7 +17,7 @@ use std::test::Fail;
 use std::thread;
 use std::thread::Threads;
 
-// A gate where a worker stands.
+// A gate at which a worker waits.
 #[derive(Drop)]
 struct HeldGate {
     latch: Latch,
@@ -29,7 +29,7 @@ impl Gate for HeldGate {
     }
 }
 
-// What a worker did whose one outcome was stale.
+// The counts of a worker whose only outcome was stale.
 fn one_stale() -> Worked {
     Worked {
         claimed: 1,
@@ -40,7 +40,7 @@ fn one_stale() -> Worked {
     }
 }
 
-// While the first worker stands at its gate, a second one works for a turn, and then the first element is overwritten.
+// While the first worker waits at its gate, a second one works for a turn, and then the first element is overwritten.
 fn overtake<N: WithBody<Sum>, R: Wait>(
     rt: &R,
     hub: &Hub<Sum, N>,
@@ -54,10 +54,10 @@ fn overtake<N: WithBody<Sum>, R: Wait>(
     (worked, written)
 }
 
-// What the late worker did, and what another worker did and an edit was answered meanwhile.
+// The counts of the late worker, those of the other worker, and the reply to the update that was made meanwhile.
 type DoneLate = (Worked, (Worked, Result<Receipt, Refusal>));
 
-// A worker that claimed the first block stands at its gate while another works and the main thread edits.
+// A worker that claimed the first block waits at its gate while another works and the main thread makes an update.
 fn work_late<N: WithBody<Sum> + Send + Sync, R: Threads + Wait + Sync>(
     rt: &R,
     hub: &Hub<Sum, N>,
@@ -71,7 +71,7 @@ fn work_late<N: WithBody<Sum> + Send + Sync, R: Threads + Wait + Sync>(
     )
 }
 
-// Sees what was done while a worker was late.
+// Checks the results while a worker was late.
 fn assert_done_late(rt: &impl Abort, done: DoneLate) {
     let receipt = Receipt::Written {
         edit: 17,
@@ -80,7 +80,7 @@ fn assert_done_late(rt: &impl Abort, done: DoneLate) {
     assert_same(rt, &done, &(one_stale(), (installed(1), Ok(receipt))));
 }
 
-// Makes a new hub one of 16 elements 1, where a worker is late.
+// Gives a new hub 16 elements 1, at which a worker is late.
 fn assert_late<N: WithBody<Sum> + Send + Sync, R: Threads + Wait + Abort + Sync>(
     rt: &R,
     hub: &Hub<Sum, N>,
@@ -96,7 +96,7 @@ fn assert_late<N: WithBody<Sum> + Send + Sync, R: Threads + Wait + Abort + Sync>
     assert_sum(rt, hub, share, 16, 17, 24)
 }
 
-// A hub of 16 elements 1, where a worker is late.
+// A hub of 16 elements 1, at which a worker is late.
 fn late_worker<N: WithBody<Sum> + Send + Sync, R: Threads + Wait + Abort + Sync>(
     rt: &R,
     alloc: Global,

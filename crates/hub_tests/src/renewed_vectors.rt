@@ -1,4 +1,4 @@
-//! Tests of a hub whose vector is made anew between sessions, and its log's file with it: the replies go on as if it were one vector.
+//! Tests of a hub whose vector is made anew between sessions, and its log's file with it. The replies are as if it were one vector.
 ghost use Rattle.std.specs.Prelude.{◌≡◌, ◌≤◌, ◌^◌, [], IfOk, None, Some, false};
 ghost use Rattle.lv_hub.specs.Renewing.{lasting};
 
@@ -18,7 +18,8 @@ use std::sync::ledger::Blank;
 use std::sync::{Mutex, Wait};
 use std::test::Fail;
 
-// What the sessions ask and hear, in turn by two shares. 100 elements need four buckets, of 8, 16, 32 and 64 cells; ten elements need two of them.
+// The lines and replies of the sessions, which use two shares in turn. 100 elements need four buckets, of 8, 16, 32 and 64 cells, and ten
+// elements need two of them.
 const FIRST: (&[u8], &[u8]) = (
     b"push 5\npush 7\npush 9\nreserve 100\n",
     b"edit 1001 at 0\nedit 1002 at 1\nedit 1003 at 2\nedit 1004 capacity 120\n",
@@ -40,7 +41,7 @@ const SIXTH: (&[u8], &[u8]) = (b"pop\n", b"edit 1010 value 5\n");
 // The file that was begun after the fifth session, with the elements that there were then, and what came since.
 const LAST: &[u8] = b"livevec 2 1009 3\nj push 1\nj push 8\nj push 5\nj pop\n";
 
-// The file of a log, which is to be begun anew once it has 52 bytes: how often it was, and what the present one has.
+// The file of a log, which is to be begun anew once it has 52 bytes: how often it was begun anew, and the contents of the present one.
 #[derive(Drop)]
 struct ShortFile {
     begun: u32,
@@ -76,7 +77,7 @@ impl LogWriter for ShortFile {
     }
 }
 
-// Where a session is held: a hub with a log, whose edits are told by these numbers.
+// A session's place: a hub with a log, with this numbering of updates.
 #[derive(Drop)]
 struct Held<'a, N: WithBody<Six>, K: Begun, R> {
     rt: &'a R,
@@ -89,7 +90,7 @@ struct Held<'a, N: WithBody<Six>, K: Begun, R> {
     ghost lists: { N.lists ≡ false },
 }
 
-// Holds a session by a share, and sees that it hears what it should.
+// Runs a session with a share, and checks its replies.
 fn hear<N: WithBody<Six>, K: Begun, R: Wait + Abort>(
     held: &Held<'_, N, K, R>,
     share: &mut Share<N>,
@@ -111,7 +112,7 @@ fn hear<N: WithBody<Six>, K: Begun, R: Wait + Abort>(
     assert_same(held.rt, &heard.as_slice(), &replies);
 }
 
-// Holds all sessions, in turn by two shares.
+// Runs all sessions, with two shares in turn.
 fn hear_all<N: WithBody<Six>, K: Begun, R: Wait + Abort>(
     held: &Held<'_, N, K, R>,
     mine: &mut Share<N>,
@@ -128,10 +129,10 @@ fn hear_all<N: WithBody<Six>, K: Begun, R: Wait + Abort>(
     hear(held, theirs, SIXTH);
 }
 
-// A hub whose vector may be made anew, and its log, behind one without entries.
+// A hub whose vector may be made anew, and its log, which continues one without entries.
 type Logged<N, K> = (Hub<Six, N>, Share<N>, Mutex<OperationLog<N, ShortFile, K>>);
 
-// Makes one of two parts.
+// Makes such a hub of two parts.
 fn begin<N: WithBody<Six>, K: Begun, R: Wait>(
     rt: &R,
     alloc: Global,
@@ -169,7 +170,7 @@ fn begin<N: WithBody<Six>, K: Begun, R: Wait>(
     }
 }
 
-// Holds all sessions at a hub with a log, which it closes, and ends the log.
+// Runs all sessions at a hub with a log, which it closes, and ends the log.
 fn hold<N: WithBody<Six>, K: Begun, R: Wait + Abort>(
     rt: &R,
     alloc: Global,
@@ -197,7 +198,7 @@ fn hold<N: WithBody<Six>, K: Begun, R: Wait + Abort>(
     end_log(hub, mine, log.into_inner())
 }
 
-// The same at a hub that is made for it.
+// Runs the sessions at a hub that is made for them.
 fn hold_renewed<N: WithBody<Six>, K: Begun, R: Wait + Abort>(
     rt: &R,
     alloc: Global,

@@ -18,7 +18,7 @@ use std::test::Fail;
 use std::thread::Threads;
 use std::{str, thread};
 
-// The lines of a session: 200 pushes of an element, and the sum of so many elements after each tenth.
+// The lines of a session: 200 pushes of an element, and after each tenth push the sum of as many elements as the session has pushed.
 fn lines_of(alloc: Global, x: i64) -> Result<String, Fail> {
     let mut lines = String::new(alloc);
     for pushed in 1..201 {
@@ -30,14 +30,14 @@ fn lines_of(alloc: Global, x: i64) -> Result<String, Fail> {
     Ok(lines)
 }
 
-// What a session came to: the reductions that it lists, and its replies.
+// The result of a session: the reductions that it lists, and its replies.
 #[derive(Drop)]
 struct Heard {
     answers: Result<Vec<Claimed>, Fault>,
     replies: Vec<u8>,
 }
 
-// Holds a session over some lines, on a share of its own, which it hands back.
+// Runs a session over some lines, with a share of its own, which it returns.
 fn hold<N: WithBody<Six>, R: Wait>(
     place: SessionPlace<'_, N, R>,
     share: Share<N>,
@@ -52,7 +52,7 @@ fn hold<N: WithBody<Six>, R: Wait>(
     (share, Heard { answers, replies })
 }
 
-// Holds two sessions, each in a thread of its own; both shares together are handed back.
+// Runs two sessions, each in a thread of its own. Both shares are returned as one.
 fn hold_two<N: WithBody<Six> + Send + Sync, R: Threads + Wait + Sync>(
     rt: &R,
     places: (SessionPlace<'_, N, R>, SessionPlace<'_, N, R>),
@@ -75,7 +75,7 @@ fn hold_two<N: WithBody<Six> + Send + Sync, R: Threads + Wait + Sync>(
     (all, one, other)
 }
 
-// How many of some words are this one.
+// How many of some words equal this one.
 fn count_word(words: &[&str], word: &str) -> usize {
     let mut count = 0usize;
     for other in words {
@@ -86,8 +86,8 @@ fn count_word(words: &[&str], word: &str) -> usize {
     count
 }
 
-// Sees that a receipt names a later edit than the last one, and in the journal the session's own push; or that an answer names no earlier
-// one. The edit of the last receipt.
+// Checks that a receipt has a later number than the last update, and that this update is the session's own push in the journal, or that an answer
+// has no earlier number. Returns the number of the last receipt.
 fn check_reply(
     rt: &impl Abort,
     journal: &[Edit],
@@ -109,7 +109,7 @@ fn check_reply(
     Ok(edit)
 }
 
-// Sees that the replies of a session are 200 receipts and 20 sums.
+// Checks that the replies of a session are 200 receipts and 20 sums.
 fn check_replies(
     rt: &impl Abort,
     alloc: Global,
@@ -131,7 +131,7 @@ fn check_replies(
     Ok(())
 }
 
-// Sees that the transcript has each edit and each sum, and that its audit says yes.
+// Checks that the transcript has each update and each sum, and that its audit says yes.
 fn check_transcript(
     rt: &impl Abort,
     alloc: Global,
@@ -156,7 +156,7 @@ fn check_transcript(
     Ok(())
 }
 
-// Sees that what two sessions heard is one history, that of the journal.
+// Checks that the replies of two sessions are of one history, that of the journal.
 fn check_history(
     rt: &impl Abort,
     alloc: Global,
@@ -173,7 +173,7 @@ fn check_history(
     check_transcript(rt, alloc, journal, &mut answers)
 }
 
-// A hub at which two sessions are held, closed.
+// A hub at which two sessions run is closed.
 fn one_history<N: WithBody<Six> + Send + Sync, R: Threads + Wait + Abort + Sync>(
     rt: &R,
     alloc: Global,

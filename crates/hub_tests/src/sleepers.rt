@@ -1,4 +1,4 @@
-//! Tests workers that sleep where nothing is wanted: an edit wakes them, and they end when they are dismissed.
+//! Tests workers that sleep while no node needs a job: an update wakes them, and they end when they are dismissed.
 ghost use Rattle.std.specs.Prelude.{◌≡◌, Some};
 
 use crate::common::*;
@@ -16,7 +16,7 @@ use std::thread;
 use std::thread::Threads;
 use std::time::{Clock, Duration};
 
-// A gate that counts who passes.
+// A gate that counts the workers that pass it.
 #[derive(Drop)]
 struct Turnstile {
     passed: AtomicU64,
@@ -29,7 +29,7 @@ impl Turnstile {
         }
     }
 
-    // Whether so many pass within 10 seconds.
+    // Whether this many workers pass within 10 seconds.
     fn is_passed_by(&self, clock: &impl Clock, count: u64) -> bool {
         for _ in 0..10_000 {
             if count <= self.passed.load(Ordering::SeqCst) {
@@ -47,12 +47,12 @@ impl Gate for Turnstile {
     }
 }
 
-// Lets another thread come to its sleep, or use up a thousand turns where it doesn't sleep.
+// Gives another thread time to fall asleep, or to use up a thousand turns if it doesn't sleep.
 fn let_it_sleep(clock: &impl Clock) {
     thread::sleep(clock, Duration::from_millis(50));
 }
 
-// Pushes a block that a worker claims, and once it had time to fall asleep another one; then the worker is dismissed. Says whether
+// Pushes a block that a worker claims and, once the worker had time to fall asleep, another one. Then the worker is dismissed. Returns whether
 // the first block was claimed, and whether both were.
 fn push_then_dismiss<N: WithBody<Sum>, R: Wait + Clock + Abort>(
     rt: &R,
@@ -117,7 +117,7 @@ fn an_edit_wakes_a_sleeping_worker(rt: HostRuntime) {
     );
 }
 
-// What eight workers did that would attend for good, on a hub with nothing to do, and were dismissed.
+// The counts of eight workers that would attend forever, at a hub with nothing to do, and were dismissed.
 fn dismiss_eight<N: WithBody<Sum> + Send + Sync, R: Threads + Wait + Clock + Sync>(
     rt: &R,
     alloc: Global,
@@ -135,8 +135,8 @@ fn dismiss_eight<N: WithBody<Sum> + Send + Sync, R: Threads + Wait + Clock + Syn
     worked
 }
 
-// Eight workers end when they are dismissed, and so does one that comes later, though a job is wanted; who works by turns alone
-// still finds it.
+// Eight workers end when they are dismissed, and one that comes later ends too, although a node needs a job. A worker that only works for a
+// number of turns still finds that job.
 fn assert_dismissed<N: WithBody<Sum> + Send + Sync, R: Threads + Wait + Clock + Abort + Sync>(
     rt: &R,
     alloc: Global,

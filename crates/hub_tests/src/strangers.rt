@@ -1,4 +1,4 @@
-//! Tests what a hub answers where it is given the outcome of another hub, and what both scans answer.
+//! Tests the reply of a hub to the outcome of another hub, and the results of both scans.
 ghost use Rattle.std.specs.Prelude.{◌≡◌, Some};
 
 use crate::common::*;
@@ -88,7 +88,7 @@ impl AtHub<Automaton> for Given {
     }
 }
 
-// What a hub of eight elements 1 answers where it is given an outcome, by the program's automaton.
+// The reply to an outcome of a hub of eight elements 1, with the program's automaton.
 fn answer_to<R: Wait + Abort>(
     rt: &R,
     alloc: Global,
@@ -100,7 +100,7 @@ fn answer_to<R: Wait + Abort>(
     answer
 }
 
-// Sees the edit and the values of a scan.
+// Checks the version and the values of a scan.
 fn assert_scan(rt: &impl Abort, scan: &Scan<u64>, edit: u32, values: &[u64]) {
     assert_same(rt, &scan.edit, &edit);
     assert_same(rt, &scan.values.as_slice(), &values);
@@ -123,7 +123,7 @@ fn assert_own_alone<N: WithBody<Sum>, R: Wait + Abort>(
     Ok(())
 }
 
-// Sees that a hub of eight elements 1 follows a write of 5, and that the other's outcome is late now.
+// Checks that a hub of eight elements 1 follows a write of 5, and that the other hub's outcome is now late.
 fn assert_follows<N: WithBody<Sum>, R: Threads + Wait + Abort + Sync>(
     rt: &R,
     alloc: Global,
@@ -138,7 +138,7 @@ fn assert_follows<N: WithBody<Sum>, R: Threads + Wait + Abort + Sync>(
     assert_scans(rt, alloc, hub, share)
 }
 
-// Sees both scans of the elements 5 and 1 that a hub begins with at edit 9.
+// Checks both scans of the elements 5 and 1 with which a hub begins at version 9.
 fn assert_scans<N: WithBody<Sum>, R: Threads + Wait + Abort + Sync>(
     rt: &R,
     alloc: Global,
@@ -152,7 +152,7 @@ fn assert_scans<N: WithBody<Sum>, R: Threads + Wait + Abort + Sync>(
     Ok(())
 }
 
-// Makes a new hub one of eight elements 1, and gives it an outcome of another before and after a write.
+// Gives a new hub eight elements 1, and an outcome of another hub before and after a write.
 fn assert_strangers<N: WithBody<Sum>, R: Threads + Wait + Abort + Sync>(
     rt: &R,
     alloc: Global,
@@ -168,7 +168,7 @@ fn assert_strangers<N: WithBody<Sum>, R: Threads + Wait + Abort + Sync>(
     assert_follows(rt, alloc, hub, share, strange)
 }
 
-// A hub of eight elements 1, given an outcome of another before and after a write, and closed.
+// A hub of eight elements 1 gets an outcome of another hub before and after a write, and is closed.
 fn one_hub_of_two<N: WithBody<Sum>, R: Threads + Wait + Abort + Sync>(
     rt: &R,
     alloc: Global,

@@ -1,4 +1,4 @@
-//! Tests what a hub answers where it is given the outcome of a node of another hub that lies above the blocks.
+//! Tests the reply of a hub to the outcome of another hub, for a node above the blocks.
 ghost use Rattle.std.specs.Prelude.{◌≡◌};
 
 use crate::common::*;
@@ -20,7 +20,7 @@ fn refresh<N: WithBody<Sum>, R: Wait + Abort>(rt: &R, hub: &Hub<Sum, N>) -> Resu
     Ok(())
 }
 
-// Makes a new hub one of 64 equal elements, whose eight blocks were refreshed.
+// Gives a new hub 64 equal elements, and has its eight blocks precomputed.
 fn eight_blocks<N: WithBody<Sum>, R: Wait + Abort>(
     rt: &R,
     hub: &Hub<Sum, N>,
@@ -36,7 +36,7 @@ fn eight_blocks<N: WithBody<Sum>, R: Wait + Abort>(
     Ok(())
 }
 
-// Makes a new hub one of 64 elements 2, and computes the job of the node over its eight blocks.
+// Gives a new hub 64 elements 2, and computes the job of the node above its eight blocks.
 fn outcome_of_64<N: WithBody<Sum>, R: Wait + Abort>(
     rt: &R,
     hub: &Hub<Sum, N>,
@@ -54,7 +54,7 @@ fn outcome_of_64<N: WithBody<Sum>, R: Wait + Abort>(
     Ok(outcome)
 }
 
-// Has a hub of 64 elements 2 compute the job of the node over its eight blocks.
+// Has a hub of 64 elements 2 compute the job of the node above its eight blocks.
 struct JobAbove;
 
 impl AtHub<Sum> for JobAbove {
@@ -73,7 +73,7 @@ impl AtHub<Sum> for JobAbove {
     }
 }
 
-// Makes a new hub one of 64 elements 1, and gives it an outcome above the blocks of another before and after a write.
+// Gives a new hub 64 elements 1, and an outcome of another hub for a node above the blocks, before and after a write.
 fn assert_strangers_above<N: WithBody<Sum>, R: Wait + Abort>(
     rt: &R,
     hub: &Hub<Sum, N>,
@@ -89,7 +89,7 @@ fn assert_strangers_above<N: WithBody<Sum>, R: Wait + Abort>(
     Ok(())
 }
 
-// Gives a hub of 64 elements 1 an outcome above the blocks of another before and after a write.
+// Gives a hub of 64 elements 1 an outcome of another hub for a node above the blocks, before and after a write.
 #[derive(Drop)]
 struct StrangersAbove {
     strange: Outcome<Sum>,

@@ -1,4 +1,4 @@
-//! Tests that shares count all edits and no other: where two threads edit, and where memory is wanting.
+//! Tests that shares count all accepted updates and no others, when two threads make updates and when memory runs out.
 ghost use Rattle.std.specs.Prelude.{◌≡◌, Some};
 
 use crate::common::*;
@@ -15,7 +15,7 @@ use std::sync::ledger::Blank;
 use std::thread;
 use std::thread::Threads;
 
-// Pushes 500 elements on a share of its own, and hands it back.
+// Pushes 500 elements with a share of its own, and returns it.
 fn push_500<N: WithBody<Sum>, R: Wait + Abort>(
     rt: &R,
     hub: &Hub<Sum, N>,
@@ -28,7 +28,7 @@ fn push_500<N: WithBody<Sum>, R: Wait + Abort>(
     share
 }
 
-// Two threads push 500 elements each; both shares together are handed back.
+// Two threads push 500 elements each. Both shares are returned as one.
 fn push_from_two<N: WithBody<Sum> + Send + Sync, R: Threads + Wait + Abort + Sync>(
     rt: &R,
     hub: &Hub<Sum, N>,
@@ -48,7 +48,7 @@ fn push_from_two<N: WithBody<Sum> + Send + Sync, R: Threads + Wait + Abort + Syn
     all
 }
 
-// A hub that two threads edit, closed.
+// A hub at which two threads make updates is closed.
 fn total<N: WithBody<Sum> + Send + Sync, R: Threads + Wait + Abort + Sync>(
     rt: &R,
     alloc: Global,
@@ -82,7 +82,7 @@ fn totals_over_threads(rt: HostRuntime) {
     );
 }
 
-// Pushes a 1. Where memory is wanting it sees that the share counts nothing, and pushes again.
+// Pushes a 1. If memory runs out, it checks that the share counts nothing, and pushes again.
 fn push_or_again<N: WithBody<Sum>, R: Wait + Abort>(
     rt: &R,
     hub: &Hub<Sum, N>,
@@ -128,7 +128,7 @@ impl AtHub<Sum> for NinePushes {
     }
 }
 
-// To be run with each allocation failing in turn, too.
+// It is also run with each allocation failing in turn.
 #[test]
 fn want_of_memory_counts_nothing(rt: HostRuntime) {
     let ((), counted, live) = at_hub(&rt, rt.alloc(), Sum, &NinePushes);

@@ -1,4 +1,4 @@
--- The pointer that C keeps, where it owns an object, and its parts own what a box of the object owns.
+-- The pointer that C keeps, if it owns an object, and its parts own what a box of the object owns.
 use Rattle.std.specs.Prelude.{◌≡◌, Option, IsSome, Some, None}
 use Rattle.std.proofs.lemmas.Bool.{false≢true}
 use Rattle.livevec_c.specs.declared.objects.Object.{Object as Held}
@@ -24,7 +24,7 @@ FromParts = plain (λ _. Parts.the_row Object.the_row Heap.the_row ghosts)
 abbrev pub FromRaw : Slot 0
 FromRaw = plain (λ _. Raw.the_row)
 
--- what is there, where something is
+-- the value of an option that has one
 pub some_of : (o : Option Held) → IsSome o → (x : Held) × (o ≡ Some x)
 some_of (Some x) p = (x, refl)
 some_of None p = elim (false≢true p) [ ]

@@ -36,7 +36,7 @@ six_put lo hi s s1 s2 s3 s4 p v v1 v2 v3 v4 v5 v6 sum one two three four put put
     let up_to_affine = put5 ∙ ap (λ t. with_part (part_at Affine lo hi t) v4) third ∙ ap (at Affine) up_to_best in
     put6 ∙ ap (λ t. with_part (part_at Automaton lo hi t) v5) (four ∙ third) ∙ ap (at Automaton) up_to_affine
 
--- so a vector is asked by all six
+-- a vector that is asked by all six kinds
 pub asks_six : (lo hi : ℕ) (s : State) (answer : KindAnswer) (values : PlainValues) (told : Reduced) → IsKindAnswer (table_of s.body.automaton) s.history.journal Sum lo hi answer → IsLegalInLimits s.history
     → values ≡ spread (fold_of (six_operations_by (table_of s.body.automaton)) (slice_of s.history.journal lo hi)) → told ≡ record { refusal = 0; detail = 0; edit = answer.edit; cells = 0; summaries = 0; values = values } → AsksVector lo hi told s
 asks_six lo hi s answer values told is legal plain tells =
@@ -49,6 +49,6 @@ asks_six lo hi s answer values told is legal plain tells =
       within = legal;
     }
 
--- and so a range is refused
+-- a range that is refused to a query by all six kinds
 pub refuses_six : (lo hi : ℕ) (s : State) (refusal : Refusal) (told : Reduced) → range_refusal s.history.journal lo hi ≡ Some refusal → IsLegalInLimits s.history → told ≡ unreduced (number_of refusal) (detail_of refusal) → AsksVector lo hi told s
 refuses_six lo hi s refusal told why legal tells = record { r = Err refusal; answer_is = tells; ok = tt; err = why; within = legal }

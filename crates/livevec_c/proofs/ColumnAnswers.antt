@@ -1,4 +1,4 @@
--- What a scan of a vector leaves in its column, where it is filled.
+-- What a scan of a vector leaves in its column, if this is filled.
 use Rattle.std.proofs.Common.{◌≡◌, ℕ, ℤ, ◌-◌, ◌≤◌, ◌++◌, Bool, List, length, map, drop, sym, ap, ◌∙◌}
 use Rattle.std.specs.Prelude.{None, nat_lt}
 use Rattle.std.proofs.lemmas.Bool.{le-ltb}

@@ -1,4 +1,4 @@
--- What has a series, with the trees of some kinds.
+-- Something that has a series, with the trees of some kinds.
 use Rattle.std.proofs.Common.{◌≡◌, ℕ, ◌+◌, ◌<◌, true, false, [], ◌∷◌, Result, Ok, Err, OnErr, OnOk, List, fold, get_or, take, sym, ap, ◌∙◌, true≢false}
 use Rattle.std.specs.Prelude.{is_err}
 use Rattle.std.proofs.lemmas.List.{take_more}
@@ -8,7 +8,7 @@ use Rattle.lv_bodies.specs.declared.kinds.Kind.TheVariants.{Sum, Least, Greatest
 use Rattle.lv_series.specs.Series.{with_kind}
 use Rattle.livevec_c.specs.SeriesHeld.{Long}
 
--- a series of which some kinds have a tree beside those that had one
+-- a series in which some kinds have a tree, in addition to those that had one
 abbrev pub with_trees : List Kind → Long → Long
 with_trees kinds s = record s { kinds = fold (λ kept kind. with_kind kind kept) s.kinds kinds }
 

@@ -1,4 +1,4 @@
--- What a question by one kind answers is the plain value of its range.
+-- The answer of a query by one kind is the plain value of its range.
 use Rattle.std.proofs.Common.{◌≡◌, ℕ, Some, None, length, sym, ap, ◌∙◌}
 use Rattle.std.specs.Prelude.{nat_lt}
 use Rattle.lv_geometry.specs.Numbers.{number_of}

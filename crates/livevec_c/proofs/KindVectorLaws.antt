@@ -1,4 +1,4 @@
--- What is kept by kind beside a live vector, as that is edited and asked.
+-- What a vector for C keeps by kind, while its live vector is edited and asked.
 use Rattle.std.proofs.Common.{◌≡◌, ℕ, List, sym, ap, ◌∙◌, subst}
 use Rattle.lv_geometry.specs.Bounds.{Bounds}
 use Rattle.lv_bodies.specs.Automata.{table_of}
@@ -15,14 +15,14 @@ pub ready_of_same : (old new : LiveState SixByTable SixSummary) (kinds : KindsSt
 ready_of_same old new kinds body history kept =
     subst (λ b. AreReady (table_of b.automaton) new.history.journal kinds) (sym body) (subst (λ h. AreReady (table_of old.body.automaton) h.journal kinds) (sym history) kept)
 
--- a vector stays what it is where the live one keeps its body and its history
+-- a vector stays what it is if the live one keeps its body and its history
 pub still_kind_vector : (limits : Bounds) (old new : LiveState SixByTable SixSummary) (kinds : KindsState) → new.body ≡ old.body → new.history ≡ old.history → IsKindVector limits old kinds → IsKindVector limits new kinds
 still_kind_vector limits old new kinds body history is = record {
   limits_are = is.limits_are ∙ ap (λ h. h.limits) (sym history);
   kept = ready_of_same old new kinds body history is.kept;
 }
 
--- and it is one after edits that what is kept was told of
+-- and it is one after edits that what is kept has taken note of
 pub edited_kind_vector : (limits : Bounds) (old new : LiveState SixByTable SixSummary) (kinds left : KindsState) → new.body ≡ old.body → new.history.limits ≡ old.history.limits → IsKindVector limits old kinds
     → AreReady kinds.table new.history.journal left → IsKindVector limits new left
 edited_kind_vector limits old new kinds left body same is ready = record {

@@ -12,7 +12,7 @@ use Rattle.lv_standing.specs.Queries.{is_due}
 use Rattle.livevec_c.specs.Queried.{AreNotesOf, NotesInto, NotesOne, PutsNote, Tells, answers_of, note_of}
 use Rattle.livevec_c.specs.Queries.{QueriesState}
 
--- a list up to an index, and what stands there
+-- a list up to an index, and the element at that index
 next_of : {A : Type 0} (xs : List A) (i : ℕ) (x : A) → x ≡ get_or xs i x → i < length xs → take (i + 1) xs ≡ take i xs ++ x ∷ []
 next_of xs i x is inside = take_more xs i x inside ∙ ap (λ y. take i xs ++ y ∷ []) (sym is)
 
@@ -42,7 +42,7 @@ module _ (s : SamplesState) where
   notes_alone (q ∷ questions) (before ∷ told) (value ∷ values) notes others (inr a) (inr b) =
       a.2 ∙ ap (λ ns. note_of s q value ∷ ns) (notes_alone questions told values a.1 b.1 a.3 b.3) ∙ sym b.2
 
-  -- a note was put behind so many others
+  -- a note was put after so many others
   pub noted_one : (q : SetQuery) (told value : Shown) (count : ℕ) (before after : List Note) (note : Note) → is_due q.query.bound told value ≡ true → note ≡ note_of s q value → PutsNote note count before after → NotesOne s q told value count before (count + 1) after
   noted_one q told value count before after note other is puts = record {
     added = note ∷ [];
@@ -53,7 +53,7 @@ module _ (s : SamplesState) where
     written = λ fits. puts.written (omega (arith, fits));
   }
 
-  -- the questions up to an index were noted, and then what stands there
+  -- the questions up to an index were noted, and then the one at that index
   pub next_noted : (q : SetQuery) (before value : Shown) (questions : List SetQuery) (told values : List Shown) (old : List Note) (count counted : ℕ) (places next : List Note) (i : ℕ) → NotesOne s q before value count places counted next
       → length told ≡ length questions → length values ≡ length questions → i < length questions → q ≡ get_or questions i q → before ≡ get_or told i before → value ≡ get_or values i value
       → NotesInto s (take i questions) (take i told) (take i values) old count places → NotesInto s (take (i + 1) questions) (take (i + 1) told) (take (i + 1) values) old counted next

@@ -1,4 +1,4 @@
--- The close of what is no board, and the return of what is no seat.
+-- The close of an object that is no board, and the return of one that is no seat.
 use Rattle.std.proofs.Common.{◌≡◌, refl}
 use Rattle.std.specs.Prelude.{Option, Some}
 use Rattle.livevec_c.specs.declared.kind_boards.KindBoard.{KindBoard}
@@ -24,7 +24,7 @@ other_closes (Samples samples) other = (refl, refl)
 other_closes (Loader bytes) other = (refl, refl)
 other_closes (Queries set) other = (refl, refl)
 
--- what is no seat isn't taken back
+-- an object that is no seat isn't taken back
 pub other_stays : (board : KindBoard) (held : Object) (slot : Option Object) → ((s : KindSeat) → held ≡ Seat s → ⊥) → slot ≡ Some held → TakesBackObject 101 board held board slot
 other_stays board (Vector state only) slot other is = (refl, refl, is)
 other_stays board (Job job) slot other is = (refl, refl, is)

@@ -1,4 +1,4 @@
--- What is answered of a range are its plain values.
+-- The answers of a range are its plain values.
 use Rattle.std.proofs.Common.{◌≡◌, ℕ, ◌≤◌, lit≤, sym, ap, ◌∙◌, subst, arith}
 use Rattle.std.specs.Prelude.{Bool, true, false, Option, Some, None, Result, Ok, Err, IfOk}
 use Rattle.lv_geometry.specs.Numbers.{number_of}
@@ -52,13 +52,13 @@ plain_ok state lo hi (Ok a) answer is fine zero =
     subst (λ q. AreValues (m) xs q.values) (sym is) (subst (λ s. AreValues (m) xs (spread s)) (sym fine.value) (spread-plain m xs))
 plain_ok state lo hi (Err refusal) answer is fine zero = elim (refused refusal (sym (ap (λ q. q.refusal) is) ∙ zero)) [ ]
 
--- one that is of one kind has no such answer
+-- a vector of one kind has no such answer
 refused_kind : (state : State) (lo hi : ℕ) (answer : Reduced) → answer ≡ unreduced 113 0 → IsPlainOf lo hi answer state
 refused_kind state lo hi answer is zero = elim (apart answer.refusal (ap (λ q. q.refusal) is) zero) [ ] where
   apart : (n : ℕ) → n ≡ 113 → n ≡ 0 → ⊥
   apart n is zero = omega (arith, is, zero)
 
--- of a vector, by its trees or by its summaries
+-- the answers of a vector, by its trees or by its summaries
 six_of_plain : (only : Option Kind) (trees : Bool) (lo hi : ℕ) (answer : Reduced) (state : State) → SixOf only trees lo hi answer state → IsPlainOf lo hi answer state
 six_of_plain (Some only) trees lo hi answer state is = refused_kind state lo hi answer is
 six_of_plain None true lo hi answer state asks = plain_ok state lo hi asks.r answer asks.answer_is asks.ok

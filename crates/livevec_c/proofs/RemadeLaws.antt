@@ -24,7 +24,7 @@ use Rattle.livevec_c.specs.Restores.{PlacesRemade, Remakes, RemakesObject, Remak
 use Rattle.livevec_c.specs.Written.{accepted_before}
 
 module _ (h : History) (es : List Edit) (i : ℕ) (d : Edit) (within : i < length es) where
-  -- the edit that comes next, and those behind it
+  -- the edit that comes next, and those after it
   next : drop i es ≡ get_or es i d ∷ drop (i + 1) es
   next = drop_more es i d within
 
@@ -64,7 +64,7 @@ made_all start h es i past left made =
     let none = drop_all i es past in
     (sym left ∙ ap (verdict_of_edits h) none, sym (ap (with_edits h) none) ∙ made)
 
--- so many were made as the vector has edits then
+-- as many were made as the vector has edits then
 pub told_at : (es : List Edit) (old new : History) (refusal : Refusal) (made : ℕ) → made ≡ length new.journal → Remakes es old new (Err refusal) → RemakesTold es old new (Err record { refusal = refusal; made = made })
 told_at es old new refusal made is remakes =
     elim remakes [
@@ -72,7 +72,7 @@ told_at es old new refusal made is remakes =
       | inr refused ↦ inr (refused.0, is ∙ refused.1)
     ]
 
--- edits go behind a journal
+-- edits are appended to a journal
 with_edits-is : (h : History) (es : List Edit) → with_edits h es ≡ record h { journal = h.journal ++ es }
 with_edits-is h [] = ap (λ (js : List Edit). record h { journal = js }) (sym (append-nil h.journal))
 with_edits-is h (e ∷ es) = with_edits-is (with_edit h e) es ∙ ap (λ (js : List Edit). record h { journal = js }) (append_assoc h.journal (e ∷ []) es)
@@ -112,7 +112,7 @@ module _ (only : Option Kind) (limits : Bounds) (es : List Edit) (held : Object)
         ],
       )
 
--- what a front's edits became is the answer
+-- the answer is what became of the edits of a transcript's prefix
 pub front_restored : (only : Option Kind) (limits : Bounds) (journal : List Edit) (verdict : FrontVerdict) (edits answers : ℕ) (answer : Audited) (r : Result (Unit {0}) Stopped) (slot : Option Object)
     → verdict ≡ Front edits answers → answer ≡ restored_by verdict r → RestoresEdits only limits journal r slot → RestoresFront only limits journal verdict answer slot
 front_restored only limits journal verdict edits answers answer r slot is answered restores =

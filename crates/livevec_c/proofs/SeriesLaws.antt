@@ -35,12 +35,12 @@ use Rattle.livevec_c.specs.SeriesValued.{ValuesSeries, value_of, with_tree}
 use Rattle.livevec_c.specs.SpreadLaws.{shown-plain}
 use Rattle.livevec_c.specs.declared.series_results.SeriesReduced.{SeriesReduced}
 
--- six summaries, each of which is that of six others, are those
+-- six summaries that are equal to six others, each to its own, are those
 pub same_six : (s : SixSummary) (sum : ℕ) (least greatest : Option ℤ) (best : Option RunTotals) (m : AffineMap) (states : List ℕ) → sum ≡ s.0 → least ≡ s.1.0 → greatest ≡ s.1.1.0 → best ≡ s.1.1.1.0 → m ≡ s.1.1.1.1.0 → states ≡ s.1.1.1.1.1
     → (sum, (least, (greatest, (best, (m, states))))) ≡ s
 same_six s sum least greatest best m states a b c d e f = rw (a, b, c, d, e, f) refl
 
--- a value that was told is the plain value of its kind
+-- a value that was returned is the plain value of its kind
 pub kind_told : (kind : Kind) (s : Long) (lo hi : ℕ) (answer : LongAnswer KindSummary) (shown : Shown) (told : SeriesReduced) → IsLongValue s kind lo hi answer → shown ≡ shown_of answer.value → told ≡ record { why = granted; edit = answer.edit; values = values_for (nat_lt lo hi) shown } → told ≡ value_of kind lo hi s
 kind_told kind s lo hi answer shown told is shows tells =
     let xs = slice_of s.held lo hi in
@@ -50,11 +50,11 @@ kind_told kind s lo hi answer shown told is shows tells =
     ∙ ap (λ v. record { why = granted; edit = s.edits; values = values_for any v }) (shows ∙ ap shown_of is.value ∙ shown-plain s.table xs kind)
     ∙ ap (λ r. long_valued r s.edits (values_for any (plain_value_with s.table kind xs))) (sym is.granted)
 
--- one that was asked, of which the kind's tree was made first
+-- a value by a kind whose tree was made first
 pub kind_asked : (kind : Kind) (s new : Long) (lo hi : ℕ) (answer : LongAnswer KindSummary) (shown : Shown) (told : SeriesReduced) → Asks s kind lo hi (Ok answer) new → shown ≡ shown_of answer.value → told ≡ record { why = granted; edit = answer.edit; values = values_for (nat_lt lo hi) shown } → ValuesSeries kind lo hi told s new
 kind_asked kind s new lo hi answer shown told (is, after) shows tells = inl (kind_told kind s lo hi answer shown told is shows tells, after ∙ ap (λ r. with_tree kind r s) (sym is.granted))
 
--- one that was refused
+-- a query by a kind that was refused
 pub kind_refused : (kind : Kind) (s new : Long) (lo hi : ℕ) (refusal : LongRefusal) (told : SeriesReduced) → Asks s kind lo hi (Err refusal) new → told ≡ unreduced_by (refused_by refusal) → ValuesSeries kind lo hi told s new
 kind_refused kind s new lo hi refusal told (same, inl why) tells =
     inl (
@@ -63,11 +63,11 @@ kind_refused kind s new lo hi refusal told (same, inl why) tells =
     )
 kind_refused kind s new lo hi refusal told (same, inr (free, is, none)) tells = inr (tells ∙ ap (λ r. unreduced_by (refused_by r)) is, free, none, same)
 
--- values of all kinds that were told where the tree of each was made first
+-- values by all kinds that were returned after the tree of each was made
 pub all_made : (s new : Long) (lo hi : ℕ) (told : SeriesReduced) → new ≡ with_all None s → range_refused s.held lo hi ≡ None → told ≡ values_of lo hi new → AsksSeries lo hi told s (with_all None s)
 all_made s new lo hi told is granted tells = inl (tells ∙ ap (values_of lo hi) is, ap (λ r. with_all r s) (sym granted))
 
--- the fold of what stands in front of some elements may go on over them
+-- the fold of what comes before some elements may go on over them
 pub piece_can : {S : Type 0} (o : Operations S) (within : S → ℕ → Type 0) → LongLaws o within → (h : Held) (lo at more : ℕ) → range_refused h lo at ≡ None → range_refused h at (at + more) ≡ None → All IsElement h.elements → size_of h ≤ 2 ^ 62 → (s : S) → s ≡ fold_of o (slice_of h lo at) → CanGoOnLong within s more
 piece_can o within laws h lo at more front rest elements few s is =
     let low = free_range h lo at front in
@@ -81,12 +81,12 @@ piece_can o within laws h lo at more front rest elements few s is =
       few = omega (arith, long, low, high, few);
     }
 
--- elements of a range that is kept, from an index on, and what stands in front of them from another on
+-- elements of a range that is kept, from one index on, where what comes before them starts at another index
 module _ {S C : Type 0} (o : Operations S) (cell_of : S → C) (plain : List ℤ → C) (plain_is : (ys : List ℤ) → cell_of (fold_of o ys) ≡ plain ys) (h : Held) (lo at : ℕ) (xs : List ℤ) (front : range_refused h lo at ≡ None) (rest : range_refused h at (at + length xs) ≡ None) (is : xs ≡ slice_of h at (at + length xs)) where
   abbrev before : S
   before = fold_of o (slice_of h lo at)
 
-  -- where the running fold stands behind so many
+  -- the running fold after so many elements
   reached_at : (j : ℕ) → j ≤ length xs → cell_of (reached o before (take j xs)) ≡ plain (slice_of h lo (at + j))
   reached_at j few =
       let low = free_range h lo at front in
@@ -130,7 +130,7 @@ module _ {S C : Type 0} (o : Operations S) (cell_of : S → C) (plain : List ℤ
       ∙ sym (map-range_with_len_more (cell_at inclusive) 0 k k (omega arith))
       ∙ ap (λ n. map (cell_at inclusive) (range_with_len 0 n)) (sym next)
 
-  -- the cells of their scan are those of the range's beginnings
+  -- the cells of their scan are those of the range's prefixes
   pub piece_cells : (inclusive : Bool) → map cell_of (scan_from inclusive o (fold_of o (slice_of h lo at)) xs) ≡ map (λ i. plain (slice_of h lo (if inclusive then at + i + 1 else at + i))) (range_with_len 0 (length xs))
   piece_cells inclusive =
       ap (λ ys. map cell_of (scan_from inclusive o before ys)) (sym (take_all (length xs) xs (omega arith))) ∙ cells_so_far inclusive (length xs) (omega arith)

@@ -9,12 +9,12 @@ use Rattle.lv_series.proofs.WriteLaws.{is_within, judged, judged_more, judged_no
 use Rattle.livevec_c.specs.SeriesHeld.{Long}
 use Rattle.livevec_c.specs.SeriesWritten.{accepted_before, place_refused}
 
--- how many writes are accepted before one is refused, where so many edits are left
+-- how many writes are accepted before one is refused, if so many edits are left
 abbrev counted : ℕ → ℕ → ℕ → List ℕ → ℕ
 counted first size left [] = 0
 counted first size left (i ∷ is) = if nat_eq left 0 then 0 else (if is_within first size i then counted first size (left - 1) is + 1 else 0)
 
--- so it is of writes of any values
+-- that many are accepted of writes of any values
 accepted_is : (s : Long) (is : List ℕ) (xs : List ℤ) → length is ≡ length xs → s.edits ≤ 18446744073709551615 → accepted_before s (writes_at is xs) ≡ counted s.held.first (size_of s.held) (18446744073709551615 - s.edits) is
 accepted_is s [] xs paired edits = refl
 accepted_is s (i ∷ is) [] paired edits = absurd (omega (arith, paired))
@@ -50,7 +50,7 @@ place_is s is xs paired edits =
     ap (λ r. cond (is_some r) (accepted_before s (writes_at is xs)) 0) (verdict_judged s is xs paired edits)
     ∙ ap (λ n. cond (is_some (judged s.held.first size left is)) n 0) (accepted_is s is xs paired edits)
 
--- at a place in a list of indices, the ones before which are not refused
+-- at a place in a list of indices, before which no write is refused
 pub record AreFreeBefore (first size left place : ℕ) (is : List ℕ) : Type 0 where
   pub within : place ≤ left
   pub judged_is : judged first size left is ≡ judged first size (left - place) (drop place is)
@@ -85,7 +85,7 @@ module _ (first size left place : ℕ) (is : List ℕ) (small : place < length i
         counted_is = omega (arith, free.counted_is, one);
       }
 
-  -- what is refused there
+  -- the first write that is refused is at that place
   place_so : is_some (judged first size left is) ≡ true → counted first size (left - place) (drop place is) ≡ 0 → cond (is_some (judged first size left is)) (counted first size left is) 0 ≡ place
   place_so some none = cond-true _ _ _ some ∙ omega (arith, free.counted_is, none)
 
@@ -109,7 +109,7 @@ kept_or_not h i b is =
       | inr out ↦ out ∙ ap not (sym (is ∙ ap is_err (cond-false _ _ _ out)))
     ]
 
--- so it is told, by how many edits are left
+-- the place that is returned is right, given how many edits are left
 module _ (s : Long) (is : List ℕ) (xs : List ℤ) (paired : length is ≡ length xs) (edits : s.edits ≤ 18446744073709551615) (left place : ℕ) (left_is : left ≡ 18446744073709551615 - s.edits) (free : AreFreeBefore s.held.first (size_of s.held) left place is) where
   here : cond (is_some (judged s.held.first (size_of s.held) left is)) (counted s.held.first (size_of s.held) left is) 0 ≡ place_refused s (writes_at is xs)
   here = rw left_is (sym (place_is s is xs paired edits))

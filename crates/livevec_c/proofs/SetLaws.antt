@@ -9,7 +9,7 @@ use Rattle.livevec_c.specs.Queries.{QueriesState, question_refusal, terms_of, un
 abbrev pub seen_of : QuerySetState SetQuery → QueriesState
 seen_of s = record { questions = s.queries; told = s.told }
 
--- a question was registered in a set of at most 64, and counts as told its answer of no elements
+-- a question was registered in a set of at most 64, and its answer of no elements counts as reported
 pub set_watched : {T E : Type 0} (result : Result T E) (old new : QuerySetState SetQuery) (q : SetQuery) (told : Shown) → old.most ≡ 64 → told ≡ untold q
     → OnOk result ((refusal_of terms_of old.most old.queries q ≡ None) × (new ≡ with_query old q told)) → OnOk result ((question_refusal old.queries q ≡ None) × (seen_of new ≡ with_question (seen_of old) q))
 set_watched (Ok _) old new q told most untold_is met =

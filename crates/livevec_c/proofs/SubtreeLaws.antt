@@ -1,4 +1,4 @@
--- Subtrees: what a vector keeps where one is taken in, or isn't.
+-- Subtrees: what a vector keeps if one is taken in, and if it isn't.
 use Rattle.std.proofs.Common.{◌≡◌, ◌↔◌, Bool, true, false, IsTrue, Option, Some, None, IfSome, refl}
 use Rattle.lv_bodies.specs.declared.sixes.SixByTable.{SixByTable}
 use Rattle.lv_refresh.specs.Subtrees.{Copied}

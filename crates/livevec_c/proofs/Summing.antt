@@ -1,4 +1,4 @@
--- That a range of a vector may be summed up.
+-- A range of a vector may be summed up.
 use Rattle.std.proofs.Common.{◌≡◌, ℕ, ◌-◌, ◌≤◌, Bool, true, false, cond, Some, None, List, length, refl, sym, ◌∙◌, arith}
 use Rattle.std.specs.Prelude.{IsTrue, nat_lt}
 use Rattle.std.proofs.lemmas.Bool.{ltb-false}

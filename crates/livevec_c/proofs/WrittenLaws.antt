@@ -19,13 +19,13 @@ pub limits_kept_by : (h new : History) (es : List Edit) (r : Result ℕ Refusal)
 limits_kept_by h new es (Ok edit) answer = ap (λ (g : History). g.limits) answer.journal ∙ limits-edits h es
 limits_kept_by h new es (Err refusal) answer = ap (λ (g : History). g.limits) answer.same
 
--- how many writes are accepted before one is refused, where so many edits are left and there are so many elements
+-- how many writes are accepted before one is refused, if so many edits are left and there are so many elements
 abbrev pub accepted_by : ℕ → ℕ → List ℕ → ℕ
 accepted_by left size [] = 0
 accepted_by zero size (i ∷ is) = 0
 accepted_by (suc left) size (i ∷ is) = if nat_lt i size then accepted_by left size is + 1 else 0
 
--- so it is of writes of any values
+-- that many are accepted of writes of any values
 accepted_is : (left : ℕ) (h : History) (is : List ℕ) (xs : List ℤ) → replayed h.journal ≡ Some (list_of h.journal) → length h.journal + left ≡ h.limits.edits → length is ≡ length xs → accepted_by left (length (list_of h.journal)) is ≡ accepted_before h (writes_at is xs)
 accepted_is left h [] xs legal edits paired = refl
 accepted_is left h (i ∷ is) [] legal edits paired = absurd (omega (arith, paired))
@@ -72,7 +72,7 @@ accepted_by-in (suc left) rest size i is more inside =
     let same : left ≡ rest = omega (arith, more) in
     cond-true _ _ _ (lt-ltb i size inside) ∙ ap (λ n. accepted_by n size is + 1) same
 
--- at a place in a list of indices, the ones before which are not refused
+-- at a place in a list of indices, before which no write is refused
 pub record AreFreeBefore (left size place : ℕ) (is : List ℕ) : Type 0 where
   pub within : place ≤ left
   pub judged : verdict_by left size is ≡ verdict_by (left - place) size (drop place is)
@@ -97,7 +97,7 @@ free_before_next left size place is some within inside free =
       counted = omega (arith, free.counted, one);
     }
 
--- what is refused there
+-- the first write that is refused is at that place, or none is
 pub place_worn : (left size place : ℕ) (is : List ℕ) → place ≡ left → place < length is → AreFreeBefore left size place is → cond (is_some (verdict_by left size is)) (accepted_by left size is) 0 ≡ place
 place_worn left size place is worn within free =
     ap (λ v. cond (is_some v) (accepted_by left size is) 0) (free.judged ∙ verdict_by-worn_at left size place is (sym worn) within)

@@ -1,4 +1,4 @@
--- What the answers of the library are for C.
+-- The answers of the library, laid out for C.
 use Rattle.std.specs.Prelude.{ℕ, ℤ, pos, Bool, true, false, ◌^◌, Option, Some, None, Result, Ok, Err, ok_or, List, length, nat_lt, slice_get, replicate, unwrap_or, is_some, option_map, if◌then◌else◌}
 use Rattle.std.specs.Int.{int_rem_euclid, int_div_euclid}
 use Rattle.std.specs.Int.RustNames.{unsigned_abs}
@@ -23,7 +23,7 @@ use Rattle.livevec_c.specs.declared.values.PlainValues.{PlainValues}
 use Rattle.livevec_c.specs.declared.results.Reduced.{Reduced}
 use Rattle.livevec_c.specs.declared.results.Verdict.{Verdict}
 
--- what a refusal tells beside its number: the size, the limit, or the edit that came first
+-- what a refusal says besides its number: the size, the limit, or the edit that came first
 abbrev pub detail_of : Refusal → ℕ
 detail_of (OutOfRange size) = size
 detail_of (TooLarge limit) = limit
@@ -45,7 +45,7 @@ abbrev pub edited_by : Result Receipt Refusal → Edited
 edited_by (Ok receipt) = received receipt
 edited_by (Err refusal) = record { refusal = number_of refusal; detail = detail_of refusal; edit = 0; place = 0; value = pos 0 }
 
--- an edit's answer where a slot was empty
+-- an edit's answer if a slot holds no vector
 abbrev pub unedited : Edited
 unedited = record { refusal = 101; detail = 0; edit = 0; place = 0; value = pos 0 }
 
@@ -54,7 +54,7 @@ abbrev pub judged_by : Option Refusal → Verdict
 judged_by None = record { refusal = 0; detail = 0 }
 judged_by (Some refusal) = record { refusal = number_of refusal; detail = detail_of refusal }
 
--- the same where a slot was empty
+-- the verdict if a slot holds no vector
 abbrev pub unjudged : Verdict
 unjudged = record { refusal = 101; detail = 0 }
 
@@ -63,11 +63,11 @@ abbrev pub element_by : Result ℤ Refusal → Element
 element_by (Ok value) = record { refusal = 0; detail = 0; value = value }
 element_by (Err refusal) = record { refusal = number_of refusal; detail = detail_of refusal; value = pos 0 }
 
--- the element of a list at an index, or the refusal that tells the size
+-- the element of a list at an index, or the refusal with the list's size
 abbrev pub element_in : List ℤ → ℕ → Result ℤ Refusal
 element_in xs i = ok_or (slice_get xs i) (OutOfRange (length xs))
 
--- the same where a slot was empty
+-- an element's answer if a slot holds nothing of the sort that was asked for
 abbrev pub no_element : Element
 no_element = record { refusal = 101; detail = 0; value = pos 0 }
 
@@ -82,12 +82,12 @@ low_half x = unsigned_abs (int_rem_euclid x (pos (2 ^ 64)))
 abbrev pub high_half : ℤ → ℤ
 high_half x = int_div_euclid x (pos (2 ^ 64))
 
--- a `bool` of C and the bytes behind it, as one word
+-- a `bool` of C and the bytes after it, as one word
 abbrev pub word_of : Bool → ℕ
 word_of true = 1
 word_of false = 0
 
--- the six summaries of some elements as their plain values; 0 stands for those that an empty list has not
+-- the six summaries of some elements as their plain values; those that an empty list doesn't have are 0
 abbrev pub spread : SixSummary → PlainValues
 spread s = record {
   sum = s.0;
@@ -101,7 +101,7 @@ spread s = record {
   any = word_of (is_some s.1.0);
 }
 
--- plain values with that of one kind in its place; that of the least tells whether there is an element
+-- plain values with that of one kind in its place; the minimum's also says whether there is an element
 abbrev pub with_part : KindSummary → PlainValues → PlainValues
 with_part (part.Sum s) v = record v { sum = s }
 with_part (part.Least x) v = record v { least = unwrap_or x (pos 0); any = word_of (is_some x) }
@@ -131,7 +131,7 @@ unclaimed refusal = record { refusal = refusal; found = false; level = 0; number
 abbrev pub claimed_by : Node → ℕ → ClaimedJob
 claimed_by node version = record { refusal = 0; found = true; level = node.level; number = node.number; version = version }
 
--- vetting where a slot does not hold what it should
+-- the answer of vetting if a slot does not hold what it should
 abbrev pub unvetted : Vetted
 unvetted = record { refusal = 101; yes = false }
 

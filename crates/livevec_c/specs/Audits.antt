@@ -1,4 +1,4 @@
--- What audits of a text that lies in the caller's memory answer.
+-- What audits of a text in the caller's memory answer.
 use Rattle.std.specs.Prelude.{◌≡◌, ℕ, Bool, true, false, Result, Ok, Err, List}
 use Rattle.lv_transcript.specs.ReadTexts.{AuditsFront, AuditsText}
 use Rattle.lv_transcript.specs.declared.text_audits.Unread.{Unread}
@@ -9,7 +9,7 @@ use Rattle.lv_transcript.specs.declared.fronts.FrontVerdict.{FrontVerdict}
 use Rattle.lv_transcript.specs.declared.fronts.FrontVerdict.TheVariants as fronts
 use Rattle.livevec_c.specs.declared.transcript_audits.Audited.{Audited}
 
--- the answer where there is no verdict
+-- the answer if there is no verdict
 abbrev pub unaudited : ℕ → Audited
 unaudited refusal = record { refusal = refusal; detail = 0; verdict = 0; line = 0; edits = 0; answers = 0 }
 
@@ -23,13 +23,13 @@ verdict_for verdicts.Yes = verdict_at 1 0
 verdict_for (verdicts.No line) = verdict_at 2 line
 verdict_for (verdicts.Bad line) = verdict_at 3 line
 
--- a verdict on a front, with how many edits and answers it has
+-- a verdict on a prefix of a transcript, with how many edits and answers it has
 abbrev pub fronted_by : FrontVerdict → Audited
 fronted_by (fronts.Front edits answers) = record { refusal = 0; detail = 0; verdict = 1; line = 0; edits = edits; answers = answers }
 fronted_by (fronts.No line) = verdict_at 2 line
 fronted_by (fronts.Bad line) = verdict_at 3 line
 
--- the same, as the refusal of a text that is no front
+-- the answer that refuses a text which is no prefix of a transcript, with the verdict on it
 abbrev pub no_front : FrontVerdict → Audited
 no_front verdict = record (fronted_by verdict) { refusal = 116 }
 
@@ -54,7 +54,7 @@ AuditsFor text answer = (r : Result Verdict Unread) × AuditsText text r × (ans
 abbrev pub AuditsFrontFor : List ℕ → Audited → Type 0
 AuditsFrontFor text answer = (r : Result FrontVerdict Unread) × AuditsFront text r × (answer ≡ front_by r)
 
--- as a front, or as a whole transcript
+-- an audit of a text as a prefix, or as a whole transcript
 abbrev pub Audits : Bool → List ℕ → Audited → Type 0
 Audits true text answer = AuditsFrontFor text answer
 Audits false text answer = AuditsFor text answer

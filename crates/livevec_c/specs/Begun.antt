@@ -1,4 +1,4 @@
--- How what has no parameter begins behind a slot.
+-- How an object that has no parameter begins in a slot.
 use Rattle.std.specs.Prelude.{◌≡◌, ℕ, Option, [], nat_eq}
 use Rattle.lv_bodies.specs.Plain.{program_table}
 use Rattle.livevec_c.specs.declared.objects.Object.{Object}
@@ -13,12 +13,12 @@ use Rattle.livevec_c.specs.SeriesHeld.{Opens}
 abbrev pub IsNewQueries : Object → Type 0
 IsNewQueries object = object ≡ Queries (record { questions = []; told = [] })
 
--- what a number names: a series (0), samples (1), what is loaded (2), or a set of queries (another number)
+-- the object that a number names: a series (0), samples (1), a loader (2), or a set of queries (another number)
 abbrev pub IsBegun : ℕ → Object → Type 0
 IsBegun what object =
     OneOf (nat_eq what 0) (IsNewSeries program_table object)
     (OneOf (nat_eq what 1) (IsNewSamples program_table object) (OneOf (nat_eq what 2) (IsNewLoader object) (IsNewQueries object)))
 
--- for a slot
+-- such an object is put into a slot
 abbrev pub Begins : ℕ → ℕ → Option Object → Option Object → Type 0
 Begins what number old new = Opens (IsBegun what) number old new

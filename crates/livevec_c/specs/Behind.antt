@@ -1,4 +1,4 @@
--- What the calls do and answer, by what lies behind a slot.
+-- What the calls of a vector do and answer, for the object in a slot.
 use Rattle.std.specs.Prelude.{◌≡◌, ℕ, Bool, true, false, Option, Some, None, Result, IfOk, IfErr, if◌then◌else◌, ◌==◌}
 use Rattle.lv_geometry.specs.declared.refusals.Refusal.{Refusal}
 use Rattle.lv_bodies.specs.Automata.{table_of}
@@ -38,12 +38,12 @@ abbrev pub EditsObject : Edit → Edited → Object → Object → Type 0
 EditsObject edit answer (Vector old only) new = (state : State) × (new ≡ Vector state only) × EditsVector edit answer old state
 EditsObject edit answer other new = (answer ≡ unedited) × (new ≡ other)
 
--- an edit of what lies behind a slot
+-- an edit of the object in a slot
 abbrev pub Edits : Edit → Edited → Option Object → Option Object → Type 0
 Edits edit answer None new = (answer ≡ unedited) × (new ≡ None)
 Edits edit answer (Some old) new = (object : Object) × (new ≡ Some object) × EditsObject edit answer old object
 
--- the same where there is such an edit
+-- an edit of the object in a slot, if there is such an edit
 abbrev pub EditsBy : Option Edit → Edited → Option Object → Option Object → Type 0
 EditsBy None answer old new = (answer ≡ unedited) × (new ≡ old)
 EditsBy (Some edit) answer old new = Edits edit answer old new
@@ -57,7 +57,7 @@ abbrev pub Judges : Edit → Verdict → Option Object → Type 0
 Judges edit answer None = answer ≡ unjudged
 Judges edit answer (Some object) = JudgesObject edit answer object
 
--- the same where there is such an edit
+-- why an edit of the object in a slot would be refused, if there is such an edit
 abbrev pub JudgesBy : Option Edit → Verdict → Option Object → Type 0
 JudgesBy None answer held = answer ≡ unjudged
 JudgesBy (Some edit) answer held = Judges edit answer held
@@ -72,11 +72,11 @@ abbrev pub element_behind : ℕ → ℕ → Option Object → Element
 element_behind sort index None = no_element
 element_behind sort index (Some object) = element_of sort index object
 
--- a count where there is no vector
+-- a count if there is no vector
 abbrev pub no_count : Count
 no_count = record { refusal = 101; value = 0 }
 
--- a reduction of a vector by all six kinds, each by its own tree: counts of reads apart, it is answered as the library answers it
+-- a reduction of a vector by all six kinds, each by its own tree: except for counts of reads, it is answered as the library answers it
 pub record AsksVector (lo hi : ℕ) (answer : Reduced) (state : State) : Type 0 where
   pub r : Result (Answer SixSummary) Refusal
   pub answer_is : answer ≡ reduced_by r
@@ -84,14 +84,14 @@ pub record AsksVector (lo hi : ℕ) (answer : Reduced) (state : State) : Type 0 
   pub err : IfErr r (λ refusal. range_refusal state.history.journal lo hi ≡ Some refusal)
   pub within : IsLegalInLimits state.history
 
--- the same, or as the library answers it; a vector that is of one kind refuses both
+-- a reduction of a vector by all six kinds, by its trees or as the library answers it; a vector that is of one kind refuses both
 abbrev pub SixOf : Option Kind → Bool → ℕ → ℕ → Reduced → State → Type 0
 SixOf (Some only) trees lo hi answer state = answer ≡ unreduced 113 0
 SixOf None true lo hi answer state = AsksVector lo hi answer state
 SixOf None false lo hi answer state =
     (r : Result (Answer SixSummary) Refusal) × (answer ≡ reduced_by r) × IsLegalInLimits state.history × ReducesAt (six_operations_by (table_of state.body.automaton)) (recorded state) lo hi r
 
--- of an object: of a vector only
+-- a reduction of an object, which is to be a vector
 abbrev pub SixIn : Bool → ℕ → ℕ → Reduced → Object → Type 0
 SixIn trees lo hi answer (Vector state only) = SixOf only trees lo hi answer state
 SixIn trees lo hi answer other = answer ≡ unreduced 101 0

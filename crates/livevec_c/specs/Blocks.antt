@@ -1,4 +1,4 @@
--- What the calls of jobs of many blocks do and answer, by what lies behind the slots.
+-- What the calls of jobs of many blocks do and answer, for the objects in the slots.
 use Rattle.std.specs.Prelude.{◌≡◌, ◌⊎◌, ℕ, ◌-◌, ◌/◌, min, nat_eq, Option, Some, None, List, [], ◌∷◌, length, if◌then◌else◌}
 use Rattle.lv_bodies.specs.Automata.{table_of}
 use Rattle.lv_bodies.specs.Six.{six_operations_by}
@@ -23,12 +23,12 @@ jobs_in first limit state = due_jobs state.body (recorded state) first (min limi
 abbrev pub uncopied : ℕ → Count
 uncopied refusal = record { refusal = refusal; value = 0 }
 
--- what lies behind a batch's slot: nothing where there are no jobs
+-- what a batch's slot holds: nothing if there are no jobs
 abbrev pub batch_of : List (BlockJob SixByTable) → Option Object
 batch_of [] = None
 batch_of (job ∷ jobs) = Some (Batch (job ∷ jobs))
 
--- jobs lie behind the slot, and it is told how many; or there was no memory, and it is empty
+-- the slot holds the jobs, if there are any, and the answer says how many; or there was no memory, and the slot is empty
 abbrev pub KeepsCopies : List (BlockJob SixByTable) → Count → Option Object → Type 0
 KeepsCopies jobs answer slot =
     ((answer ≡ uncopied 6) × (slot ≡ None)) ⊎ ((answer ≡ record { refusal = 0; value = length jobs }) × (slot ≡ batch_of jobs))
@@ -59,15 +59,15 @@ abbrev pub RunsBlocks : ℕ → Option Object → Option Object → Type 0
 RunsBlocks number None new = (number ≡ 101) × (new ≡ None)
 RunsBlocks number (Some old) new = (object : Object) × (new ≡ Some object) × RunsObject number old object
 
--- what is told of outcomes
+-- the answer about outcomes that were delivered
 abbrev pub taken_by : Batched → Taken
 taken_by told = record { refusal = 0; installed = told.installed; held = told.held; stale = told.stale; strangers = told.strangers }
 
--- the same where a slot does not hold what it should
+-- the answer if a slot does not hold what it should
 abbrev pub untaken : Taken
 untaken = record { refusal = 101; installed = 0; held = 0; stale = 0; strangers = 0 }
 
--- each outcome was delivered where it is vouched for, and counted as what became of it; the body and the edits stay
+-- each outcome was delivered if it is vouched for, and counted as what became of it; the body and the edits stay
 pub record TakesVector (answer : Taken) (old new : State) (jobs : List (BlockJob SixByTable)) : Type 0 where
   pub told : Batched
   pub answer_is : answer ≡ taken_by told
@@ -83,7 +83,7 @@ abbrev pub TakesObject : Taken → Object → Object → Object → Type 0
 TakesObject answer (Vector old only) new brought = (state : State) × (new ≡ Vector state only) × TakesLive answer old state brought
 TakesObject answer other new brought = (answer ≡ untaken) × (new ≡ other)
 
--- the same of what lies behind a slot, which is empty where it was taken in
+-- the object in a slot is taken in by another object; the slot is empty afterwards if it was taken in
 abbrev pub TakesBrought : Taken → Object → Object → Option Object → Option Object → Type 0
 TakesBrought answer old new None slot = (answer ≡ untaken) × (new ≡ old) × (slot ≡ None)
 TakesBrought answer old new (Some brought) slot = (slot ≡ (if nat_eq answer.refusal 0 then None else Some brought)) × TakesObject answer old new brought

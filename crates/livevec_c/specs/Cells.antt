@@ -13,7 +13,7 @@ use Rattle.livevec_c.specs.declared.cells.TotalCell.{TotalCell}
 use Rattle.livevec_c.specs.declared.values.PlainValues.{PlainValues}
 use Rattle.livevec_c.specs.Answers.{high_half, low_half, word_of}
 
--- the cell of some elements, by each kind: their plain value, 0 where they have none
+-- the cell of some elements, by each kind: their plain value, 0 if they have none
 abbrev pub least_cell : List ℤ → ℤ
 least_cell xs = unwrap_or (plain_least xs) (pos 0)
 
@@ -38,7 +38,7 @@ states_cell states = record { to = states }
 abbrev pub automaton_cell : List (List ℕ) → List ℤ → StatesCell
 automaton_cell table xs = states_cell (plain_automaton table xs)
 
--- of all six at once
+-- the cell of some elements by all six kinds at once
 abbrev pub values_cell : List (List ℕ) → List ℤ → PlainValues
 values_cell table xs = record {
   sum = plain_sum xs;
@@ -52,7 +52,7 @@ values_cell table xs = record {
   any = word_of (is_some (plain_least xs));
 }
 
--- the own summary of each kind in one that is of this kind
+-- the own summary of each kind, taken from one of this kind
 abbrev pub sum_in : KindSummary → ℕ
 sum_in (part.Sum s) = s
 sum_in _ = 0

@@ -14,7 +14,7 @@ use Rattle.livevec_c.specs.Kinds.{kind_at}
 abbrev pub whole_of : ℕ → ℤ → ℤ
 whole_of low high = high *ℤ pos (2 ^ 64) +ℤ pos low
 
--- a number, where there is an element
+-- a value, if there is an element
 abbrev pub where_any : {A : Type 0} → Bool → A → Option A
 where_any any x = if any then Some x else None
 
@@ -27,7 +27,7 @@ shown_in kind.Best values = shown.Best (where_any values.any (whole_of values.be
 shown_in kind.Affine values = shown.Affine values.affine_a values.affine_b
 shown_in kind.Automaton values = shown.Automaton values.automaton
 
--- the claim that an answer is by a kind, where its number is that of one
+-- a recorded answer as a claim by a kind, if its number names one
 abbrev pub claimed_by : Option Kind → Recorded → Option Claimed
 claimed_by None answer = None
 claimed_by (Some kind) answer = Some record { edit = answer.edit; kind = kind; lo = answer.lo; hi = answer.hi; value = shown_in kind answer.values }
@@ -48,12 +48,12 @@ abbrev pub made_list : {Z : Type 0} → Result (Vec Claimed Z) ℕ → Result (L
 made_list (Ok claims) = Ok claims.items
 made_list (Err number) = Err number
 
--- the claims that recorded answers are, or the number for why there are none: want of memory, or a kind
+-- recorded answers as claims, or the number for why there are none: out of memory, or a number that names no kind
 abbrev pub ClaimsAre : List Recorded → Result (List Claimed) ℕ → Type 0
 ClaimsAre answers (Ok claims) = AreClaimsOf answers claims
 ClaimsAre answers (Err number) = (number ≡ 6) ⊎ ((number ≡ 113) × HasBadKind answers)
 
--- the same where they rise by their edits; else that is why
+-- recorded answers as claims that are in the order of their edits, or the number for why not: as above, or because they are in another order
 abbrev pub ClaimsInOrder : List Recorded → Result (List Claimed) ℕ → Type 0
 ClaimsInOrder answers (Ok claims) = AreClaimsOf answers claims × AreInOrder claims
 ClaimsInOrder answers (Err number) =

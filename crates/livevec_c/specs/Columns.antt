@@ -1,4 +1,4 @@
--- What a scan by one kind, or by all six, answers, and what it leaves in a column of the caller's, by what lies behind a slot.
+-- What a scan by one kind, or by all six, answers, and what it leaves in a column of the caller's, for the object in a slot.
 use Rattle.std.specs.Prelude.{ℕ, ℤ, ◌+◌, ◌-◌, ◌^◌, ◌≤◌, ◌++◌, Bool, true, false, Option, Some, None, List, [], ◌∷◌, length, drop, nat_lt, slice_get, unwrap_or}
 use Rattle.lv_geometry.specs.Numbers.{number_of}
 use Rattle.lv_geometry.specs.declared.refusals.Refusal.{Refusal}
@@ -30,13 +30,13 @@ scan_answered (Some refusal) short edit many = unscanned (number_of refusal) (de
 scan_answered None true edit many = unscanned 103 many
 scan_answered None false edit many = record { refusal = 0; detail = 0; edit = edit; length = many }
 
--- the column then: the cells from its start on, and what it had behind them; where the scan was refused, as it was
+-- the column then: the cells from its start on, and after them what it had; or the column as it was, if the scan was refused
 abbrev pub column_after : {C : Type 0} → Option Refusal → Bool → List C → List C → List C
 column_after (Some refusal) short cells old = old
 column_after None true cells old = old
 column_after None false cells old = cells ++ drop (length cells) old
 
--- of a vector, into a column of so many places
+-- a scan of a vector, into a column of so many places
 abbrev pub scanned : ℕ → ℕ → ℕ → State → Scanned
 scanned lo hi places state = scan_answered (range_refusal state.history.journal lo hi) (nat_lt places (hi - lo)) (length state.history.journal) (hi - lo)
 
@@ -44,7 +44,7 @@ abbrev pub filled : {C : Type 0} → (List (List ℕ) → List ℤ → C) → Bo
 filled cell inclusive lo hi old state =
     column_after (range_refusal state.history.journal lo hi) (nat_lt (length old) (hi - lo)) (column_of (cell (table_of state.body.automaton)) inclusive (slice_of state.history.journal lo hi)) old
 
--- where it may be asked by the scan's kind, or by all six
+-- a scan of a vector, if it may be asked by the scan's kind, or by all six
 abbrev pub scanned_asked : Bool → ℕ → ℕ → ℕ → State → Scanned
 scanned_asked true lo hi places state = scanned lo hi places state
 scanned_asked false lo hi places state = unscanned 113 0
@@ -53,7 +53,7 @@ abbrev pub filled_asked : {C : Type 0} → Bool → (List (List ℕ) → List �
 filled_asked true cell inclusive lo hi old state = filled cell inclusive lo hi old state
 filled_asked false cell inclusive lo hi old state = old
 
--- of an object: of a vector only
+-- a scan of an object, which is to be a vector
 abbrev pub object_scanned : Option Kind → ℕ → ℕ → ℕ → Object → Scanned
 object_scanned asked lo hi places (Vector state only) = scanned_asked (is_asked_by only asked) lo hi places state
 object_scanned asked lo hi places other = unscanned 101 0
@@ -62,7 +62,7 @@ abbrev pub object_filled : {C : Type 0} → Option Kind → (List (List ℕ) →
 object_filled asked cell inclusive lo hi old (Vector state only) = filled_asked (is_asked_by only asked) cell inclusive lo hi old state
 object_filled asked cell inclusive lo hi old other = old
 
--- of what lies behind a slot
+-- a scan of the object in a slot
 abbrev pub scanned_behind : Option Kind → ℕ → ℕ → ℕ → Option Object → Scanned
 scanned_behind asked lo hi places None = unscanned 101 0
 scanned_behind asked lo hi places (Some object) = object_scanned asked lo hi places object
@@ -71,7 +71,7 @@ abbrev pub filled_behind : {C : Type 0} → Option Kind → (List (List ℕ) →
 filled_behind asked cell inclusive lo hi old None = old
 filled_behind asked cell inclusive lo hi old (Some object) = object_filled asked cell inclusive lo hi old object
 
--- by the kind of a number, or by all six (6), into the column of that, which has so many places
+-- a scan by the kind that a number names, or by all six (6), into the column that fits, which has so many places
 abbrev pub scanned_by : ℕ → ℕ → ℕ → ℕ → ℕ → ℕ → ℕ → ℕ → ℕ → Option Object → Scanned
 scanned_by number lo hi sums extremes totals maps states values slot =
     unwrap_or (slice_get (

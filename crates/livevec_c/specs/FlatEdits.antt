@@ -7,12 +7,12 @@ use Rattle.lv_machine.specs.declared.events.Call.TheVariants as calls
 use Rattle.lv_series.specs.declared.edits.LongEdit.{LongEdit}
 use Rattle.lv_series.specs.declared.edits.LongEdit.TheVariants as longs
 
--- an edit of a vector, nothing of a number that is none's
+-- the edit of a vector that a number names, if it names one
 abbrev pub edit_at : ℕ → ℕ → ℕ → ℤ → Option Edit
 edit_at what i j x =
     unwrap_or (slice_get (None ∷ Some (edits.Push x) ∷ Some edits.Pop ∷ Some (edits.Write i x) ∷ Some (edits.Reserve i) ∷ Some (edits.Swap i j) ∷ Some (edits.Truncate i) ∷ []) what) None
 
--- the same of a series, which has nothing to reserve
+-- the edit of a series that a number names, if it names one; a series has nothing to reserve
 abbrev pub long_edit_at : ℕ → ℕ → ℕ → ℤ → Option LongEdit
 long_edit_at what i j x =
     unwrap_or (slice_get (None ∷ Some (longs.Push x) ∷ Some longs.Pop ∷ Some (longs.Write i x) ∷ None ∷ Some (longs.Swap i j) ∷ Some (longs.Truncate i) ∷ Some (longs.Expire i) ∷ []) what) None

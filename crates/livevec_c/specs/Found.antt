@@ -1,4 +1,4 @@
--- Where something stands in a range of a vector, for C.
+-- What a search of a range of a vector finds, for C.
 use Rattle.std.specs.Prelude.{◌≡◌, ℕ, ℤ, pos, ◌+◌, Bool, true, false, Option, Some, None, List, length}
 use Rattle.lv_geometry.specs.Numbers.{number_of}
 use Rattle.lv_geometry.specs.declared.refusals.Refusal.{Refusal}
@@ -25,7 +25,8 @@ unfound refusal detail = record { refusal = refusal; detail = detail; edit = 0; 
 abbrev pub nowhere : ℕ → Found
 nowhere edit = record { refusal = 0; detail = 0; edit = edit; lo = 0; hi = 0; value = pos 0; sum_low = 0; sum_high = pos 0; found = false }
 
--- an element stands from its index up to the next one; a run has its sum in two halves; a sum is reached from the start of the range on
+-- what was found: an element, from its index up to the next one; a run, with its sum in two halves; the part of the range, from its start on, that
+-- reaches a sum
 abbrev pub placed_at : ℕ → Option Placed → Found
 placed_at edit None = nowhere edit
 placed_at edit (Some p) = record { refusal = 0; detail = 0; edit = edit; lo = p.index; hi = p.index + 1; value = p.value; sum_low = 0; sum_high = pos 0; found = true }
@@ -41,7 +42,7 @@ abbrev pub end_at : ℕ → ℕ → Option ℕ → Found
 end_at edit lo None = nowhere edit
 end_at edit lo (Some end) = part_at edit lo end
 
--- or up to its end; an element within a bound stands from its index up to the next one
+-- the part of the range, up to its end, that reaches a sum; an element within a bound, from its index up to the next one
 abbrev pub start_at : ℕ → ℕ → Option ℕ → Found
 start_at edit hi None = nowhere edit
 start_at edit hi (Some start) = part_at edit start hi
@@ -60,7 +61,7 @@ FindsIn (ReachesBack sum) xs lo hi edit answer = (start : Option ℕ) × (answer
 FindsIn (First bound) xs lo hi edit answer = (index : Option ℕ) × (answer ≡ index_at edit index) × IsFirstIndex bound xs lo hi index
 FindsIn (Last bound) xs lo hi edit answer = (index : Option ℕ) × (answer ≡ index_at edit index) × IsLastIndex bound xs lo hi index
 
--- in a range of a vector, where nothing refuses the range
+-- what is found in a range of a vector, if the range is not refused
 abbrev pub FindsUnless : Option Refusal → Wanted → ℕ → ℕ → Found → State → Type 0
 FindsUnless None wanted lo hi answer state = FindsIn wanted (list_of state.history.journal) lo hi (length state.history.journal) answer
 FindsUnless (Some refusal) wanted lo hi answer state = answer ≡ unfound (number_of refusal) (detail_of refusal)
@@ -68,17 +69,17 @@ FindsUnless (Some refusal) wanted lo hi answer state = answer ≡ unfound (numbe
 abbrev pub FindsVector : Wanted → ℕ → ℕ → Found → State → Type 0
 FindsVector wanted lo hi answer state = FindsUnless (range_refusal state.history.journal lo hi) wanted lo hi answer state
 
--- where the vector may be asked by that kind
+-- a search of a vector, if it may be asked by that kind
 abbrev pub FindsAsked : Bool → Wanted → ℕ → ℕ → Found → State → Type 0
 FindsAsked true wanted lo hi answer state = FindsVector wanted lo hi answer state
 FindsAsked false wanted lo hi answer state = answer ≡ unfound 113 0
 
--- of an object: of a vector only
+-- a search of an object, which is to be a vector
 abbrev pub FindsObject : Wanted → ℕ → ℕ → Found → Object → Type 0
 FindsObject wanted lo hi answer (Vector state only) = FindsAsked (is_asked_by only (Some (kind_sought wanted))) wanted lo hi answer state
 FindsObject wanted lo hi answer other = answer ≡ unfound 101 0
 
--- of what lies behind a slot, where it is known what is looked for
+-- a search of the object in a slot, if it is known what is looked for
 abbrev pub Finds : Option Wanted → ℕ → ℕ → Found → Option Object → Type 0
 Finds None lo hi answer slot = answer ≡ unfound 113 0
 Finds (Some wanted) lo hi answer None = answer ≡ unfound 101 0

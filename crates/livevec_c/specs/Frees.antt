@@ -1,4 +1,4 @@
--- What a free does and answers, by the sort of what lies behind a slot.
+-- What a free does and answers, by the sort of the object in a slot.
 use Rattle.std.specs.Prelude.{ℕ, Bool, false, Option, Some, None, if◌then◌else◌, nat_eq}
 use Rattle.livevec_c.specs.declared.objects.Object.{Object}
 use Rattle.livevec_c.specs.declared.objects.Object.TheVariants.{Vector, Job, Outcome, Batch, BatchOutcome, Subtree, SubtreeOutcome, Board, Seat, Closed, Series, Samples, Loader, Queries}
@@ -26,7 +26,7 @@ abbrev pub has_sort : ℕ → Option Object → Bool
 has_sort sort None = false
 has_sort sort (Some object) = nat_eq (sort_of object) sort
 
--- the answer to a free of a sort: 0 where there was such an object, 101 where the slot was empty or held something else
+-- the answer to a free of a sort: 0 if there was such an object, 101 if the slot was empty or held something else
 abbrev pub free_number : ℕ → Option Object → ℕ
 free_number sort held = if has_sort sort held then 0 else 101
 

@@ -1,4 +1,4 @@
--- A live vector, and what it keeps of what it was asked by one kind.
+-- A live vector, and what it keeps for queries by one kind.
 use Rattle.std.specs.Prelude.{◌≡◌}
 use Rattle.lv_geometry.specs.Bounds.{Bounds}
 use Rattle.lv_bodies.specs.Automata.{table_of}

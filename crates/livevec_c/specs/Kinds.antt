@@ -36,7 +36,7 @@ number_of_kind kind.Automaton = 5
 abbrev pub kept_as : {S : Type 0} → ℕ → (S → List ℕ) → Operations S → Folding
 kept_as count parts operations = folds {B = Unit {0}} count parts (λ _. operations) tt
 
--- the same by the kind; the automaton is the program's
+-- how they are kept for each kind; the automaton is the program's
 abbrev pub folding_of : Kind → Folding
 folding_of kind.Sum = kept_as 1 sum_parts sum_operations
 folding_of kind.Least = kept_as 1 extreme_parts least_operations
@@ -54,7 +54,7 @@ sat_at (seats.Best s) = sat_of (folds 4 best_parts (λ _. best_operations)) kind
 sat_at (seats.Affine s) = sat_of (folds 2 affine_parts (λ _. affine_operations)) kind.Affine (λ _. plain_value kind.Affine) s
 sat_at (seats.Automaton s) = sat_of (folds 1 automaton_parts (λ a. automaton_operations (table_of a))) kind.Automaton (λ a. plain_value_with (table_of a) kind.Automaton) s
 
--- which board it is, and what the seats know that are there
+-- which board it is, and what the seats know that are not out
 abbrev pub shared_at : KindBoard → Shared
 shared_at (boards.Sum o) = shared_of (folds 1 sum_parts (λ _. sum_operations)) kind.Sum (λ _. plain_value kind.Sum) o
 shared_at (boards.Least o) = shared_of (folds 1 extreme_parts (λ _. least_operations)) kind.Least (λ _. plain_value kind.Least) o
@@ -63,7 +63,7 @@ shared_at (boards.Best o) = shared_of (folds 4 best_parts (λ _. best_operations
 shared_at (boards.Affine o) = shared_of (folds 2 affine_parts (λ _. affine_operations)) kind.Affine (λ _. plain_value kind.Affine) o
 shared_at (boards.Automaton o) = shared_of (folds 1 automaton_parts (λ a. automaton_operations (table_of a))) kind.Automaton (λ a. plain_value_with (table_of a) kind.Automaton) o
 
--- a seat of the board, and none that is there has its number
+-- a seat of the board; no seat that is not out has its number
 abbrev pub IsOutOf : KindBoard → KindSeat → Type 0
 IsOutOf (boards.Sum o) (seats.Sum s) = IsOut o s
 IsOutOf (boards.Least o) (seats.Least s) = IsOut o s
@@ -73,6 +73,6 @@ IsOutOf (boards.Affine o) (seats.Affine s) = IsOut o s
 IsOutOf (boards.Automaton o) (seats.Automaton s) = IsOut o s
 IsOutOf _ _ = ⊥
 
--- a seat that has the stamp of a board is one of that board's: so it is where each board has a stamp of its own
+-- a seat that has the stamp of a board is one of that board's; this is true if each board has a stamp of its own
 abbrev pub HasOwnStamp : KindBoard → KindSeat → Type 0
 HasOwnStamp o s = (sat_at s).stamp ≡ (shared_at o).stamp → IsOutOf o s

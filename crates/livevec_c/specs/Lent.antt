@@ -1,4 +1,4 @@
--- What a pointer ends as once the object behind it is no more lent.
+-- What a pointer ends as once the object that it owns is no longer lent.
 use Rattle.std.specs.Prelude.{Some}
 use Rattle.std.specs.Borrow.{Fml, Lends, MutBor}
 use Rattle.livevec_c.specs.declared.objects.Object.{Object}
@@ -6,10 +6,10 @@ use Rattle.livevec_c.specs.declared.raw.Raw.{Raw}
 use Rattle.livevec_c.specs.contracts.objects.Object as object
 use Rattle.livevec_c.specs.contracts.raw.Raw as raw
 
--- the same pointer, to another object
+-- a pointer that owns another object
 abbrev pub with_inner : Raw → Object → Raw
 with_inner r w = record r { inner = Some w }
 
--- it ends with the last object that was written through the loan
+-- the pointer ends with the last object that was written through the loan
 abbrev pub LendsInner : MutBor Raw → MutBor Object → Fml
 LendsInner r lent = Lends raw.the_row object.the_row r lent (with_inner r.now)

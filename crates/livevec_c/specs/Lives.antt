@@ -1,4 +1,4 @@
--- How vectors and boards behind slots begin, and how a board ends.
+-- How vectors and boards in slots begin, and how a board ends.
 use Rattle.std.specs.Prelude.{◌≡◌, ◌≢◌, ◌⊎◌, ◌<◌, ◌≤◌, ℕ, Bool, true, false, Option, Some, None, List, [], All, Any}
 use Rattle.lv_geometry.specs.Bounds.{AreAllowed, Bounds}
 use Rattle.lv_geometry.specs.declared.nodes.Node.{Node}
@@ -30,7 +30,7 @@ pub record IsNew (limits : Bounds) (table : List (List ℕ)) (state : State) : T
   pub unclaimed : (n : Node) → (recorded state).claimed n ≡ None
   pub nothing_kept : (n : Node) → (recorded state).kept n ≡ None
 
--- the same, of one kind or of all six
+-- an object that is such a vector, of one kind or of all six
 abbrev pub IsNewObject : Option Kind → Bounds → List (List ℕ) → Object → Type 0
 IsNewObject only limits table object = (state : State) × (object ≡ Vector state only) × IsNew limits table state
 
@@ -39,7 +39,7 @@ abbrev pub OpensAt : Option Kind → Bounds → List (List ℕ) → ℕ → Opti
 OpensAt only limits table number new =
     ((number ≡ 6) × (new ≡ None)) ⊎ ((number ≡ 0) × ((object : Object) × (new ≡ Some object) × IsNewObject only limits table object))
 
--- the same by the program's automaton, or by one of a table that may have a wrong entry
+-- a slot for a new vector by the program's automaton, or by one of a table that may have a wrong entry
 abbrev pub OpensBy : Option Kind → Option (List (List ℕ)) → Bounds → ℕ → Option Object → Type 0
 OpensBy only None limits number new = OpensAt only limits program_table number new
 OpensBy only (Some table) limits number new =
@@ -50,7 +50,7 @@ abbrev pub table_asked : Bool → List (List ℕ) → Option (List (List ℕ))
 table_asked true table = Some table
 table_asked false table = None
 
--- the same, where it may be of no kind, and have no limits
+-- a slot for a new vector, if the kinds that are asked for are known and the limits are allowed
 abbrev pub OpensOf : Option (Option Kind) → Option (List (List ℕ)) → ℕ → ℕ → ℕ → Option Object → Type 0
 OpensOf None table buckets edits number new = (number ≡ 113) × (new ≡ None)
 OpensOf (Some only) table buckets edits number new =
@@ -64,14 +64,14 @@ Opens only table buckets edits number None new = OpensOf only table buckets edit
 
 -- ---- boards
 
--- a slot that was empty holds a new board of a kind, or it is empty, for want of memory or for what was asked
+-- a slot that was empty holds a new board of a kind; or it is empty, because there was no memory or such a board may not be opened
 abbrev pub OpensBoardAt : Kind → Bounds → ℕ → ℕ → ℕ → Option Object → Type 0
 OpensBoardAt kind limits seats stamp number new =
     ((number ≡ 8) × (¬ MayOpen limits seats) × (new ≡ None))
     ⊎ ((number ≡ 6) × MayOpen limits seats × (new ≡ None))
     ⊎ ((number ≡ 0) × ((board : KindBoard) × (new ≡ Some (Board board)) × IsNewlyShared limits seats stamp (folding_of kind) kind (plain_value kind) (shared_at board)))
 
--- the same, where what is asked for the kind may be none
+-- a slot for a new board, if the kind that is asked for is known and the limits are allowed
 abbrev pub OpensBoardOf : Option Kind → ℕ → ℕ → ℕ → ℕ → ℕ → Option Object → Type 0
 OpensBoardOf None buckets edits seats stamp number new = (number ≡ 8) × (new ≡ None)
 OpensBoardOf (Some kind) buckets edits seats stamp number new =
@@ -88,7 +88,7 @@ abbrev pub seatless : Unseated → ℕ
 seatless NoSeat = 105
 seatless NoMemory = 6
 
--- the first of the seats that were there lies behind a slot, or none does: for want of memory, or because none was there
+-- the slot holds the first of the seats that were there; or it is empty, because there was no memory or because no seat was there
 abbrev pub SitsBoard : ℕ → KindBoard → KindBoard → Option Object → Type 0
 SitsBoard number old new slot =
     ((number ≡ 6) × (shared_at new ≡ shared_at old) × (slot ≡ None))
@@ -99,7 +99,7 @@ abbrev pub SitsObject : ℕ → Object → Object → Option Object → Type 0
 SitsObject number (Board old) new slot = (board : KindBoard) × (new ≡ Board board) × SitsBoard number old board slot
 SitsObject number other new slot = (number ≡ 101) × (new ≡ other) × (slot ≡ None)
 
--- the same for an empty slot of the seat
+-- a seat at the object in a slot, for an empty slot of the seat
 abbrev pub SitsInto : ℕ → Option Object → Option Object → Option Object → Type 0
 SitsInto number None new slot = (number ≡ 101) × (new ≡ None) × (slot ≡ None)
 SitsInto number (Some old) new slot = (object : Object) × (new ≡ Some object) × SitsObject number old object slot
@@ -118,12 +118,12 @@ abbrev pub TakesBackObject : ℕ → KindBoard → Object → KindBoard → Opti
 TakesBackObject number old (Seat seat) new slot = TakesBackAt number old seat new slot
 TakesBackObject number old other new slot = (number ≡ 101) × (new ≡ old) × (slot ≡ Some other)
 
--- the same at an object, which is to be a board
+-- a seat is taken back at an object, which is to be a board
 abbrev pub TakesBackBy : ℕ → Object → Object → Object → Option Object → Type 0
 TakesBackBy number (Board old) seat new slot = (board : KindBoard) × (new ≡ Board board) × TakesBackObject number old seat board slot
 TakesBackBy number other seat new slot = (number ≡ 101) × (new ≡ other) × (slot ≡ Some seat)
 
--- the same at what lies behind the board's slot, and behind the seat's
+-- a seat is taken back at the object in the board's slot, out of the seat's slot
 abbrev pub TakesBackFrom : ℕ → Option Object → Object → Option Object → Option Object → Type 0
 TakesBackFrom number None seat new slot = (number ≡ 101) × (new ≡ None) × (slot ≡ Some seat)
 TakesBackFrom number (Some old) seat new slot = (object : Object) × (new ≡ Some object) × TakesBackBy number old seat object slot
@@ -132,7 +132,7 @@ abbrev pub TakesBack : ℕ → Option Object → Option Object → Option Object
 TakesBack number old None new slot = (number ≡ 101) × (new ≡ old) × (slot ≡ None)
 TakesBack number old (Some seat) new slot = TakesBackFrom number old seat new slot
 
--- what who takes a seat back owes: where a board and a seat lie behind the slots, one stamp is of one board
+-- what a caller must ensure who gives a seat back: if the slots hold a board and a seat with the same stamp, the seat is one of that board's
 abbrev pub OwnStampAt : KindBoard → Object → Type 0
 OwnStampAt board (Seat seat) = HasOwnStamp board seat
 OwnStampAt board other = Unit {0}
@@ -154,8 +154,8 @@ abbrev pub unclosed_for : Unclosed → Count
 unclosed_for unclosed.NoMemory = record { refusal = 6; value = 0 }
 unclosed_for other = record { refusal = 106; value = 0 }
 
--- a board was closed, and its slot holds what the vector was; or it is as it was, because a seat isn't there, or for want of memory, which is found
--- only where all are there
+-- a board was closed, and its slot holds what the vector was; or the board is as it was, because a seat isn't there; or because there was no memory
+-- or somebody still has a share of the board, which is found only if all seats are there
 abbrev pub ClosesBoard : Count → KindBoard → Object → Type 0
 ClosesBoard answer old new =
     ((ended : Ended) × (new ≡ Closed ended) × (answer ≡ record { refusal = 0; value = ended.closed.edit }) × IsClosedShared (shared_at old) ended.closed)

@@ -10,7 +10,7 @@ use Rattle.livevec_c.specs.declared.results.Reduced.{Reduced}
 use Rattle.livevec_c.specs.Answers.{high_half, low_half, word_of}
 use Rattle.livevec_c.specs.Behind.{State}
 
--- the plain values of a list; 0 stands for those that an empty list has not
+-- the plain values of a list; those that an empty list doesn't have are 0
 pub record AreValues (table : List (List ℕ)) (xs : List ℤ) (values : PlainValues) : Type 0 where
   pub sum : values.sum ≡ plain_sum xs
   pub any : values.any ≡ word_of (is_some (plain_least xs))
@@ -35,7 +35,7 @@ abbrev pub IsPlain : ℕ → ℕ → Reduced → Option Object → Type 0
 IsPlain lo hi answer None = Unit {0}
 IsPlain lo hi answer (Some object) = IsPlainObject lo hi answer object
 
--- where it is asked by all six
+-- a reduction is plain, if it is by all six
 abbrev pub IsPlainBy : Bool → ℕ → ℕ → Reduced → Option Object → Type 0
 IsPlainBy true lo hi answer slot = IsPlain lo hi answer slot
 IsPlainBy false lo hi answer slot = Unit {0}

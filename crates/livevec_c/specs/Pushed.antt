@@ -1,4 +1,4 @@
--- What many pushes at once do and answer, or many writes, by what lies behind a slot.
+-- What many pushes or writes at once do and answer, for the object in a slot.
 use Rattle.std.specs.Prelude.{◌≡◌, ℕ, ℤ, Bool, true, false, Option, Some, None, Result, Ok, Err, List, length}
 use Rattle.lv_geometry.specs.Numbers.{number_of}
 use Rattle.lv_geometry.specs.declared.refusals.Refusal.{Refusal}
@@ -23,7 +23,7 @@ PushesVector xs answer old new =
     IsLegalInLimits new.history × SameRefresh old new
     × ((r : Result ℕ Refusal) × (answer ≡ pushed_by (length xs) r) × AnswersAll old.history xs r new.history)
 
--- of an object: of a vector only
+-- pushes of an object, which is to be a vector
 abbrev pub PushesObject : List ℤ → Many → Object → Object → Type 0
 PushesObject xs answer (Vector old only) new = (state : State) × (new ≡ Vector state only) × PushesVector xs answer old state
 PushesObject xs answer other new = (answer ≡ unwritten 101 0 0) × (new ≡ other)
@@ -33,7 +33,7 @@ abbrev pub EditsAll : Bool → List ℕ → List ℤ → Many → Object → Obj
 EditsAll true indices xs answer old new = PushesObject xs answer old new
 EditsAll false indices xs answer old new = WritesObject indices xs answer old new
 
--- of what lies behind a slot
+-- pushes or writes of the object in a slot
 abbrev pub EditsAllBehind : Bool → List ℕ → List ℤ → Many → Option Object → Option Object → Type 0
 EditsAllBehind pushes indices xs answer None new = (answer ≡ unwritten 101 0 0) × (new ≡ None)
 EditsAllBehind pushes indices xs answer (Some old) new = (object : Object) × (new ≡ Some object) × EditsAll pushes indices xs answer old object

@@ -1,4 +1,4 @@
--- What the calls of standing queries do and answer, by what lies behind the slots.
+-- What the calls of standing queries do and answer, for the objects in the slots.
 use Rattle.std.specs.Prelude.{◌≡◌, ◌⊎◌, ◌<◌, ◌≤◌, ℕ, ℤ, ◌+◌, ◌-◌, ◌%◌, Bool, true, false, not, Option, Some, None, Result, Ok, Err, List, [], ◌∷◌, ◌++◌, drop, length, map, position, replicate, slice_get, take}
 use Rattle.lv_geometry.specs.Numbers.{number_of}
 use Rattle.lv_geometry.specs.declared.refusals.Refusal.{Refusal}
@@ -53,7 +53,7 @@ abbrev pub WatchesBehind : SetQuery → ℕ → Option Object → Option Object 
 WatchesBehind q number None new = (number ≡ 101) × (new ≡ None)
 WatchesBehind q number (Some old) new = (object : Object) × (new ≡ Some object) × WatchesObject q number old object
 
--- at what lies behind a slot, where what is asked for is a question
+-- at the object in a slot, if there is a question
 abbrev pub Watches : Result SetQuery ℕ → ℕ → Option Object → Option Object → Type 0
 Watches (Err refusal) number old new = (number ≡ refusal) × (new ≡ old)
 Watches (Ok q) number old new = WatchesBehind q number old new
@@ -71,7 +71,7 @@ abbrev pub UnwatchesBehind : List ℕ → ℕ → Option Object → Option Objec
 UnwatchesBehind name number None new = (number ≡ 101) × (new ≡ None)
 UnwatchesBehind name number (Some old) new = (object : Object) × (new ≡ Some object) × UnwatchesObject name number old object
 
--- where the bytes are a name
+-- at the object in a slot, if the bytes are a name
 abbrev pub UnwatchesIf : Bool → List ℕ → ℕ → Option Object → Option Object → Type 0
 UnwatchesIf false name number old new = (number ≡ 114) × (new ≡ old)
 UnwatchesIf true name number old new = UnwatchesBehind name number old new
@@ -105,12 +105,12 @@ found_if true name slot = found_behind name slot
 abbrev pub question_of : List ℕ → Option Object → Result SetQuery ℕ
 question_of name slot = found_if (is_name name) name slot
 
--- what a question is answered where it may be asked: the plain value of the elements in its span now, whether there is one, and the last edit
+-- the answer to a question, if it may be asked: the plain value of the elements in its span now, whether there is one, and the last edit
 abbrev pub answered_if : Bool → SetQuery → SamplesState → SeriesReduced
 answered_if true q s = record { why = granted; edit = s.series.edits; values = values_for (has_some s q.query.span) (sample_answer s q.query) }
 answered_if false q s = unreduced_by unkind
 
--- of an object: of a vector, a series or samples
+-- the answer of an object: of a vector, a series or samples
 abbrev pub object_answered : SetQuery → Object → SeriesReduced
 object_answered q (Vector state only) = answered_if (is_asked only false q.query) q (seen_vector state)
 object_answered q (Series state) = answered_if (is_asked None false q.query) q (seen_series state)
@@ -121,14 +121,14 @@ abbrev pub answered_behind : SetQuery → Option Object → SeriesReduced
 answered_behind q None = unreduced_by unheld
 answered_behind q (Some object) = object_answered q object
 
--- where there is a question of that name
+-- the answer of the object in a slot, if there is a question of that name
 abbrev pub answered : Result SetQuery ℕ → Option Object → SeriesReduced
 answered (Err refusal) slot = unreduced_by (unnamed refusal)
 answered (Ok q) slot = answered_behind q slot
 
 -- ---- notes
 
--- the first question that may not be asked of what is of one kind, or of all six, and has times or not, if there is one
+-- the first question, if there is one, that may not be asked of something that is of one kind or of all six, and has times or not
 abbrev pub first_refused : Option Kind → Bool → List SetQuery → Option ℕ
 first_refused only timed questions = position (λ q. not (is_asked only timed q.query)) questions
 
@@ -140,7 +140,7 @@ name_for name = name ++ replicate (17 - length name) 0
 abbrev pub note_of : SamplesState → SetQuery → Shown → Note
 note_of s q value = record { name = name_for q.query.name; kind = number_of_kind q.query.kind; edit = s.series.edits % 4294967296; values = values_for (has_some s q.query.span) value }
 
--- the notes of some values: one for each question, in order, of which a note is due, with its value
+-- the notes of some values: one for each question for which a note is due, in order, with its value
 abbrev pub AreNotesOf : SamplesState → List SetQuery → List Shown → List Shown → List Note → Type 0
 AreNotesOf s [] told values notes = notes ≡ []
 AreNotesOf s (q ∷ questions) [] values notes = notes ≡ []
@@ -149,11 +149,11 @@ AreNotesOf s (q ∷ questions) (before ∷ told) (value ∷ values) notes =
     ((is_due q.query.bound before value ≡ false) × AreNotesOf s questions told values notes)
     ⊎ ((is_due q.query.bound before value ≡ true) × (rest : List Note) × (notes ≡ note_of s q value ∷ rest) × AreNotesOf s questions told values rest)
 
--- what some questions are answered
+-- the answers to some questions
 abbrev pub answers_of : SamplesState → List SetQuery → List Shown
 answers_of s questions = map (λ q. sample_answer s q.query) questions
 
--- the notes that there are of a set by what is asked: of its questions, in order, of which a note is due
+-- the notes of a set by the answers of what is asked: one for each of its questions for which a note is due, in order
 abbrev pub AreNotes : QueriesState → SamplesState → List Note → Type 0
 AreNotes set s notes = AreNotesOf s set.questions set.told (answers_of s set.questions) notes
 
@@ -161,7 +161,7 @@ AreNotes set s notes = AreNotesOf s set.questions set.told (answers_of s set.que
 abbrev pub unnoted : ℕ → ℕ → Noted
 unnoted refusal detail = record { refusal = refusal; detail = detail; edit = 0; count = 0 }
 
--- all notes were written to the front of the caller's array, and each question counts as told its answer
+-- all notes were written to the start of the caller's array, and each question's answer counts as reported
 pub record WritesNotes (old new : QueriesState) (s : SamplesState) (notes before after : List Note) (answer : Noted) : Type 0 where
   pub answer_is : answer ≡ record { refusal = 0; detail = 0; edit = s.series.edits; count = length notes }
   pub room : length notes ≤ length before
@@ -169,14 +169,14 @@ pub record WritesNotes (old new : QueriesState) (s : SamplesState) (notes before
   pub questions : new.questions ≡ old.questions
   pub told : new.told ≡ answers_of s old.questions
 
--- the array is shorter than the notes: nothing was written or told
+-- the array is shorter than the notes: nothing was written or reported
 pub record LacksRoom (old new : QueriesState) (notes before after : List Note) (answer : Noted) : Type 0 where
   pub answer_is : answer ≡ unnoted 103 (length notes)
   pub room : length before < length notes
   pub unwritten : after ≡ before
   pub same : new ≡ old
 
--- what a call for notes comes to where all questions may be asked
+-- what a call for notes comes to if all questions may be asked
 abbrev pub Tells : QueriesState → QueriesState → SamplesState → List Note → List Note → Noted → Type 0
 Tells old new s before after answer = (notes : List Note) × AreNotes old s notes × (WritesNotes old new s notes before after answer ⊎ LacksRoom old new notes before after answer)
 
@@ -184,7 +184,7 @@ Tells old new s before after answer = (notes : List Note) × AreNotes old s note
 abbrev pub TellsNothing : ℕ → ℕ → QueriesState → QueriesState → List Note → List Note → Noted → Type 0
 TellsNothing refusal detail old new before after answer = (answer ≡ unnoted refusal detail) × (after ≡ before) × (new ≡ old)
 
--- the same where one of them may not be asked, the first at this place
+-- what a call for notes comes to, which is refused if a question may not be asked, the first of them at this place
 abbrev pub TellsUnless : Option ℕ → QueriesState → QueriesState → SamplesState → List Note → List Note → Noted → Type 0
 TellsUnless (Some place) old new s before after answer = TellsNothing 113 place old new before after answer
 TellsUnless None old new s before after answer = Tells old new s before after answer
@@ -200,24 +200,24 @@ abbrev pub TellsBehind : QueriesState → QueriesState → Option Object → Lis
 TellsBehind old new None before after answer = TellsNothing 101 0 old new before after answer
 TellsBehind old new (Some object) before after answer = TellsBy old new object before after answer
 
--- of an object: of a set only
+-- a call for notes of an object, which is to be a set
 abbrev pub TellsObject : Object → Object → Option Object → List Note → List Note → Noted → Type 0
 TellsObject (Queries old) new target before after answer = (set : QueriesState) × (new ≡ Queries set) × TellsBehind old set target before after answer
 TellsObject other new target before after answer = (answer ≡ unnoted 101 0) × (after ≡ before) × (new ≡ other)
 
--- of what lies behind a slot
+-- a call for notes of the set in a slot
 abbrev pub TellsAll : Option Object → Option Object → Option Object → List Note → List Note → Noted → Type 0
 TellsAll None new target before after answer = (answer ≡ unnoted 101 0) × (after ≡ before) × (new ≡ None)
 TellsAll (Some old) new target before after answer = (object : Object) × (new ≡ Some object) × TellsObject old object target before after answer
 
 -- ---- what the code passes on, one question after another
 
--- a note was put at a place, where there is such a place; the others stay
+-- a note was put at a place, if there is such a place; the others stay
 pub record PutsNote (note : Note) (place : ℕ) (before after : List Note) : Type 0 where
   pub places : length after ≡ length before
   pub written : place < length before → after ≡ take place before ++ note ∷ drop (place + 1) before
 
--- a question was noted behind so many notes: it was counted where it has a note, which was written where there is a place for it
+-- a question was noted after so many notes: if it has a note, this was counted, and written if there is a place for it
 pub record NotesOne (s : SamplesState) (q : SetQuery) (told value : Shown) (count : ℕ) (before : List Note) (counted : ℕ) (after : List Note) : Type 0 where
   pub added : List Note
   pub are : AreNotesOf s (q ∷ []) (told ∷ []) (value ∷ []) added
@@ -226,7 +226,7 @@ pub record NotesOne (s : SamplesState) (q : SetQuery) (told value : Shown) (coun
   pub places : length after ≡ length before
   pub written : counted ≤ length before → after ≡ take count before ++ (added ++ drop counted before)
 
--- questions were noted: their notes were counted, and written where there are places for all of them
+-- questions were noted: their notes were counted, and written if there are places for all of them
 pub record NotesInto (s : SamplesState) (questions : List SetQuery) (told values : List Shown) (before : List Note) (counted : ℕ) (after : List Note) : Type 0 where
   pub notes : List Note
   pub are : AreNotesOf s questions told values notes

@@ -1,4 +1,4 @@
--- What a read of a range answers, and what it leaves in a buffer of the caller's, by what lies behind a slot.
+-- What a read of a range answers, and what it leaves in a buffer of the caller's, for the object in a slot.
 use Rattle.std.specs.Prelude.{ℕ, ℤ, ◌-◌, Option, Some, None, List, length, nat_lt, if◌then◌else◌, ◌==◌}
 use Rattle.std.specs.List.{slice_range}
 use Rattle.lv_edits.specs.History.{list_of}
@@ -8,15 +8,15 @@ use Rattle.livevec_c.specs.declared.objects.Object.TheVariants.{Closed, Vector}
 use Rattle.livevec_c.specs.Answers.{range_refusal_in}
 use Rattle.livevec_c.specs.Columns.{column_after, scan_answered, unscanned}
 
--- of some elements, into a buffer of so many places, after an edit
+-- a read of some elements, into a buffer of so many places, after an edit
 abbrev pub elements_read : List ℤ → ℕ → ℕ → ℕ → ℕ → Scanned
 elements_read xs edit lo hi places = scan_answered (range_refusal_in xs lo hi) (nat_lt places (hi - lo)) edit (hi - lo)
 
--- the buffer then: the elements of the range, and what it had behind them; where the read was refused, as it was
+-- the buffer then: the elements of the range, and after them what it had; or the buffer as it was, if the read was refused
 abbrev pub elements_put : List ℤ → ℕ → ℕ → List ℤ → List ℤ
 elements_put xs lo hi old = column_after (range_refusal_in xs lo hi) (nat_lt (length old) (hi - lo)) (slice_range xs lo hi) old
 
--- of an object of a sort: of a vector (0), or of a closed board (4), whose last edit is the last that its vector had
+-- a read of an object of a sort: of a vector (0), or of a closed board (4), whose last edit is the last that its vector had
 abbrev pub range_of : ℕ → ℕ → ℕ → ℕ → Object → Scanned
 range_of sort lo hi places (Vector state only) = if sort == 0 then elements_read (list_of state.history.journal) (length state.history.journal) lo hi places else unscanned 101 0
 range_of sort lo hi places (Closed ended) = if sort == 4 then elements_read ended.closed.elements ended.closed.edit lo hi places else unscanned 101 0
@@ -27,7 +27,7 @@ range_put_of sort lo hi old (Vector state only) = if sort == 0 then elements_put
 range_put_of sort lo hi old (Closed ended) = if sort == 4 then elements_put ended.closed.elements lo hi old else old
 range_put_of sort lo hi old other = old
 
--- of what lies behind a slot
+-- a read of the object in a slot
 abbrev pub read_behind : ℕ → ℕ → ℕ → ℕ → Option Object → Scanned
 read_behind sort lo hi places None = unscanned 101 0
 read_behind sort lo hi places (Some object) = range_of sort lo hi places object

@@ -1,4 +1,4 @@
--- How a vector behind a slot is made anew from the edits of a transcript's front.
+-- How a vector in a slot is made anew from the edits of a prefix of a transcript.
 use Rattle.std.specs.Prelude.{◌≡◌, ◌⊎◌, ◌+◌, ℕ, Option, Some, None, Result, Ok, Err, List, [], length}
 use Rattle.lv_geometry.specs.Bounds.{AreAllowed, Bounds}
 use Rattle.lv_geometry.specs.Numbers.{number_of}
@@ -27,30 +27,30 @@ use Rattle.livevec_c.specs.Audits.{fronted_by, no_front, unaudited, unread_numbe
 use Rattle.livevec_c.specs.Behind.{State}
 use Rattle.livevec_c.specs.Written.{accepted_before}
 
--- edits of a history, one after another: all are accepted, and made; or the first that is refused stops them, or memory that is wanting
+-- edits of a history, one after another: all are accepted and made; or they stop at the first that is refused, or because there is no memory
 abbrev pub Remakes : List Edit → History → History → Result (Unit {0}) Refusal → Type 0
 Remakes es old new (Ok _) = (verdict_of_edits old es ≡ None) × (new ≡ with_edits old es)
 Remakes es old new (Err refusal) =
     (refusal ≡ NoMemory) ⊎ ((verdict_of_edits old es ≡ Some refusal) × (length new.journal ≡ length old.journal + accepted_before old es))
 
--- the same, with how many edits a history has where they stop, unless memory is wanting
+-- such edits, with how many edits the history has when one is refused
 abbrev pub RemakesTold : List Edit → History → History → Result (Unit {0}) Stopped → Type 0
 RemakesTold es old new (Ok _) = (verdict_of_edits old es ≡ None) × (new ≡ with_edits old es)
 RemakesTold es old new (Err stopped) =
     (stopped.refusal ≡ NoMemory) ⊎ ((verdict_of_edits old es ≡ Some stopped.refusal) × (stopped.made ≡ length old.journal + accepted_before old es))
 
--- of a vector, whose summaries and claims stay
+-- edits of a vector, whose summaries and claims stay
 pub record RemakesState (es : List Edit) (result : Result (Unit {0}) Stopped) (old new : State) : Type 0 where
   pub edits : RemakesTold es old.history new.history result
   pub refresh : SameRefresh old new
   pub within : IsLegalInLimits new.history
 
--- of an object: of a vector only
+-- edits of an object, which is to be a vector
 abbrev pub RemakesObject : List Edit → Result (Unit {0}) Stopped → Object → Object → Type 0
 RemakesObject es result (Vector old only) new = (state : State) × (new ≡ Vector state only) × RemakesState es result old state
 RemakesObject es result other new = (result ≡ Err record { refusal = NoMemory; made = 0 }) × (new ≡ other)
 
--- an object goes into a slot that is empty, where its edits were made
+-- an object goes into a slot that is empty, if its edits were made
 abbrev pub IsPlaced : Result (Unit {0}) Stopped → Object → Option Object → Type 0
 IsPlaced (Ok _) object slot = slot ≡ Some object
 IsPlaced (Err _) object slot = slot ≡ None
@@ -66,7 +66,7 @@ pub record IsRemade (limits : Bounds) (edits : List Edit) (state : State) : Type
   pub unclaimed : (n : Node) → (recorded state).claimed n ≡ None
   pub nothing_kept : (n : Node) → (recorded state).kept n ≡ None
 
--- the same, of one kind or of all six
+-- an object that is such a vector, of one kind or of all six
 abbrev pub IsRemadeObject : Option Kind → Bounds → List Edit → Object → Type 0
 IsRemadeObject only limits edits object = (state : State) × (object ≡ Vector state only) × IsRemade limits edits state
 
@@ -74,8 +74,8 @@ IsRemadeObject only limits edits object = (state : State) × (object ≡ Vector 
 abbrev pub begun : Bounds → History
 begun limits = record { limits = limits; journal = [] }
 
--- a slot that was empty holds a vector that is made anew; or an edit that its limits refuse is told, and how many come before it, or memory is
--- wanting, and the slot is empty
+-- a slot that was empty holds a vector that is made anew; or it is empty, because the limits refuse an edit, and the answer says how many come
+-- before it, or because there was no memory
 abbrev pub RestoresEdits : Option Kind → Bounds → List Edit → Result (Unit {0}) Stopped → Option Object → Type 0
 RestoresEdits only limits edits (Ok _) slot =
     (verdict_of_edits (begun limits) edits ≡ None) × ((object : Object) × (slot ≡ Some object) × IsRemadeObject only limits edits object)
@@ -83,38 +83,39 @@ RestoresEdits only limits edits (Err stopped) slot =
     (slot ≡ None)
     × ((stopped.refusal ≡ NoMemory) ⊎ ((verdict_of_edits (begun limits) edits ≡ Some stopped.refusal) × (stopped.made ≡ accepted_before (begun limits) edits)))
 
--- the answer to a restoration, by the verdict on its front and by what became of its edits
+-- the answer to a restoration, by the verdict on its text and by what became of its edits
 abbrev pub restored_by : FrontVerdict → Result (Unit {0}) Stopped → Audited
 restored_by verdict (Ok _) = fronted_by verdict
 restored_by verdict (Err stopped) = record { refusal = number_of stopped.refusal; detail = detail_of stopped.refusal; verdict = 0; line = 0; edits = stopped.made; answers = 0 }
 
--- from edits that were read, by the verdict on their text: of a front its edits are made anew; what is none is told by its line
+-- a restoration from edits that were read, by the verdict on their text: if it is a prefix of a transcript, its edits are made anew; else the
+-- answer names the first wrong line
 abbrev pub RestoresFront : Option Kind → Bounds → List Edit → FrontVerdict → Audited → Option Object → Type 0
 RestoresFront only limits journal (Front edits answers) answer slot =
     (r : Result (Unit {0}) Stopped) × (answer ≡ restored_by (Front edits answers) r) × RestoresEdits only limits journal r slot
 RestoresFront only limits journal verdict answer slot = (answer ≡ no_front verdict) × (slot ≡ None)
 
--- from what was found of a text
+-- a restoration from what was found of a text
 abbrev pub RestoresFound : Option Kind → Bounds → Result FoundFront Unread → Audited → Option Object → Type 0
 RestoresFound only limits (Ok found) answer slot = RestoresFront only limits found.edits.journal found.verdict answer slot
 RestoresFound only limits (Err why) answer slot = (answer ≡ unaudited (unread_number why)) × (slot ≡ None)
 
--- from a text
+-- a restoration from a text
 abbrev pub RestoresAt : Option Kind → Bounds → List ℕ → Audited → Option Object → Type 0
 RestoresAt only limits text answer slot = (r : Result FoundFront Unread) × FindsFront text r × RestoresFound only limits r answer slot
 
--- within limits that may be none
+-- a restoration within limits that may not be allowed
 abbrev pub RestoresIn : Option Kind → ℕ → ℕ → List ℕ → Audited → Option Object → Type 0
 RestoresIn only buckets edits text answer slot =
     ((answer ≡ unaudited 8) × (¬ AreAllowed buckets edits) × (slot ≡ None))
     ⊎ (AreAllowed buckets edits × RestoresAt only (record { buckets = buckets; edits = edits }) text answer slot)
 
--- of one kind or of all six, where what is asked for may be neither
+-- a restoration of a vector of one kind or of all six, if what is asked for names them
 abbrev pub RestoresOf : Option (Option Kind) → ℕ → ℕ → List ℕ → Audited → Option Object → Type 0
 RestoresOf None buckets edits text answer new = (answer ≡ unaudited 113) × (new ≡ None)
 RestoresOf (Some only) buckets edits text answer new = RestoresIn only buckets edits text answer new
 
--- a vector for a slot
+-- a restoration for a slot
 abbrev pub Restores : Option (Option Kind) → ℕ → ℕ → List ℕ → Audited → Option Object → Option Object → Type 0
 Restores only buckets edits text answer (Some object) new = (answer ≡ unaudited 104) × (new ≡ Some object)
 Restores only buckets edits text answer None new = RestoresOf only buckets edits text answer new

@@ -1,4 +1,4 @@
--- What the calls at samples do and answer, by what lies behind a slot.
+-- What the calls at samples do and answer, for the object in a slot.
 use Rattle.std.specs.Prelude.{◌≡◌, ℕ, ℤ, ◌+◌, ◌-◌, Bool, true, false, Option, Some, None, Result, Ok, Err, List, [], length, min}
 use Rattle.lv_series.specs.Numbers.{number_of}
 use Rattle.lv_series.specs.Samples.{AnswersWindow, IsWindowOf, SamplesState, count_before, is_among_last, newest_of, plain_samples, sample_at, times_of}
@@ -19,7 +19,7 @@ use Rattle.livevec_c.specs.SeriesBehind.{EditsSamples, element_in}
 use Rattle.livevec_c.specs.SeriesHeld.{series_in}
 use Rattle.livevec_c.specs.SeriesPieces.{put_in, put_there, read_in}
 
--- no samples, by an automaton of this table
+-- an object that is samples without any value, by an automaton of this table
 abbrev pub IsNewSamples : List (List ℕ) → Object → Type 0
 IsNewSamples table object = object ≡ Samples (plain_samples table [])
 
@@ -28,12 +28,12 @@ abbrev pub sample_edit : Bool → ℤ → ℤ → SamplesState → SampleEdit
 sample_edit true time x s = sampled.Expire (s.series.held.first + count_before time s.times)
 sample_edit false time x s = sampled.Push time x
 
--- of an object: of samples only
+-- an edit of an object, which is to be samples
 abbrev pub SamplesObject : Bool → ℤ → ℤ → SeriesEdited → Object → Object → Type 0
 SamplesObject expires time x answer (Samples old) new = (state : SamplesState) × (new ≡ Samples state) × EditsSamples (sample_edit expires time x old) answer old state
 SamplesObject expires time x answer other new = (answer ≡ unedited_by unheld) × (new ≡ other)
 
--- of what lies behind a slot
+-- an edit of the object in a slot
 abbrev pub SamplesEdited : Bool → ℤ → ℤ → SeriesEdited → Option Object → Option Object → Type 0
 SamplesEdited expires time x answer None new = (answer ≡ unedited_by unheld) × (new ≡ None)
 SamplesEdited expires time x answer (Some old) new = (object : Object) × (new ≡ Some object) × SamplesObject expires time x answer old object
@@ -47,7 +47,7 @@ abbrev pub sample_in : ℕ → Object → SampleElement
 sample_in index (Samples s) = sample_told (sample_at s index)
 sample_in index other = unelement unheld
 
--- with its time, of samples only; or without, of a series too
+-- the element under an index, with its time, of samples only; or without a time, of a series too
 abbrev pub element_told : Bool → ℕ → Object → SampleElement
 element_told true index object = sample_in index object
 element_told false index object = element_in index (series_in object)
@@ -64,7 +64,7 @@ abbrev pub TellsWindow : ℕ → Result Window LongRefusal → SampleWindow → 
 TellsWindow edit (Ok w) answer = answer ≡ record { refusal = 0; edit = edit; lo = w.lo; hi = w.hi }
 TellsWindow edit (Err refusal) answer = answer ≡ unwindowed (number_of refusal)
 
--- of those between two times, or of the last so much time
+-- a window of samples: those between two times, or those of the last so much time
 abbrev pub WindowOf : Bool → ℤ → ℤ → ℕ → SampleWindow → SamplesState → Type 0
 WindowOf true since until span answer s = (w : Window) × TellsWindow s.series.edits (Ok w) answer × IsWindowOf s (is_among_last (newest_of s.times) span) w.lo w.hi
 WindowOf false since until span answer s = (r : Result Window LongRefusal) × TellsWindow s.series.edits r answer × AnswersWindow s since until r
@@ -86,7 +86,7 @@ abbrev pub times_put_in : ℕ → ℕ → List ℤ → Object → List ℤ
 times_put_in lo hi old (Samples s) = put_there (range_refused s.series.held lo hi) (min (length old) (hi - lo)) (times_of s lo (lo + min (length old) (hi - lo))) old
 times_put_in lo hi old other = old
 
--- these, or the elements
+-- the times of a range, or its elements
 abbrev pub told_in : Bool → ℕ → ℕ → ℕ → Object → SeriesScanned
 told_in true lo hi places object = times_in lo hi places object
 told_in false lo hi places object = read_in lo hi places (series_in object)
@@ -95,7 +95,7 @@ abbrev pub told_put_in : Bool → ℕ → ℕ → List ℤ → Object → List �
 told_put_in true lo hi old object = times_put_in lo hi old object
 told_put_in false lo hi old object = put_in lo hi old (series_in object)
 
--- of what lies behind a slot
+-- the times or the elements of a range, of the object in a slot
 abbrev pub told_behind : Bool → ℕ → ℕ → ℕ → Option Object → SeriesScanned
 told_behind times lo hi places None = unscanned_by unheld
 told_behind times lo hi places (Some object) = told_in times lo hi places object

@@ -1,4 +1,4 @@
--- What saving a series, or samples, and loading them does and answers, by what lies behind a slot.
+-- What saving and loading a series, or samples, does and answers, for the object in a slot.
 use Rattle.std.specs.Prelude.{◌≡◌, ℕ, ◌%◌, ◌++◌, ◌⊎◌, Bool, true, false, Option, Some, None, Result, Ok, Err, List, []}
 use Rattle.lv_saved.specs.Numbers.{number_of}
 use Rattle.lv_saved.specs.Readings.{IsNoneSaved}
@@ -26,7 +26,7 @@ abbrev pub saved_behind : Option Object → Option Bytes
 saved_behind None = None
 saved_behind (Some object) = saved_in object
 
--- a piece of them, from a place on that is a multiple of 8; a buffer is as it was where it is refused
+-- a piece of these bytes, from a place on that is a multiple of 8; the buffer is as it was if the call is refused
 abbrev pub SavesFrom : Option Bytes → ℕ → SeriesScanned → List ℕ → List ℕ → Type 0
 SavesFrom None from answer old new = (answer ≡ unscanned_by unheld) × (new ≡ old)
 SavesFrom (Some saved) from answer old new = (count : ℕ) × (answer ≡ record { why = granted; edit = saved.edit; length = count }) × IsPiece saved.bytes from old count new
@@ -35,11 +35,11 @@ pub record SavesIn (saved : Option Bytes) (from : ℕ) (answer : SeriesScanned) 
   pub whole : from % 8 ≡ 0 → SavesFrom saved from answer old new
   pub broken : (from % 8 ≡ 0 → ⊥) → (answer ≡ unscanned_by (record { refusal = 7; first = 0; size = 0 })) × (new ≡ old)
 
--- what is loaded was given nothing yet
+-- a loader that was given nothing yet
 abbrev pub IsNewLoader : Object → Type 0
 IsNewLoader object = object ≡ Loader []
 
--- bytes are taken in behind the others, or there is no memory for them, and nothing has changed
+-- bytes are taken in after the others, or there is no memory for them, and nothing has changed
 abbrev pub GivesObject : List ℕ → ℕ → Object → Object → Type 0
 GivesObject bytes number (Loader old) new = ((number ≡ 0) × (new ≡ Loader (old ++ bytes))) ⊎ ((number ≡ 6) × (new ≡ Loader old))
 GivesObject bytes number other new = (number ≡ 101) × (new ≡ other)
@@ -48,7 +48,7 @@ abbrev pub GivesBytes : List ℕ → ℕ → Option Object → Option Object →
 GivesBytes bytes number None new = (number ≡ 101) × (new ≡ None)
 GivesBytes bytes number (Some old) new = (object : Object) × (new ≡ Some object) × GivesObject bytes number old object
 
--- an object has exactly these bytes: samples, where that is asked, or else a series; no kind has a tree
+-- an object has exactly these bytes: samples, if that is asked, or else a series; no kind has a tree
 abbrev pub HasBytes : Bool → List ℕ → Object → Type 0
 HasBytes true bytes object = (s : SamplesState) × (object ≡ Samples s) × (bytes_of (saved_samples s) ≡ bytes) × (s.series.kinds ≡ no_kinds)
 HasBytes false bytes object = (s : SeriesState) × (object ≡ Series s) × (bytes_of (saved_series s) ≡ bytes) × (s.kinds ≡ no_kinds)
@@ -59,12 +59,12 @@ LoadsOf timed bytes (Ok object) = HasBytes timed bytes object
 LoadsOf timed bytes (Err load.Damaged) = IsNoneSaved bytes timed
 LoadsOf timed bytes (Err load.NoMemory) = Unit {0}
 
--- what was loaded lies in the slot; or it is empty, and the number says why
+-- the slot holds what was loaded; or it is empty, and the number says why
 abbrev pub PlacesLoaded : Result Object LoadRefusal → ℕ → Option Object → Type 0
 PlacesLoaded (Ok object) number slot = (number ≡ 0) × (slot ≡ Some object)
 PlacesLoaded (Err refusal) number slot = (number ≡ number_of refusal) × (slot ≡ None)
 
--- of what was given
+-- the end of a load of these bytes
 abbrev pub EndsLoadOf : Bool → List ℕ → ℕ → Option Object → Type 0
 EndsLoadOf timed bytes number new = (r : Result Object LoadRefusal) × LoadsOf timed bytes r × PlacesLoaded r number new
 

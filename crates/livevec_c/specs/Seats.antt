@@ -1,4 +1,4 @@
--- What the calls of a seat do and answer, by what lies behind its slot.
+-- What the calls of a seat do and answer, for the object in its slot.
 use Rattle.std.specs.Prelude.{◌≡◌, ℕ, pos, Bool, Option, Some, None, Err, unwrap_or}
 use Rattle.lv_geometry.specs.Numbers.{number_of}
 use Rattle.lv_bodies.specs.declared.kinds.Shown.{Shown}
@@ -16,10 +16,10 @@ use Rattle.livevec_c.specs.declared.results.Reduced.{Reduced}
 use Rattle.livevec_c.specs.Answers.{detail_of, edited_by, high_half, low_half, received, unedited, unreduced, valueless, word_of}
 use Rattle.livevec_c.specs.Kinds.{sat_at}
 
--- ---- what the library's answer to a call is for C, or that to none where a slot holds no seat
+-- ---- the library's answer to a call, for C, and the answer if a slot holds no seat
 
--- beside what an edit answers: the number of the last edit where an element was read, with that element; where there were so many elements; and
--- where a block was refreshed, with the last edit that touched it
+-- the answer to a call: an edit's receipt; or the number of the last edit, with the element that was read, with how many elements there are, or
+-- with the last edit that touched the block that was refreshed
 abbrev pub told_for : Option (Said Shown) → Edited
 told_for (Some (said.Did receipt)) = received receipt
 told_for (Some (said.Read read)) = record { refusal = 0; detail = 0; edit = read.edit; place = 0; value = read.value }
@@ -28,7 +28,7 @@ told_for (Some (said.Refreshed refreshed)) = record { refusal = 0; detail = 0; e
 told_for (Some (said.Refused refusal)) = edited_by (Err refusal)
 told_for _ = unedited
 
--- the value of a kind among the plain values; whether there is an element is told beside it
+-- the value of a kind among the plain values, and whether there is an element
 abbrev pub values_for : Bool → Shown → PlainValues
 values_for any (shown.Sum s) = record valueless { sum = s; any = word_of any }
 values_for any (shown.Least x) = record valueless { least = unwrap_or x (pos 0); any = word_of any }
@@ -53,16 +53,16 @@ abbrev pub CallsObject : ℕ → Call → Option (Said Shown) → Object → Obj
 CallsObject tries asked end (Seat old) new = (seat : KindSeat) × (new ≡ Seat seat) × CallsSeat tries asked end old seat
 CallsObject tries asked end other new = (end ≡ None) × (new ≡ other)
 
--- a call of what lies behind a slot
+-- a call of the object in a slot
 abbrev pub Calls : ℕ → Call → Option (Said Shown) → Option Object → Option Object → Type 0
 Calls tries asked end None new = (end ≡ None) × (new ≡ None)
 Calls tries asked end (Some old) new = (object : Object) × (new ≡ Some object) × CallsObject tries asked end old object
 
--- the same, and the answer for C
+-- a call of the object in a slot, and its answer for C
 abbrev pub Answers : {A : Type 0} → (Option (Said Shown) → A) → ℕ → Call → A → Option Object → Option Object → Type 0
 Answers answer_for tries asked answer old new = (end : Option (Said Shown)) × (answer ≡ answer_for end) × Calls tries asked end old new
 
--- a call that a number tells, where there is such a call
+-- a call that a number names, if there is such a call
 abbrev pub CallsBy : ℕ → Option Call → Edited → Option Object → Option Object → Type 0
 CallsBy tries None answer old new = (answer ≡ unedited) × (new ≡ old)
 CallsBy tries (Some asked) answer old new = Answers told_for tries asked answer old new

@@ -1,4 +1,4 @@
--- What the answers of a series are for C.
+-- The answers of a series, laid out for C.
 use Rattle.std.specs.Prelude.{ℕ, ℤ, pos, Option, Some, None, Result, Ok, Err}
 use Rattle.lv_series.specs.Numbers.{number_of}
 use Rattle.lv_series.specs.declared.receipts.LongReceipt.{LongReceipt}
@@ -16,18 +16,18 @@ use Rattle.livevec_c.specs.declared.series_results.SeriesReduced.{SeriesReduced}
 use Rattle.livevec_c.specs.declared.series_results.SeriesScanned.{SeriesScanned}
 use Rattle.livevec_c.specs.Answers.{valueless}
 
--- that nothing was refused; that a slot holds no series
+-- the reason of a call that was not refused, and of one at a slot that holds no series
 abbrev pub granted : Why
 granted = record { refusal = 0; first = 0; size = 0 }
 
 abbrev pub unheld : Why
 unheld = record { refusal = 101; first = 0; size = 0 }
 
--- that there is no query to ask for, by the number for why
+-- the reason of a call that asks for a query that isn't there
 abbrev pub unnamed : ℕ → Why
 unnamed refusal = record { refusal = refusal; first = 0; size = 0 }
 
--- why the library refused a call: of an index that isn't kept, with what is
+-- why the library refused a call; for an index that isn't kept, with the indices that are
 abbrev pub refused_by : LongRefusal → Why
 refused_by (OutOfRange first size) = record { refusal = 3; first = first; size = size }
 refused_by refusal = record { refusal = number_of refusal; first = 0; size = 0 }
@@ -50,7 +50,7 @@ abbrev pub long_edited : Result LongReceipt LongRefusal → SeriesEdited
 long_edited (Ok receipt) = long_received receipt
 long_edited (Err refusal) = unedited_by (refused_by refusal)
 
--- an edit's answer of samples: of an earlier time with that of the last sample
+-- the answer of an edit of samples; if its time was earlier than that of the last sample, the answer has the latter
 abbrev pub sample_edited : Result LongReceipt SampleRefusal → SeriesEdited
 sample_edited (Ok receipt) = long_received receipt
 sample_edited (Err (Refused refusal)) = unedited_by (refused_by refusal)
@@ -68,12 +68,12 @@ long_element (Err refusal) = unelement (refused_by refusal)
 abbrev pub unreduced_by : Why → SeriesReduced
 unreduced_by why = record { why = why; edit = 0; values = valueless }
 
--- the same by why its range is refused, if it is, by the last edit's number, and by the values
+-- a reduction's answer, by why its range is refused, if it is, by the last edit's number, and by the values
 abbrev pub long_valued : Option LongRefusal → ℕ → PlainValues → SeriesReduced
 long_valued None edit values = record { why = granted; edit = edit; values = values }
 long_valued (Some refusal) edit values = unreduced_by (refused_by refusal)
 
--- many writes, of which none was made: why, and which of them is refused
+-- the answer to many writes that were not made: why, and which of them is refused
 abbrev pub unwritten_by : Why → ℕ → SeriesMany
 unwritten_by why place = record { why = why; edit = 0; done = 0; place = place }
 

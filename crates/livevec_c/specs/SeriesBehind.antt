@@ -1,4 +1,4 @@
--- What the calls at a series do and answer, by what lies behind a slot.
+-- What the calls at a series do and answer, for the object in a slot.
 use Rattle.std.specs.Prelude.{◌≡◌, ℕ, ◌⊎◌, Bool, true, false, Option, Some, None, Result, List, []}
 use Rattle.lv_series.specs.Series.{Answers, element_at, range_refused, slice_of}
 use Rattle.lv_series.specs.Plain.{KeptKinds, plain_series}
@@ -40,7 +40,7 @@ sample_edit_of other = None
 abbrev pub EditsSamples : SampleEdit → SeriesEdited → SamplesState → SamplesState → Type 0
 EditsSamples edit answer old new = (r : Result LongReceipt SampleRefusal) × (answer ≡ sample_edited r) × AnswersSample old edit r new
 
--- where there is such an edit
+-- such an edit of samples, if there is one
 abbrev pub EditsSamplesBy : Option SampleEdit → SeriesEdited → SamplesState → Object → Type 0
 EditsSamplesBy None answer old new = (answer ≡ unedited_by unheld) × (new ≡ Samples old)
 EditsSamplesBy (Some edit) answer old new = (state : SamplesState) × (new ≡ Samples state) × EditsSamples edit answer old state
@@ -51,17 +51,17 @@ EditsLong edit answer (Series old) new = (state : Long) × (new ≡ Series state
 EditsLong edit answer (Samples old) new = EditsSamplesBy (sample_edit_of edit) answer old new
 EditsLong edit answer other new = (answer ≡ unedited_by unheld) × (new ≡ other)
 
--- an edit of what lies behind a slot
+-- an edit of the object in a slot
 abbrev pub EditsBehind : LongEdit → SeriesEdited → Option Object → Option Object → Type 0
 EditsBehind edit answer None new = (answer ≡ unedited_by unheld) × (new ≡ None)
 EditsBehind edit answer (Some old) new = (object : Object) × (new ≡ Some object) × EditsLong edit answer old object
 
--- the same where there is such an edit
+-- an edit of the object in a slot, if there is such an edit
 abbrev pub EditsBehindBy : Option LongEdit → SeriesEdited → Option Object → Option Object → Type 0
 EditsBehindBy None answer old new = (answer ≡ unedited_by unheld) × (new ≡ old)
 EditsBehindBy (Some edit) answer old new = EditsBehind edit answer old new
 
--- the element under an index of a series, where there is one
+-- the element under an index of a series, if there is a series
 abbrev pub element_in : ℕ → Option Long → SampleElement
 element_in index None = unelement unheld
 element_in index (Some s) = long_element (element_at s.held index)
@@ -74,30 +74,30 @@ abbrev pub values_in : ℕ → ℕ → Option Long → SeriesReduced
 values_in lo hi None = unreduced_by unheld
 values_in lo hi (Some s) = values_of lo hi s
 
--- the same series, whichever kinds have a tree; all have one
+-- a series that differs at most in which kinds have a tree; and that all kinds have one
 abbrev pub IsSameButKinds : Long → Long → Type 0
 IsSameButKinds old new = (kinds : KeptKinds) × (new ≡ record old { kinds = kinds })
 
 abbrev pub all_kinds : KeptKinds
 all_kinds = record { sum = true; least = true; greatest = true; best = true; affine = true; automaton = true }
 
--- a series that was asked by all six kinds: the same, where the range is refused; else each kind has a tree
+-- a series that was asked by all six kinds: unchanged, if the range is refused; else each kind has a tree
 abbrev pub with_all : Option LongRefusal → Long → Long
 with_all (Some refusal) s = s
 with_all None s = record s { kinds = all_kinds }
 
--- the answer to that: as of a reduction; or there is no memory for a tree, where nothing refuses the range
+-- the answer to such a query: as of a reduction; or there is no memory for a tree, if the range is not refused
 abbrev pub AsksSeries : ℕ → ℕ → SeriesReduced → Long → Long → Type 0
 AsksSeries lo hi answer old new =
     ((answer ≡ values_of lo hi old) × (new ≡ with_all (range_refused old.held lo hi) old))
     ⊎ ((answer ≡ unreduced_by (refused_by NoMemory)) × (range_refused old.held lo hi ≡ None) × IsSameButKinds old new)
 
--- of an object, by all six kinds: each kind's tree is made first, or what lies there stays as it is
+-- a query of an object by all six kinds: each kind's tree is made first, or the object stays as it is
 abbrev pub SixLong : Bool → ℕ → ℕ → SeriesReduced → Object → Object → Type 0
 SixLong true lo hi answer old new = AtObject (AsksSeries lo hi answer) (answer ≡ unreduced_by unheld) old new
 SixLong false lo hi answer old new = (answer ≡ values_in lo hi (series_in old)) × (new ≡ old)
 
--- of what lies behind a slot
+-- a query of the object in a slot by all six kinds
 abbrev pub SixBehind : Bool → ℕ → ℕ → SeriesReduced → Option Object → Option Object → Type 0
 SixBehind trees lo hi answer None new = (answer ≡ unreduced_by unheld) × (new ≡ None)
 SixBehind trees lo hi answer (Some old) new = (object : Object) × (new ≡ Some object) × SixLong trees lo hi answer old object

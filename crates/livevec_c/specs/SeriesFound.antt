@@ -1,4 +1,4 @@
--- Where something stands in a range of a series, for C, by what lies behind a slot.
+-- What a search of a range of a series finds, for C, for the object in a slot.
 use Rattle.std.specs.Prelude.{◌≡◌, ℕ, pos, ◌+◌, ◌⊎◌, true, false, Option, Some, None}
 use Rattle.lv_series.specs.Places.{IsEndReachedIn, IsFirstIndexIn, IsLastIndexIn, IsPlaceOfBestIn, IsPlaceOfGreatestIn, IsPlaceOfLeastIn, IsStartReachedIn}
 use Rattle.lv_series.specs.Series.{Held, keeps_kind, range_refused, with_kind}
@@ -28,7 +28,7 @@ long_nowhere edit = record (long_unfound granted) { edit = edit }
 abbrev pub long_part : ℕ → ℕ → ℕ → SeriesFound
 long_part edit lo hi = record (long_nowhere edit) { lo = lo; hi = hi; found = true }
 
--- an element stands from its index up to the next one; a run has its sum in two halves
+-- what was found: an element, from its index up to the next one; a run, with its sum in two halves
 abbrev pub long_placed : ℕ → Option LongPlaced → SeriesFound
 long_placed edit None = long_nowhere edit
 long_placed edit (Some p) = record (long_part edit p.index (p.index + 1)) { value = p.value }
@@ -37,7 +37,7 @@ abbrev pub long_run : ℕ → Option LongRun → SeriesFound
 long_run edit None = long_nowhere edit
 long_run edit (Some r) = record (long_part edit r.from r.to) { sum_low = low_half r.sum; sum_high = high_half r.sum }
 
--- a sum is reached from the start of the range on, or up to its end; an element within a bound stands from its index up to the next one
+-- the part of the range, from its start on or up to its end, that reaches a sum; an element within a bound, from its index up to the next one
 abbrev pub long_end : ℕ → ℕ → Option ℕ → SeriesFound
 long_end edit lo None = long_nowhere edit
 long_end edit lo (Some end) = long_part edit lo end
@@ -60,7 +60,7 @@ FindsAt (ReachesBack sum) h lo hi edit answer = (start : Option ℕ) × (answer 
 FindsAt (First bound) h lo hi edit answer = (index : Option ℕ) × (answer ≡ long_index edit index) × IsFirstIndexIn bound h lo hi index
 FindsAt (Last bound) h lo hi edit answer = (index : Option ℕ) × (answer ≡ long_index edit index) × IsLastIndexIn bound h lo hi index
 
--- of a series, by the tree of a kind: the range is refused, or there is no memory for that tree, and nothing has changed
+-- a search of a series, by the tree of a kind; or the range is refused, or there is no memory for that tree, and nothing has changed
 abbrev pub FindsUnless : Option LongRefusal → Wanted → ℕ → ℕ → SeriesFound → Long → Long → Type 0
 FindsUnless (Some refusal) wanted lo hi answer old new = (answer ≡ long_unfound (refused_by refusal)) × (new ≡ old)
 FindsUnless None wanted lo hi answer old new =
@@ -70,7 +70,7 @@ FindsUnless None wanted lo hi answer old new =
 abbrev pub FindsSeries : Wanted → ℕ → ℕ → SeriesFound → Long → Long → Type 0
 FindsSeries wanted lo hi answer old new = FindsUnless (range_refused old.held lo hi) wanted lo hi answer old new
 
--- of what lies behind a slot, where it is known what is looked for
+-- a search of the object in a slot, if it is known what is looked for
 abbrev pub FindsBehind : Option Wanted → ℕ → ℕ → SeriesFound → Option Object → Option Object → Type 0
 FindsBehind None lo hi answer old new = (answer ≡ long_unfound unkind) × (new ≡ old)
 FindsBehind (Some wanted) lo hi answer old new = AtSeries (FindsSeries wanted lo hi answer) (answer ≡ long_unfound unheld) old new

@@ -4,7 +4,7 @@ use Rattle.lv_series.specs.Series.{range_refused, slice_of}
 use Rattle.lv_series.specs.declared.refusals.LongRefusal.{LongRefusal}
 use Rattle.livevec_c.specs.SeriesHeld.{Long}
 
--- the elements that were lent, or, where the loan was refused, what the slice was
+-- the elements that were lent; or, if the loan was refused, what the slice was
 abbrev pub lent_where : Option LongRefusal → List ℤ → List ℤ → List ℤ
 lent_where None elements old = elements
 lent_where (Some refusal) elements old = old

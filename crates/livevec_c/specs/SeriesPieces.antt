@@ -1,4 +1,4 @@
--- What a piece of a range of a series answers, and what it leaves in a buffer of the caller's, by what lies behind a slot.
+-- What a piece of a range of a series answers, and what it leaves in a buffer of the caller's, for the series in a slot.
 use Rattle.std.specs.Prelude.{ℕ, ℤ, ◌+◌, ◌-◌, ◌++◌, Bool, Option, Some, None, List, [], ◌∷◌, slice_get, unwrap_or, length, drop, map, min, if◌then◌else◌}
 use Rattle.std.specs.List.{range_with_len}
 use Rattle.lv_series.specs.Series.{range_refused, slice_of}
@@ -8,7 +8,7 @@ use Rattle.livevec_c.specs.SeriesAnswers.{long_scanned, unheld, unscanned_by}
 use Rattle.livevec_c.specs.SeriesHeld.{Long}
 use Rattle.livevec_c.specs.SeriesValued.{unkind}
 
--- what a buffer has after a call that was not refused: so many that were put there, and what it had behind them; else what it had
+-- what a buffer has after a call: if it was not refused, so many that were put there, and after them what it had; else what it had
 abbrev pub put_there : {C : Type 0} → Option LongRefusal → ℕ → List C → List C → List C
 put_there None many put old = put ++ drop many old
 put_there (Some refusal) many put old = old
@@ -20,7 +20,8 @@ elements_read lo hi places s = long_scanned (range_refused s.held lo hi) s.edits
 abbrev pub elements_put : ℕ → ℕ → List ℤ → Long → List ℤ
 elements_put lo hi old s = put_there (range_refused s.held lo hi) (min (length old) (hi - lo)) (slice_of s.held lo (lo + min (length old) (hi - lo))) old
 
--- why a scan of a range is refused that goes on from an index: not all before it is kept from the range's start on, or not all behind it
+-- why a scan of a range that goes on from an index is refused: not all elements from the range's start up to the index are kept, or not all after
+-- it
 abbrev pub or_else : Option LongRefusal → Option LongRefusal → Option LongRefusal
 or_else (Some refusal) other = Some refusal
 or_else None other = other
@@ -28,7 +29,7 @@ or_else None other = other
 abbrev pub piece_refused : ℕ → ℕ → ℕ → Long → Option LongRefusal
 piece_refused lo at hi s = or_else (range_refused s.held lo at) (range_refused s.held at hi)
 
--- the cell of the elements from a range's start on, up to so many behind an index, the one there included, or excluded
+-- the cell of the elements from a range's start on, up to so many after an index, the one there included, or excluded
 abbrev pub cell_up_to : {C : Type 0} → (List (List ℕ) → List ℤ → C) → Bool → ℕ → ℕ → Long → ℕ → C
 cell_up_to cell inclusive lo at s i = cell s.table (slice_of s.held lo (if inclusive then at + i + 1 else at + i))
 
@@ -39,7 +40,7 @@ piece_scanned lo at hi places s = long_scanned (piece_refused lo at hi s) s.edit
 abbrev pub piece_put : {C : Type 0} → (List (List ℕ) → List ℤ → C) → Bool → ℕ → ℕ → ℕ → List C → Long → List C
 piece_put cell inclusive lo at hi old s = put_there (piece_refused lo at hi s) (min (length old) (hi - at)) (map (cell_up_to cell inclusive lo at s) (range_with_len 0 (min (length old) (hi - at)))) old
 
--- where there is a series
+-- a read or a scan, if there is a series
 abbrev pub read_in : ℕ → ℕ → ℕ → Option Long → SeriesScanned
 read_in lo hi places None = unscanned_by unheld
 read_in lo hi places (Some s) = elements_read lo hi places s
@@ -56,7 +57,7 @@ abbrev pub column_in : {C : Type 0} → (List (List ℕ) → List ℤ → C) →
 column_in cell inclusive lo at hi old None = old
 column_in cell inclusive lo at hi old (Some s) = piece_put cell inclusive lo at hi old s
 
--- by the kind of a number, or by all six (6), into the column of that, which has so many places
+-- a scan by the kind that a number names, or by all six (6), into the column that fits, which has so many places
 abbrev pub scanned_by : ℕ → ℕ → ℕ → ℕ → ℕ → ℕ → ℕ → ℕ → ℕ → ℕ → Option Long → SeriesScanned
 scanned_by number lo at hi sums extremes totals maps states values held =
     unwrap_or (slice_get (

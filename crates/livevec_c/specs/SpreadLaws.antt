@@ -1,4 +1,4 @@
--- That the fold of the six, spread out, has the plain values, of however many elements.
+-- The fold of the six, spread out, has the plain values, of however many elements.
 use Rattle.std.proofs.Common.{◌≡◌, ℕ, ℤ, pos, List, ap, ◌∙◌}
 use Rattle.std.specs.Prelude.{is_some, option_map, unwrap_or}
 use Rattle.lv_bodies.specs.AffineLaws.{shown_alike}
@@ -43,11 +43,11 @@ module _ (table : List (List ℕ)) (xs : List ℤ) where
         automaton = automaton-part table xs ∙ fold_of-automaton table xs;
       }
 
-  -- so it is their cell
+  -- the fold of the six, spread out, is the cell of the elements
   pub fold-plain : spread (fold_of (six_operations_by table) xs) ≡ values_cell table xs
   fold-plain = values_alike table xs _ spread-plain
 
-  -- and what is shown of the part of it by a kind is the kind's plain value
+  -- the output of its part by a kind is the kind's plain value
   pub shown-plain : (kind : Kind) → shown_of (summary_by table kind xs) ≡ plain_value_with table kind xs
   shown-plain Sum = ap shown.Sum (sum-part table xs ∙ fold_of-sum xs)
   shown-plain Least = ap shown.Least (least-part table xs ∙ fold_of-least xs)

@@ -1,4 +1,4 @@
--- What the calls of whole subtrees do and answer, by what lies behind the slots.
+-- What the calls of whole subtrees do and answer, for the objects in the slots.
 use Rattle.std.specs.Prelude.{◌≡◌, ◌⊎◌, ℕ, Bool, true, false, Option, Some, None, option_map, IfSome}
 use Rattle.lv_bodies.specs.Automata.{table_of}
 use Rattle.lv_bodies.specs.declared.sixes.SixByTable.{SixByTable}
@@ -11,16 +11,16 @@ use Rattle.livevec_c.specs.declared.results.Count.{Count}
 use Rattle.livevec_c.specs.Behind.{State}
 use Rattle.livevec_c.specs.Blocks.{CopiesObject, uncopied}
 
--- the answer of a subtree that was copied or taken in: so many summaries it has
+-- the answer of a subtree that was copied or taken in: how many summaries it has
 abbrev pub all_summaries : Count
 all_summaries = record { refusal = 0; value = 585 }
 
--- the answer of a copy: 0 where the subtree is worth no job
+-- the answer of a copy: 0 if the subtree is worth no job
 abbrev pub copied_answer : Option (Copied SixByTable) → Count
 copied_answer None = uncopied 0
 copied_answer (Some job) = all_summaries
 
--- a job lies behind the slot, and it is told of how many summaries; or there is none, or no memory, and the slot is empty
+-- the slot holds a job, and the answer says how many summaries it has; or the slot is empty, because there is no job or no memory
 abbrev pub KeepsJob : Option (Copied SixByTable) → Count → Option Object → Type 0
 KeepsJob job answer slot =
     ((answer ≡ uncopied 6) × (slot ≡ None)) ⊎ ((answer ≡ copied_answer job) × (slot ≡ option_map Subtree job))
@@ -33,12 +33,12 @@ abbrev pub CopiesFrom : ℕ → Count → Object → Option Object → Type 0
 CopiesFrom number answer (Vector state only) slot = CopiesFromVector number answer state slot
 CopiesFrom number answer other slot = (answer ≡ uncopied 101) × (slot ≡ None)
 
--- the same, or of blocks from this number on
+-- a copy of a subtree of an object, or of its blocks from this number on
 abbrev pub CopiesJobs : Bool → ℕ → ℕ → Count → Object → Option Object → Type 0
 CopiesJobs true number limit answer object slot = CopiesFrom number answer object slot
 CopiesJobs false number limit answer object slot = CopiesObject number limit answer object slot
 
--- the same for an empty slot of the batch
+-- a copy from the object in a slot, for an empty slot of the batch
 abbrev pub CopiesInto : Bool → ℕ → ℕ → Count → Option Object → Option Object → Type 0
 CopiesInto subtree number limit answer None slot = (answer ≡ uncopied 101) × (slot ≡ None)
 CopiesInto subtree number limit answer (Some object) slot = CopiesJobs subtree number limit answer object slot
@@ -47,7 +47,7 @@ abbrev pub Copies : Bool → ℕ → ℕ → Count → Option Object → Option 
 Copies subtree number limit answer object (Some batch) slot = (answer ≡ uncopied 104) × (slot ≡ Some batch)
 Copies subtree number limit answer object None slot = CopiesInto subtree number limit answer object slot
 
--- an outcome may be taken in by a vector: it wasn't yet, and what it is of stands there
+-- an outcome may be taken in by a vector: it wasn't yet, and what it was computed from is still there
 abbrev pub CanTakeIn : State → Option (Copied SixByTable) → Type 0
 CanTakeIn state outcome = CanTake (λ body. table_of state.body.automaton ≡ table_of body.automaton) state.history.journal outcome
 
@@ -58,28 +58,28 @@ pub record IsTakenIn (answer : Count) (old new : State) (outcome left : Option (
   pub kept : IfSome outcome (λ copied. HasSubtree old new copied.number)
   pub spent : left ≡ None
 
--- one that may not be taken in was not: nothing has changed
+-- an outcome that may not be taken in was not: nothing has changed
 pub record IsLeftOut (answer : Count) (old new : State) (outcome left : Option (Copied SixByTable)) : Type 0 where
   pub cannot : ¬ CanTakeIn old outcome
   pub answer_is : answer ≡ uncopied 0
   pub vector : new ≡ old
   pub unspent : left ≡ outcome
 
--- one of the two, at a vector
+-- an outcome is taken in by a vector, or left out
 abbrev pub TakesSubtreeIn : Count → State → State → Option (Copied SixByTable) → Option (Copied SixByTable) → Type 0
 TakesSubtreeIn answer old new outcome left = IsTakenIn answer old new outcome left ⊎ IsLeftOut answer old new outcome left
 
--- the same of an object that was brought; one that is no outcome of a subtree stays as it is
+-- an object is taken in by a vector, or left out; one that is no outcome of a subtree stays as it is
 abbrev pub TakesObjectIn : Count → State → State → Object → Object → Type 0
 TakesObjectIn answer old new (SubtreeOutcome outcome) left = (rest : Option (Copied SixByTable)) × (left ≡ SubtreeOutcome rest) × TakesSubtreeIn answer old new outcome rest
 TakesObjectIn answer old new brought left = (answer ≡ uncopied 101) × (new ≡ old) × (left ≡ brought)
 
--- the same at an object that is a vector
+-- an object is taken in by another, which is to be a vector, or left out
 abbrev pub TakesInAt : Count → Object → Object → Object → Object → Type 0
 TakesInAt answer (Vector old only) new brought left = (state : State) × (new ≡ Vector state only) × TakesObjectIn answer old state brought left
 TakesInAt answer other new brought left = (answer ≡ uncopied 101) × (new ≡ other) × (left ≡ brought)
 
--- the same of what lies behind the batch's slot, where it lies on
+-- the object in the batch's slot is taken in by another, or left out; it stays in the slot
 abbrev pub TakesInFrom : Count → Object → Object → Option Object → Option Object → Type 0
 TakesInFrom answer old new None slot = (answer ≡ uncopied 101) × (new ≡ old) × (slot ≡ None)
 TakesInFrom answer old new (Some brought) slot = (left : Object) × (slot ≡ Some left) × TakesInAt answer old new brought left

@@ -1,4 +1,4 @@
--- What the calls of summaries that travel answer, by the bytes that came in and by what lies behind a slot.
+-- What the calls of summaries that travel answer, by the bytes that came in and for the object in a slot.
 use Rattle.std.specs.Prelude.{◌≡◌, ◌≤◌, ℕ, ℤ, false, Option, Some, None, Result, Ok, Err, List, length, All, replicate, is_some, unwrap_or}
 use Rattle.lv_geometry.specs.Numbers.{number_of}
 use Rattle.lv_geometry.specs.declared.refusals.Refusal.{Refusal}
@@ -42,7 +42,7 @@ pub record IsEmptyBy (table : List (List ℕ)) (answer : Summarised) : Type 0 wh
   pub taken : All (All (λ q. q ≤ 7)) table → answer ≡ summarised (empty_of (leads_of table))
   pub refused : ¬ (All (All (λ q. q ≤ 7)) table) → answer ≡ unsummarised 9 0
 
--- the same by a table that is asked for, or by the program's
+-- the summary of no elements, by a table that is asked for or by the program's
 abbrev pub IsEmpty : Option (List (List ℕ)) → Summarised → Type 0
 IsEmpty None answer = answer ≡ summarised (empty_of (leads_of program_table))
 IsEmpty (Some table) answer = IsEmptyBy table answer
@@ -53,7 +53,7 @@ SumsRange None lo hi answer state =
     (s : Summary) × (answer ≡ summarised s) × IsSummaryOf (table_of state.body.automaton) (slice_of state.history.journal lo hi) s × (s.edit ≡ Some (length state.history.journal))
 SumsRange (Some refusal) lo hi answer state = answer ≡ unsummarised (number_of refusal) (detail_of refusal)
 
--- one that is of one kind refuses it, since it is of all six
+-- a vector of one kind refuses it, since a summary is of all six
 abbrev pub SumsBy : Option Kind → ℕ → ℕ → Summarised → State → Type 0
 SumsBy (Some only) lo hi answer state = answer ≡ unsummarised 113 0
 SumsBy None lo hi answer state = SumsRange (range_refusal state.history.journal lo hi) lo hi answer state

@@ -1,4 +1,4 @@
--- What standing queries are asked of, and what they are answered: a vector or a series is as samples without times, and trees change nothing.
+-- What standing queries are asked of, and the answers: a vector or a series counts as samples without times, and trees change nothing.
 use Rattle.std.specs.Prelude.{ℕ, ℤ, Bool, true, false, ◌&&◌, ◌||◌, not, Option, Some, None, [], ◌∷◌, length, nat_lt, slice_get}
 use Rattle.lv_bodies.specs.Automata.{table_of}
 use Rattle.lv_bodies.specs.declared.kinds.Kind.{Kind}
@@ -53,7 +53,7 @@ abbrev pub is_timed : SampleSpan → Bool
 is_timed (Among span) = false
 is_timed (Within time) = true
 
--- by its own kind alone, where it is of one; and of a window of time only what has times
+-- a query may be asked by its kind, if the target is of that one or of all six; and a query of a window of time only if the target has times
 abbrev pub is_asked : Option Kind → Bool → SampleQuery → Bool
 is_asked only timed q = is_asked_by only (Some q.kind) && (timed || not (is_timed q.span))
 

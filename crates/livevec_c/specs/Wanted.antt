@@ -1,4 +1,4 @@
--- What is looked for in a range, by a number, and the kind by which it is looked for.
+-- The searches of a range that numbers name, and the kind that each needs.
 use Rattle.std.specs.Prelude.{ℕ, ℤ, Option, [], ◌∷◌, slice_get}
 use Rattle.lv_bodies.specs.declared.kinds.Kind.{Kind}
 use Rattle.lv_bodies.specs.declared.kinds.Kind.TheVariants as kinds

@@ -1,4 +1,4 @@
--- What the calls of refresh do and answer, by what lies behind the slots.
+-- What the calls of refresh do and answer, for the objects in the slots.
 use Rattle.std.specs.Prelude.{◌≡◌, ◌⊎◌, ◌<◌, ◌≤◌, ◌↔◌, ℕ, Bool, true, false, IsTrue, Option, Some, None, option_map, IfSome}
 use Rattle.lv_bodies.specs.Automata.{table_of}
 use Rattle.lv_bodies.specs.Six.{SixSummary, six_operations_by}
@@ -18,7 +18,7 @@ use Rattle.livevec_c.specs.declared.jobs.Vetted.{Vetted}
 use Rattle.livevec_c.specs.Answers.{accepted_by, claimed_by, unaccepted, unclaimed, unvetted}
 use Rattle.livevec_c.specs.Behind.{State, no_count}
 
--- so many jobs were done in place, at most as many as were asked for; fewer only where no node wants one any longer
+-- so many jobs were done in place, at most as many as were asked for; fewer only if no node needs one any longer
 pub record RefreshesVector (jobs : ℕ) (answer : Count) (old new : State) : Type 0 where
   pub granted : answer.refusal ≡ 0
   pub turns : TakesTurns (six_operations_by (table_of old.body.automaton)) old new answer.value
@@ -47,7 +47,7 @@ abbrev pub claim_answers : Option (Carried SixByTable SixSummary) → ClaimedJob
 claim_answers None = unclaimed 0
 claim_answers (Some job) = claimed_by job.node job.version
 
--- the next job was claimed, if there is one, and it lies behind the slot
+-- the next job was claimed, if there is one, and the slot holds it
 pub record ClaimsJob (answer : ClaimedJob) (old new : State) (slot : Option Object) : Type 0 where
   pub made : Option (Carried SixByTable SixSummary)
   pub answer_is : answer ≡ claim_answers made
@@ -65,7 +65,7 @@ abbrev pub ClaimsObject : ClaimedJob → Object → Object → Option Object →
 ClaimsObject answer (Vector old only) new slot = (state : State) × (new ≡ Vector state only) × ClaimsVector answer old state slot
 ClaimsObject answer other new slot = (answer ≡ unclaimed 101) × (new ≡ other) × (slot ≡ None)
 
--- the same for an empty slot of the job
+-- a claim from the object in a slot, for an empty slot of the job
 abbrev pub ClaimsInto : ClaimedJob → Option Object → Option Object → Option Object → Type 0
 ClaimsInto answer None new slot = (answer ≡ unclaimed 101) × (new ≡ None) × (slot ≡ None)
 ClaimsInto answer (Some old) new slot = (object : Object) × (new ≡ Some object) × ClaimsObject answer old object slot
@@ -79,7 +79,7 @@ abbrev pub RunsObject : Bool → Object → Object → Type 0
 RunsObject done (Job job) new = (done ≡ true) × (new ≡ Outcome job)
 RunsObject done other new = (done ≡ false) × (new ≡ other)
 
--- the same behind slots, where that of the outcome is empty
+-- a job in a slot became its outcome, which is put into another slot that is empty
 abbrev pub RunsInto : ℕ → Option Object → Option Object → Option Object → Type 0
 RunsInto number None job outcome = (number ≡ 101) × (job ≡ None) × (outcome ≡ None)
 RunsInto number (Some (Job carried)) job outcome = (number ≡ 0) × (job ≡ None) × (outcome ≡ Some (Outcome carried))
@@ -116,7 +116,7 @@ pub record Delivers (answer : Delivered) (old new : State) (outcome : Carried Si
   pub answer_is : answer ≡ accepted_by (delivery_of (recorded old) outcome.node outcome.version)
   pub delivered : HasDelivery old new outcome.node outcome.version (delivery_of (recorded old) outcome.node outcome.version)
 
--- an outcome is delivered where it is vouched for, else refused, and nothing has changed
+-- an outcome is delivered if it is vouched for, else refused, and nothing has changed
 abbrev pub AcceptsVector : Delivered → State → State → Carried SixByTable SixSummary → Type 0
 AcceptsVector answer old new outcome = ((answer ≡ unaccepted 15) × (¬ Vouched old outcome) × (new ≡ old)) ⊎ Delivers answer old new outcome
 

@@ -1,4 +1,4 @@
-//! What stands in front of a piece of a series' scan: the fold of a range, which the series tells by each kind.
+//! The value that a piece of a series' scan starts from: the fold of the elements before the piece, which the series gives for each kind.
 ghost use Rattle.std.specs.Prelude.{◌≡◌, ℕ, ℤ, List, None};
 ghost use Rattle.lv_bodies.specs.Body.{fold_of};
 ghost use Rattle.lv_bodies.specs.declared.kinds.Kind.{Kind as AKind};
@@ -30,14 +30,14 @@ pub trait OfOneKind: Celled {
     fn own(part: KindSummary) -> Self::S
         ensures { result ≡ own_of part };
 
-    /// Of some elements it is their fold.
+    /// The own summary of some elements is the body's fold of them.
     ghost own_is: { (b : Self) (table : List (List ℕ)) (xs : List ℤ) → Self.fits b table →
         own_of (summary_by table its_kind xs) ≡ fold_of (Self.operations b) xs };
 }
 
-/// A body by which a range of a series is folded by the series' trees.
+/// A body that folds a range of a series by the series' trees.
 pub trait Begins: Celled {
-    /// The fold of a range that nothing refuses.
+    /// The fold of a range that the series doesn't reject.
     fn begun(&self, series: &Series, lo: u64, hi: u64) -> Self::S
         requires fits { Self.fits self.now series.now.table }
         requires granted { range_refused series.now.held lo hi ≡ None }
@@ -73,7 +73,7 @@ impl Begins for SixPairs {
     }
 }
 
-/// The cell of a range of a series that nothing refuses.
+/// The cell of a range that the series doesn't reject.
 pub fn cell_of<B: Begins>(series: &Series, lo: u64, hi: u64) -> B::Cell
     requires { range_refused series.now.held lo hi ≡ None }
     ensures { result ≡ B.plain_cell series.now.table (slice_of series.now.held lo hi) }

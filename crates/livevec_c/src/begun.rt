@@ -1,4 +1,4 @@
-//! New series, samples, sets of queries, and what is loaded: what has no parameter begins by one export.
+//! One export makes each object that has no parameter: a series, samples, a set of queries, or a loader.
 ghost use Rattle.std.specs.Prelude.{◌≡◌, IfOk};
 ghost use Rattle.livevec_c.specs.Begun.{Begins, IsBegun};
 
@@ -11,7 +11,7 @@ use crate::series_saved::new_loader;
 use crate::slots::{Slot, is_full, put};
 use std::alloc::{AllocError, Global};
 
-// What a number names, in a place of its own.
+// Makes the object that a number names, in a place of its own.
 fn new_object(alloc: Global, what: u32) -> Result<Box<Object>, AllocError>
     ensures { IfOk result (λ b. IsBegun what b.value) }
 {
@@ -23,8 +23,8 @@ fn new_object(alloc: Global, what: u32) -> Result<Box<Object>, AllocError>
     }
 }
 
-/// Puts what a number names into an empty slot: a series (0) or samples (1) with the program's automaton, what is loaded (2), or a set without
-/// queries (another number).
+/// Puts the object that a number names into an empty slot: a series (0) or samples (1) with the program's automaton, a loader (2), or a set without
+/// queries (any other number).
 #[unsafe(no_mangle)]
 pub extern "C" fn livevec_proved_begin(alloc: Global, slot: &mut Slot, what: u32) -> u32
     ensures { Begins what result slot.old.raw.inner slot.new.raw.inner }

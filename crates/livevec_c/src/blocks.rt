@@ -20,7 +20,7 @@ fn place_of(alloc: Global, batch: Batch<SixByTable>) -> Result<Box<Object>, Allo
     Ok(Box::new(alloc, Object::Batch(batch))?)
 }
 
-// Puts a batch into an empty slot, where it has jobs.
+// Puts a batch into an empty slot, if it has jobs.
 fn keep_copies(alloc: Global, batch: Batch<SixByTable>, slot: &mut Slot) -> Count
     requires empty { slot.old.raw.inner ≡ None }
     requires few { length batch < 2 ^ 32 }
@@ -89,8 +89,8 @@ fn copy_jobs(
     }
 }
 
-/// Copies each block that is whole and not fresh, of at most so many from one on, into an empty slot; or the elements of the subtree of that
-/// number, a node of level 4, where it is whole, and neither its first block nor its last is fresh. Nothing is claimed by it.
+/// Copies each block that is whole and not fresh, of at most `limit` blocks from one on, into an empty slot. Or it copies the elements of the
+/// subtree of that number, a node of level 4, if it is whole and neither its first block nor its last is fresh. Nothing is claimed by it.
 #[unsafe(no_mangle)]
 pub extern "C" fn livevec_proved_copy(
     alloc: Global,
@@ -116,7 +116,7 @@ pub extern "C" fn livevec_proved_copy(
     }
 }
 
-// Computes a batch of jobs: the number of the refusal, and what is there then.
+// Computes a batch of jobs. Returns 0 and the outcomes, or the number of the refusal and the jobs.
 fn run_batch(alloc: Global, batch: Batch<SixByTable>) -> (u32, Object)
     ensures { RunsBatch result.0 batch result.1 }
 {
@@ -126,7 +126,7 @@ fn run_batch(alloc: Global, batch: Batch<SixByTable>) -> (u32, Object)
     }
 }
 
-// Computes an object that is jobs of blocks, or the job of a subtree, the same way.
+// Computes an object that is jobs of blocks, or the job of a subtree. Returns any other object as it is, with a number.
 fn run_object(alloc: Global, object: Object) -> (u32, Object)
     ensures { RunsObject result.0 object result.1 }
 {
@@ -146,7 +146,7 @@ fn run_of(alloc: Global, object: &mut Object) -> u32
     answer
 }
 
-/// Computes a batch of jobs, or the job of a subtree. What they gave lies behind the slot then.
+/// Computes a batch of jobs, or the job of a subtree. The slot then holds the outcomes, or still the jobs if the call is refused.
 #[unsafe(no_mangle)]
 pub extern "C" fn livevec_proved_run_blocks(alloc: Global, batch: &mut Slot) -> u32
     ensures { RunsBlocks result batch.old.raw.inner batch.new.raw.inner }

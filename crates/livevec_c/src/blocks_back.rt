@@ -1,4 +1,4 @@
-//! What jobs of many blocks gave is taken in by a vector.
+//! How a vector takes in the outcomes of jobs of many blocks.
 ghost use Rattle.std.specs.Prelude.{◌≡◌};
 ghost use Rattle.livevec_c.specs.Blocks.{Takes, TakesBrought, TakesLive, TakesObject, TakesVector, taken_by, untaken};
 
@@ -10,7 +10,7 @@ use lv_bodies::SixByTable;
 use lv_live::{BatchOutcome, Batched};
 use std::alloc::Global;
 
-// What is told where nothing was taken in.
+// The answer if nothing was taken in.
 fn not_taken() -> Taken
     ensures { result ≡ untaken }
 {
@@ -43,7 +43,7 @@ fn take_in(vector: &mut KindVector, outcomes: &BatchOutcome<SixByTable>) -> Take
     taken_answer(vector.accept_batch(outcomes))
 }
 
-// Takes an object in at a vector, where it has the outcomes of a batch.
+// Takes an object in at a vector, if it is the outcomes of a batch.
 fn accept_vector(vector: &mut KindVector, brought: &Object) -> Taken
     ensures { TakesLive result vector.old vector.new brought.now }
 {
@@ -63,7 +63,7 @@ fn accept_of(object: &mut Object, brought: &Object) -> Taken
     }
 }
 
-// Takes what lies behind a slot in at an object. The slot is empty then, where it was taken in.
+// Takes in the object that a slot holds. The slot is empty afterwards if it was taken in.
 fn accept_from(alloc: Global, object: &mut Object, batch: &mut Slot) -> Taken
     ensures { TakesBrought result object.old object.new batch.old.raw.inner batch.new.raw.inner }
 {
@@ -81,7 +81,8 @@ fn accept_from(alloc: Global, object: &mut Object, batch: &mut Slot) -> Taken
     }
 }
 
-/// Takes the outcomes of a batch in, each where vetting says yes, and says what became of them. The batch's slot is empty then.
+/// Takes in the outcomes of a batch, each one if vetting says yes, and returns what became of them. The batch's slot is empty afterwards, unless
+/// the call was refused.
 #[unsafe(no_mangle)]
 pub extern "C" fn livevec_proved_accept_blocks(
     alloc: Global,

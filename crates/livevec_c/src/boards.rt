@@ -171,7 +171,7 @@ fn sit_at(board: &mut KindBoard) -> Result<KindSeat, Unseated>
     }
 }
 
-// What a slot without a seat answers.
+// The number for why nobody got a seat.
 fn unseated(why: Unseated) -> u32
     ensures { result ≡ seatless why }
 {
@@ -198,7 +198,7 @@ fn sit_board(alloc: Global, board: &mut KindBoard, seat: &mut Slot) -> u32
     }
 }
 
-// The same of an object.
+// Puts the first of the seats that are there into an empty slot, if the object is a board.
 fn sit_of(alloc: Global, object: &mut Object, seat: &mut Slot) -> u32
     requires { seat.old.raw.inner ≡ None }
     ensures { SitsObject result object.old object.new seat.new.raw.inner }

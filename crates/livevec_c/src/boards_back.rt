@@ -65,7 +65,7 @@ fn take_at(board: &mut KindBoard, seat: KindSeat) -> Result<(), KindSeat>
     }
 }
 
-// Takes back the seat that lay behind a slot, which is empty now, where it is one.
+// Takes back the object that was taken out of the seat's slot, if it is a seat of this board. Else it is put into the slot again.
 fn take_back_held(
     alloc: Global,
     board: &mut KindBoard,
@@ -94,7 +94,7 @@ fn take_back_held(
     }
 }
 
-// The same at an object, where it is a board.
+// Takes back the object that was taken out of the seat's slot, if the other object is a board that it is a seat of.
 fn take_back_by(alloc: Global, object: &mut Object, seat: &mut Slot, held: Box<Object>) -> u32
     requires empty { seat.old.raw.inner ≡ None }
     requires own { OwnStampBy object.old held.value }
@@ -109,7 +109,7 @@ fn take_back_by(alloc: Global, object: &mut Object, seat: &mut Slot, held: Box<O
     }
 }
 
-// The same at what lies behind the board's slot.
+// Takes back the object that was taken out of the seat's slot, if the board's slot holds a board that it is a seat of.
 fn take_back_from(alloc: Global, board: &mut Slot, seat: &mut Slot, held: Box<Object>) -> u32
     requires empty { seat.old.raw.inner ≡ None }
     requires own { OwnStampFrom board.old.raw.inner held.value }

@@ -1,4 +1,4 @@
-//! Questions by one kind, which cost that kind alone, or by all six.
+//! Queries by one kind, for which only that kind does work, or by all six.
 ghost use Rattle.std.specs.Prelude.{◌≡◌, nat_lt, IfOk, IfErr, Some};
 ghost use Rattle.livevec_c.specs.Kinds.{kind_at};
 ghost use Rattle.livevec_c.specs.Only.{is_asked_by};
@@ -35,7 +35,7 @@ fn value_of_vector(vector: &mut KindVector, kind: Kind, lo: u32, hi: u32) -> Red
     }
 }
 
-// The same by whichever kind. Sums are asked for most: where the kind is known to be that one, less is told apart.
+// A value of a vector by any kind. Sums are asked for most, and the code for a kind that is known has fewer cases to tell apart.
 fn value_by(vector: &mut KindVector, kind: Kind, lo: u32, hi: u32) -> Reduced
     ensures answer { result ≡ value_of kind lo hi vector.old }
     ensures same { vector.new ≡ vector.old }
@@ -46,7 +46,7 @@ fn value_by(vector: &mut KindVector, kind: Kind, lo: u32, hi: u32) -> Reduced
     }
 }
 
-// The same of a vector that is of one kind, or of all six.
+// A value of a vector that is of one kind or of all six, if it may be asked by this kind.
 fn value_asked(vector: &mut KindVector, only: Option<Kind>, kind: Kind, lo: u32, hi: u32) -> Reduced
     ensures answer { result ≡ value_asked (is_asked_by only (Some kind)) kind lo hi vector.old }
     ensures same { vector.new ≡ vector.old }
@@ -57,7 +57,7 @@ fn value_asked(vector: &mut KindVector, only: Option<Kind>, kind: Kind, lo: u32,
     value_by(vector, kind, lo, hi)
 }
 
-// The same of an object.
+// A value of an object, if it is a vector.
 fn value_of_object(object: &mut Object, kind: Kind, lo: u32, hi: u32) -> Reduced
     ensures answer { result ≡ object_value kind lo hi object.old }
     ensures same { object.new ≡ object.old }
@@ -68,7 +68,7 @@ fn value_of_object(object: &mut Object, kind: Kind, lo: u32, hi: u32) -> Reduced
     }
 }
 
-// The same of what lies behind a slot, by the kind of a number.
+// A value of the object in a slot, by the kind that a number names.
 #[inline(always)]
 fn value_held(alloc: Global, slot: &mut Slot, kind: u32, lo: u32, hi: u32) -> Reduced
     ensures answer { result ≡ value_behind (kind_at kind) lo hi slot.old.raw.inner }
@@ -86,8 +86,8 @@ fn value_held(alloc: Global, slot: &mut Slot, kind: u32, lo: u32, hi: u32) -> Re
     answer
 }
 
-/// The plain values of the elements of a range by all six kinds, each by its own tree or by the summaries that are kept; or the value by one
-/// kind, for which what is computed is kept by that kind alone.
+/// The plain values of the elements of a range by all six kinds, from each kind's tree or from the summaries that are kept; or the value by one
+/// kind. What is computed for that value is kept for its kind only.
 #[unsafe(no_mangle)]
 pub extern "C" fn livevec_proved_value(
     alloc: Global,

@@ -1,4 +1,4 @@
-//! How the summaries of each kind, and those of all six, stand in a column of the caller's: as cells that C has.
+//! How the summaries of each kind, and those of all six, are laid out in a column of the caller's: as cells that C knows.
 ghost use Rattle.std.specs.Prelude.{◌≡◌, ℕ, ℤ, List};
 ghost use Rattle.lv_bodies.specs.Automata.{table_of};
 ghost use Rattle.lv_bodies.specs.Body.{fold_of};
@@ -32,7 +32,7 @@ pub struct StatesCell {
     pub to: [u8; 8],
 }
 
-/// A body whose summaries stand in a column as cells.
+/// A body whose summaries are put into a column as cells.
 pub trait Celled: LongBody {
     type Cell: Copy;
 

@@ -8,10 +8,10 @@ use lv_bodies::{Kind, Shown};
 use lv_transcript::{Claimed, are_in_order};
 use std::alloc::Global;
 
-/// The number for recorded answers that don't rise by their edits.
+/// The number for recorded answers that are not in the order of their edits.
 pub const NOT_IN_ORDER: u32 = 115;
 
-/// The plain values that C gives, in the layout of those that it is given. What stands behind `any` isn't read.
+/// The plain values that C gives, in the layout of those that it is given. The bytes after `any` aren't read.
 #[repr(C)]
 #[derive(Clone, Copy)]
 pub struct GivenValues {
@@ -26,7 +26,7 @@ pub struct GivenValues {
     pub any: bool,
 }
 
-/// A reduction as it was answered: by which kind, over which range, at which edit, and the values, of which those of the kind count.
+/// A reduction as it was answered: by which kind, over which range, at which edit, and with which values. Only the values of that kind count.
 #[repr(C)]
 #[derive(Clone, Copy)]
 pub struct Recorded {
@@ -64,7 +64,7 @@ fn shown_in(kind: Kind, values: &GivenValues) -> Shown
     }
 }
 
-// The claim that a recorded answer is, where its kind is one.
+// A recorded answer as a claim, if its kind is one.
 fn claimed_of(answer: &Recorded) -> Option<Claimed>
     ensures { result ≡ claimed_of answer.now }
 {
@@ -80,7 +80,7 @@ fn claimed_of(answer: &Recorded) -> Option<Claimed>
     }
 }
 
-// The claims that recorded answers are, or the number for why there are none.
+// Recorded answers as claims, or the number for why there are none.
 fn claims_of(alloc: Global, answers: &[Recorded]) -> Result<Vec<Claimed>, u32>
     ensures { ClaimsAre answers.now (made_list result) }
 {
@@ -96,7 +96,7 @@ fn claims_of(alloc: Global, answers: &[Recorded]) -> Result<Vec<Claimed>, u32>
     Ok(claims)
 }
 
-/// The same, where they rise by their edits.
+/// Recorded answers as claims, if they are in the order of their edits; else the number for why there are none.
 pub fn claims_in_order(alloc: Global, answers: &[Recorded]) -> Result<Vec<Claimed>, u32>
     ensures { ClaimsInOrder answers.now (made_list result) }
 {

@@ -49,7 +49,7 @@ fn close_kind(alloc: Global, board: KindBoard) -> Result<Closed, (KindBoard, Unc
     }
 }
 
-// What a closed board is, behind a slot.
+// A closed board, as it is kept in a slot.
 fn ended(closed: Closed) -> Ended
     requires { length closed.elements ≤ 4088 }
     ensures { result.closed ≡ closed }
@@ -58,7 +58,7 @@ fn ended(closed: Closed) -> Ended
     Ended { closed, size }
 }
 
-// What a close that was refused answers.
+// The answer of a close that was refused.
 fn unclosed(why: Unclosed) -> Count
     ensures { result ≡ unclosed_for why }
 {
@@ -70,7 +70,7 @@ fn unclosed(why: Unclosed) -> Count
     Count { refusal, value: 0 }
 }
 
-// What lies behind the slot of a board after its close, and what that answers.
+// Closes a board. Returns the object for its slot, and the answer.
 fn close_board(alloc: Global, board: KindBoard) -> (Object, Count)
     ensures { ClosesBoard result.1 board result.0 }
 {
@@ -83,7 +83,7 @@ fn close_board(alloc: Global, board: KindBoard) -> (Object, Count)
     }
 }
 
-// What is left of an object that is closed, if it is a board, and what that answers.
+// Closes an object, if it is a board. Returns the object that is left, and the answer.
 fn close_object(alloc: Global, object: Object) -> (Object, Count)
     ensures { ClosesObject result.1 object result.0 }
 {

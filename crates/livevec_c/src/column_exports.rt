@@ -1,4 +1,4 @@
-//! The export that scans a vector: by one kind, or by all six at once, into the column of that.
+//! The export that scans a vector, by one kind or by all six at once, into the column that fits.
 ghost use Rattle.std.specs.Prelude.{◌≡◌, None, Some, length, if◌then◌else◌, ◌==◌};
 ghost use Rattle.lv_bodies.specs.Plain.{plain_sum};
 ghost use Rattle.lv_bodies.specs.declared.kinds.Kind.TheVariants as kinds;
@@ -13,8 +13,8 @@ use crate::values::PlainValues;
 use lv_bodies::{Affine, Automaton, Best, Greatest, Kind, Least, SixPairs, Sum};
 use std::alloc::Global;
 
-/// Puts what the beginnings of a range come to into a column, each with the element at its end or without it. A number says by which kind, or
-/// by all six (6), and so into which column: the others stay as they are.
+/// Puts the running values of a range into a column, each with the element at its end or without it. A number says by which kind, or that it is by
+/// all six (6), and so into which column. The other columns stay as they are.
 #[unsafe(no_mangle)]
 pub extern "C" fn livevec_proved_scan(
     alloc: Global,

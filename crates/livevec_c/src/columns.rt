@@ -17,7 +17,7 @@ use lv_live::Live;
 use lv_reduce::run_at;
 use std::alloc::Global;
 
-/// What a scan answers.
+/// The answer of a scan.
 #[repr(C)]
 #[derive(Clone, Copy)]
 pub struct Scanned {
@@ -27,7 +27,7 @@ pub struct Scanned {
     pub length: u32,
 }
 
-/// What a scan that was refused answers.
+/// The answer of a scan that was refused.
 pub fn not_scanned(refusal: u32, detail: u32) -> Scanned
     ensures { result ≡ unscanned refusal detail }
 {
@@ -39,7 +39,8 @@ pub fn not_scanned(refusal: u32, detail: u32) -> Scanned
     }
 }
 
-/// Puts the cells of the scan of some elements, from what stands before them, into a column from a place on. Gives what they lead to.
+/// Puts the cells of the scan of some elements into a column, from a place on. The scan starts from the summary of what comes before them. Returns
+/// the summary that it ends with.
 #[inline(always)]
 pub fn lay_run<B: Celled>(
     body: &B,
@@ -65,7 +66,8 @@ pub fn lay_run<B: Celled>(
     sum
 }
 
-// Puts the cells of one of the two scans of a range into a column of as many places, by runs of elements that lie side by side.
+// Puts the cells of one of the two scans of a range into a column that has exactly as many places. It goes by runs of elements that are next to
+// each other in memory.
 fn lay_range<B: Celled>(body: &B, inclusive: bool, history: &Edits, lo: u32, column: &mut [B::Cell])
     requires { lo + length column.old ≤ length (list_of history.now.journal) }
     ensures { column.new ≡ map B.cell_of (scan_of inclusive (B.operations body.now) (slice_of history.now.journal lo (lo + length column.old))) }
@@ -83,7 +85,7 @@ fn lay_range<B: Celled>(body: &B, inclusive: bool, history: &Edits, lo: u32, col
     }
 }
 
-// The same into the front of a column that has as many places or more. What it has behind stays.
+// Puts the cells of a scan of a range at the start of a column that has at least as many places. The places after them keep what they have.
 fn lay_front<B: Celled>(
     body: &B,
     inclusive: bool,
@@ -130,7 +132,7 @@ fn scan_live<B: Celled>(
     }
 }
 
-// A scan of a vector, where that may be asked so.
+// A scan of a vector, if the vector may be asked so.
 fn scan_asked<B: Celled>(
     live: &Live<SixByTable>,
     may: bool,
@@ -169,7 +171,7 @@ fn scan_object<B: Celled>(
     }
 }
 
-/// A scan of what lies behind a slot, by a kind, or by all six.
+/// A scan of the object in a slot, by a kind or by all six.
 pub fn scan_held<B: Celled>(
     alloc: Global,
     slot: &mut Slot,

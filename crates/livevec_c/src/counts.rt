@@ -1,4 +1,4 @@
-//! How many there are of what a number names, in a vector, a series, samples or a closed board.
+//! Counts of a vector, a series, samples or a closed board. A number names which one is meant.
 ghost use Rattle.std.specs.Prelude.{◌≡◌, [], ◌∷◌, length, slice_get};
 ghost use Rattle.livevec_c.specs.Counts.{count_behind, count_of, counted, counts_of, series_counts, vector_counts};
 
@@ -20,7 +20,7 @@ pub struct LongCount {
     pub value: u64,
 }
 
-// What a number names of a vector: its elements, those that fit into its memory, or its edits.
+// The count of a vector that a number names: its elements, those that fit into its memory, or its edits.
 fn count_of_vector(live: &Live<SixByTable>, what: u32) -> Option<u64>
     ensures { result ≡ slice_get (vector_counts live.now) what }
 {
@@ -32,7 +32,7 @@ fn count_of_vector(live: &Live<SixByTable>, what: u32) -> Option<u64>
     }
 }
 
-// Of a series: the first index that is kept, the one behind the last, its edits, or the bytes that it is saved as.
+// The count of a series that a number names: the first index that is kept, the one after the last, its edits, or the bytes that it is saved as.
 fn count_of_series(series: &Series, saved: u64, what: u32) -> Option<u64>
     ensures { result ≡ slice_get (series_counts series.now saved) what }
 {
@@ -45,7 +45,7 @@ fn count_of_series(series: &Series, saved: u64, what: u32) -> Option<u64>
     }
 }
 
-// Of what has so many elements.
+// The count that a number names, of an object that has only a number of elements.
 fn count_of_elements(size: u32, what: u32) -> Option<u64>
     ensures { result ≡ slice_get (size ∷ []) what }
 {
@@ -55,7 +55,7 @@ fn count_of_elements(size: u32, what: u32) -> Option<u64>
     }
 }
 
-// Of an object.
+// The count of an object that a number names.
 fn count_in(object: &Object, what: u32) -> Option<u64>
     ensures { result ≡ slice_get (counts_of object.now) what }
 {
@@ -70,7 +70,7 @@ fn count_in(object: &Object, what: u32) -> Option<u64>
     }
 }
 
-// The same, if the object is of this sort.
+// The count of an object that a number names, if the object is of this sort.
 fn count_of(object: &Object, sort: u32, what: u32) -> Option<u64>
     ensures { result ≡ count_of sort what object.now }
 {
@@ -81,7 +81,7 @@ fn count_of(object: &Object, sort: u32, what: u32) -> Option<u64>
     }
 }
 
-// Its answer.
+// The answer for a count, or for none.
 fn count_answer(count: Option<u64>) -> LongCount
     ensures { result ≡ counted count }
 {
@@ -94,7 +94,7 @@ fn count_answer(count: Option<u64>) -> LongCount
     }
 }
 
-/// How many there are of what a number names, in an object of this sort.
+/// The count that a number names, of an object of this sort.
 #[unsafe(no_mangle)]
 pub extern "C" fn livevec_proved_count(
     alloc: Global,

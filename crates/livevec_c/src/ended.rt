@@ -24,7 +24,7 @@ impl Ended {
         }
     }
 
-    /// Why the range from index `lo` up to `hi` is refused, `BadRange` before `OutOfRange`; nothing where it isn't.
+    /// Why the range from index `lo` up to `hi` is refused, `BadRange` before `OutOfRange`; nothing if it isn't.
     pub fn range_refusal(&self, lo: u32, hi: u32) -> Option<Refusal>
         ensures value { result ≡ range_refusal_in self.now.closed.elements lo hi }
         ensures order { IfNone result (lo ≤ hi) }

@@ -6,7 +6,7 @@ use lv_edits::Edit;
 use lv_machine::Call;
 use lv_series::LongEdit;
 
-/// The edit of a vector that a number is of, nothing where it is no number of these.
+/// The edit of a vector that a number names, or nothing if it names none.
 #[inline(always)]
 pub fn edit_of(what: u32, index: u32, second: u32, value: i64) -> Option<Edit>
     ensures { result ≡ edit_at what index second value }
@@ -25,7 +25,7 @@ pub fn edit_of(what: u32, index: u32, second: u32, value: i64) -> Option<Edit>
     }
 }
 
-/// The same of a series.
+/// The edit of a series that a number names, or nothing if it names none.
 #[inline(always)]
 pub fn long_edit_of(what: u32, index: u64, second: u64, value: i64) -> Option<LongEdit>
     ensures { result ≡ long_edit_at what index second value }
@@ -44,7 +44,7 @@ pub fn long_edit_of(what: u32, index: u64, second: u64, value: i64) -> Option<Lo
     }
 }
 
-/// The call of a seat that a number is of, nothing where it is no number of these.
+/// The call of a seat that a number names, or nothing if it names none.
 pub fn seat_call_of(what: u32, index: u32, value: i64) -> Option<Call>
     ensures { result ≡ seat_call_at what index value }
 {

@@ -1,4 +1,4 @@
-//! How what lies behind a slot ends: a free is of one sort of object, and of no other.
+//! How the object in a slot ends: a free is of one sort of object, and of no other.
 ghost use Rattle.std.specs.Prelude.{◌≡◌};
 ghost use Rattle.livevec_c.specs.Frees.{free_number, left_by_free, sort_of};
 
@@ -26,7 +26,7 @@ pub fn sort_of(object: &Object) -> u32
     }
 }
 
-/// Frees what lies behind a slot, and empties it, if it is of this sort.
+/// Frees the object in a slot and empties the slot, if the object is of this sort.
 #[unsafe(no_mangle)]
 pub extern "C" fn livevec_proved_free(alloc: Global, slot: &mut Slot, sort: u32) -> u32
     ensures number { result ≡ free_number sort slot.old.raw.inner }

@@ -12,7 +12,7 @@ use lv_bodies::Automaton;
 use lv_geometry::{Limits, Node};
 use std::alloc::Global;
 
-/// What a claim answers.
+/// The answer of a claim.
 #[repr(C)]
 #[derive(Clone, Copy)]
 pub struct ClaimedJob {
@@ -102,7 +102,7 @@ pub extern "C" fn livevec_proved_forget(alloc: Global, slot: &mut Slot) -> u32
     }
 }
 
-// What a claim answers that found no job, or was refused.
+// The answer of a claim that found no job, or was refused.
 fn not_claimed(refusal: u32) -> ClaimedJob
     ensures { result ≡ unclaimed refusal }
 {
@@ -115,7 +115,7 @@ fn not_claimed(refusal: u32) -> ClaimedJob
     }
 }
 
-// What a claim answers that found a job.
+// The answer of a claim that found a job.
 fn claim_answer(node: Node, version: u32) -> ClaimedJob
     ensures { result ≡ claimed_by node version }
 {
@@ -174,7 +174,7 @@ fn claim_of(alloc: Global, object: &mut Object, job: &mut Slot) -> ClaimedJob
     }
 }
 
-/// Puts a job for the least node that wants one into an empty slot.
+/// Puts a job for the least node that needs one into an empty slot.
 #[unsafe(no_mangle)]
 pub extern "C" fn livevec_proved_claim(alloc: Global, slot: &mut Slot, job: &mut Slot) -> ClaimedJob
     ensures { Claims result slot.old.raw.inner job.old.raw.inner slot.new.raw.inner job.new.raw.inner }
@@ -192,7 +192,7 @@ pub extern "C" fn livevec_proved_claim(alloc: Global, slot: &mut Slot, job: &mut
     }
 }
 
-// Computes an object that is a job; says whether it is one.
+// Computes an object that is a job, and returns whether it is one.
 fn run_of(object: &mut Object) -> bool
     ensures { RunsObject result object.old object.new }
 {
@@ -206,7 +206,7 @@ fn run_of(object: &mut Object) -> bool
     }
 }
 
-/// Computes a job. Its outcome lies behind the other slot then.
+/// Computes a job. Its outcome is then in the other slot.
 #[unsafe(no_mangle)]
 pub extern "C" fn livevec_proved_run(alloc: Global, job: &mut Slot, outcome: &mut Slot) -> u32
     ensures { Runs result job.old.raw.inner outcome.old.raw.inner job.new.raw.inner outcome.new.raw.inner }

@@ -1,4 +1,4 @@
-//! A vector for C: a live one of all six kinds, and beside it what is kept by one kind at a time.
+//! A vector for C: a live one of all six kinds, and what is kept for queries by one kind at a time.
 ghost use Rattle.std.specs.Prelude.{◌≡◌, ◌↔◌, ◌≤◌, ◌<◌, IsTrue, true, false, ◌-◌, None, [], length, option_map, IfOk, IfErr, IfSome, Some};
 ghost use Rattle.lv_geometry.specs.declared.nodes.Node.{Node};
 ghost use Rattle.lv_bodies.specs.Automata.{table_of};
@@ -31,8 +31,7 @@ use lv_tree::{Bound, KindAnswer, Kinds, Placed, Run};
 use std::alloc::Global;
 use std::marker::Model;
 
-/// A live vector, its limits, and what it keeps of what it was asked by one kind. Contracts see the live vector alone: what is kept
-/// beside it changes no answer.
+/// A live vector, its limits, and what it keeps for queries by one kind. Contracts see only the live vector, since what is kept changes no answer.
 #[derive(Drop)]
 pub struct KindVector {
     limits: Limits,
@@ -91,7 +90,7 @@ impl KindVector {
         ensures limits { IsLegalInLimits self.new.history }
         ensures refresh { SameRefresh self.old self.new }
     {
-        // So that it is known to be within its limits where it is refused too.
+        // This makes it known that the vector is within its limits, also if the edit is refused.
         self.live.keeps();
         match self.live.verdict(&edit) {
             Some(refusal) => Err(refusal),
@@ -115,8 +114,8 @@ impl KindVector {
         answer
     }
 
-    /// Pushes values in order, all of them or none, and tells the number of the last edit. Refused as the first push that would be
-    /// refused, else with `NoMemory`, and nothing has changed then.
+    /// Pushes values in order, all of them or none, and returns the number of the last edit. Refused as the first push that would be refused, else
+    /// with `NoMemory`, and nothing has changed then.
     pub fn push_all(&mut self, values: &[i64]) -> Result<u32, Refusal>
         ensures answer { AnswersAll self.old.history values.now result self.new.history }
         ensures limits { IsLegalInLimits self.new.history }
@@ -140,8 +139,8 @@ impl KindVector {
         answer
     }
 
-    /// The summary by a kind of the elements from index `lo` up to `hi`, with the number of the last edit. That kind alone follows the
-    /// edits that it hasn't followed yet. Refused with `BadRange`, then `OutOfRange`. Takes no memory.
+    /// The summary by a kind of the elements from index `lo` up to `hi`, with the number of the last edit. Only that kind follows the edits that it
+    /// hasn't followed yet. Refused with `BadRange`, then `OutOfRange`. Takes no memory.
     #[inline(always)]
     pub fn value(&mut self, kind: Kind, lo: u32, hi: u32) -> Result<KindAnswer, Refusal>
         ensures ok { IfOk result (λ answer. IsKindAnswer (table_of self.old.body.automaton) self.old.history.journal kind lo hi answer) }
@@ -153,7 +152,7 @@ impl KindVector {
         self.kinds.ask(self.live.view().cells, kind, lo, hi)
     }
 
-    /// The first of the least elements of a range, and where it stands; none of an empty range. Asked and refused as `value`.
+    /// The first of the least elements of a range, with its index; none of an empty range. Asked and refused as `value`.
     pub fn first_least(&mut self, lo: u32, hi: u32) -> Result<Option<Placed>, Refusal>
         ensures ok { IfOk result (λ place. IsPlaceOfLeast (list_of self.old.history.journal) lo hi place) }
         ensures granted { IfOk result (λ _. range_refusal self.old.history.journal lo hi ≡ None) }
@@ -163,7 +162,7 @@ impl KindVector {
         lv_tree::first_least(self.live.view().cells, &mut self.kinds, lo, hi)
     }
 
-    /// The first of the greatest elements, the same way.
+    /// The first of the greatest elements of a range, with its index; none of an empty range. Asked and refused as `value`.
     pub fn first_greatest(&mut self, lo: u32, hi: u32) -> Result<Option<Placed>, Refusal>
         ensures ok { IfOk result (λ place. IsPlaceOfGreatest (list_of self.old.history.journal) lo hi place) }
         ensures granted { IfOk result (λ _. range_refusal self.old.history.journal lo hi ≡ None) }
@@ -213,7 +212,7 @@ impl KindVector {
         lv_tree::first_index(self.live.view().cells, &mut self.kinds, bound, lo, hi)
     }
 
-    /// The last one, the same way.
+    /// The last index of a range whose element is within a bound, or none. Asked and refused as `value`.
     pub fn last_index(&mut self, bound: Bound, lo: u32, hi: u32) -> Result<Option<u32>, Refusal>
         ensures ok { IfOk result (λ place. IsLastIndex bound (list_of self.old.history.journal) lo hi place) }
         ensures granted { IfOk result (λ _. range_refusal self.old.history.journal lo hi ≡ None) }
@@ -223,7 +222,7 @@ impl KindVector {
         lv_tree::last_index(self.live.view().cells, &mut self.kinds, bound, lo, hi)
     }
 
-    /// Does jobs in place, the least first, at most so many, and tells how many.
+    /// Does jobs in place, the least first, at most `jobs` of them, and returns how many it did.
     pub fn refresh(&mut self, jobs: u32) -> u32
         ensures turns { TakesTurns (six_operations_by (table_of self.old.body.automaton)) self.old self.new result }
         ensures most { result ≤ jobs }
@@ -232,7 +231,7 @@ impl KindVector {
         self.live.refresh(jobs)
     }
 
-    /// A job for the least node that wants one, or none. Takes no memory.
+    /// A job for the least node that needs one, or none. Takes no memory.
     pub fn claim(&mut self) -> Option<Job<SixByTable>>
         ensures next { IsNextJob (recorded self.old) (option_map node_and_version result) }
         ensures claimed { HasClaim self.old self.new (option_map node_and_version result) }
@@ -267,7 +266,7 @@ impl KindVector {
         self.live.accept(outcome)
     }
 
-    /// Takes each outcome in, in order, as `accept` would where `vet` says yes; one of another vector changes nothing. Takes no memory.
+    /// Takes in the outcomes, in order, each one as `accept` would, if `vet` says yes. One of another vector changes nothing. Takes no memory.
     pub fn accept_batch(&mut self, outcomes: &BatchOutcome<SixByTable>) -> Batched
         ensures delivers { DeliversEach (six_operations_by (table_of self.old.body.automaton)) (λ body. table_of self.old.body.automaton ≡ table_of body.automaton) outcomes.now self.old self.new result }
         ensures body { self.new.body ≡ self.old.body }
@@ -276,8 +275,8 @@ impl KindVector {
         self.live.accept_batch(outcomes)
     }
 
-    /// Takes a subtree in, where the elements that it is of stand here still: then it tells yes, and the outcome is spent. Else nothing has
-    /// changed. Takes no memory.
+    /// Takes a subtree in, if it wasn't taken in yet and the vector still has the elements that it was computed from. Then it returns yes, and the
+    /// outcome is spent. Otherwise nothing has changed. Takes no memory.
     pub fn accept_subtree(&mut self, outcome: &mut SubtreeOutcome<SixByTable>) -> bool
         ensures answer { IsTrue result ↔ CanTake (λ body. table_of self.old.body.automaton ≡ table_of body.automaton) self.old.history.journal outcome.old }
         ensures kept { result ≡ true → IfSome outcome.old (λ copied. HasSubtree self.old self.new copied.number) }

@@ -1,4 +1,4 @@
-//! What the values that C sees are, in plain words.
+//! A law that states what the values are that C sees.
 ghost use Rattle.std.specs.Prelude.{◌≡◌, ℕ, ℤ, List};
 ghost use Rattle.lv_bodies.specs.Body.{fold_of};
 ghost use Rattle.lv_bodies.specs.Six.{six_operations_by};

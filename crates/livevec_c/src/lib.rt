@@ -1,4 +1,4 @@
-//! The vector for C: each export restates the contract of the library's own call, on what lies behind a slot.
+//! The vector for C. Each export has the contract of the library's own call, for the object in a slot.
 #![tactic(auto)]
 
 mod beginnings;

@@ -55,7 +55,7 @@ fn open(
     }
 }
 
-// The same with an automaton of a table that may have a wrong entry.
+// Puts a new vector into an empty slot, with an automaton of a table that may have a wrong entry.
 fn open_with(
     alloc: Global,
     slot: &mut Slot,
@@ -72,7 +72,7 @@ fn open_with(
     }
 }
 
-// The same, or with the program's.
+// Puts a new vector into an empty slot, with an automaton of such a table or with the program's.
 fn open_by(
     alloc: Global,
     slot: &mut Slot,
@@ -91,7 +91,7 @@ fn open_by(
     }
 }
 
-/// Puts a new vector into an empty slot, of all six kinds or of the one of a number. Its automaton is the program's, or has this table.
+/// Puts a new vector into an empty slot, of all six kinds or of the one that a number names. Its automaton is the program's, or has this table.
 #[unsafe(no_mangle)]
 pub extern "C" fn livevec_proved_new(
     alloc: Global,

@@ -1,4 +1,4 @@
-//! What lies behind a slot.
+//! The objects that a slot can hold.
 ghost use Rattle.std.specs.Prelude.{◌≡◌};
 
 use crate::ended::Ended;
@@ -15,7 +15,7 @@ use lv_series::{Samples, Series};
 use std::alloc::Global;
 use std::mem;
 
-/// What a slot holds for C: one of these.
+/// An object that a slot holds for C.
 #[derive(Drop)]
 pub enum Object {
     /// A vector, and the one kind that it is of, if it is of one.

@@ -38,7 +38,7 @@ pub fn may_ask(only: Option<Kind>, asked: Option<Kind>) -> bool
     }
 }
 
-/// What a vector is to be of: all six kinds, or the one of a number; nothing where it is no number of these.
+/// The kinds of a new vector: all six, or the one that a number names; nothing if it names none.
 pub fn only_of(six: bool, kind: u32) -> Option<Option<Kind>>
     ensures { result ≡ only_asked six kind }
 {

@@ -14,7 +14,7 @@ use lv_refresh::Outcome;
 use lv_summary::Accepted;
 use std::alloc::Global;
 
-// What vetting answers where a slot does not hold what it should.
+// The answer of vetting if a slot does not hold what it should.
 fn not_vetted() -> Vetted
     ensures { result ≡ unvetted }
 {
@@ -47,7 +47,7 @@ fn vet_of(object: &Object, brought: &Object) -> Vetted
     }
 }
 
-// Whether an object would accept what lies behind a slot.
+// Whether an object would accept the one in a slot.
 fn vet_with(alloc: Global, object: &Object, outcome: &mut Slot) -> Vetted
     ensures answer { VetsWith result object.now outcome.old.raw.inner }
     ensures same { outcome.new.raw.inner ≡ outcome.old.raw.inner }
@@ -79,7 +79,7 @@ pub extern "C" fn livevec_proved_vet(alloc: Global, slot: &mut Slot, outcome: &m
     }
 }
 
-// What a delivery answers that was refused.
+// The answer of a delivery that was refused.
 fn not_accepted(refusal: u32) -> Delivered
     ensures { result ≡ unaccepted refusal }
 {
@@ -90,7 +90,7 @@ fn not_accepted(refusal: u32) -> Delivered
     }
 }
 
-// What a delivery answers.
+// The answer of a delivery that was accepted.
 fn delivery_answer(accepted: Accepted) -> Delivered
     ensures { result ≡ accepted_by accepted }
 {
@@ -138,7 +138,7 @@ fn accept_of(object: &mut Object, brought: &Object) -> Delivered
     }
 }
 
-// Delivers what lies behind a slot to an object.
+// Delivers the object in a slot to another.
 fn accept_with(alloc: Global, object: &mut Object, outcome: &mut Slot) -> Delivered
     ensures answer { AcceptsWith result object.old object.new outcome.old.raw.inner }
     ensures same { outcome.new.raw.inner ≡ outcome.old.raw.inner }
@@ -153,7 +153,7 @@ fn accept_with(alloc: Global, object: &mut Object, outcome: &mut Slot) -> Delive
     }
 }
 
-/// Delivers an outcome, where vetting says yes. The outcome stays as it is.
+/// Delivers an outcome, if vetting says yes. The outcome stays in its slot as it is.
 #[unsafe(no_mangle)]
 pub extern "C" fn livevec_proved_accept(
     alloc: Global,

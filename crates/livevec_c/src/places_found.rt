@@ -1,4 +1,4 @@
-//! Where in a range of a vector something stands.
+//! Searches of a range of a vector, which return where something is.
 ghost use Rattle.std.specs.Prelude.{◌≡◌, ◌<◌, IfSome};
 ghost use Rattle.lv_geometry.specs.Numbers.{number_of};
 ghost use Rattle.livevec_c.specs.Answers.{detail_of};
@@ -17,7 +17,7 @@ use lv_geometry::Refusal;
 use lv_tree::{Bound, Placed, Run};
 use std::alloc::Global;
 
-/// Where something stands in a range.
+/// What a search of a range returns.
 #[repr(C)]
 #[derive(Clone, Copy)]
 pub struct Found {
@@ -32,7 +32,7 @@ pub struct Found {
     pub found: bool,
 }
 
-// What a search that was refused answers.
+// The answer of a search that was refused.
 fn not_found(refusal: u32, detail: u32) -> Found
     ensures { result ≡ unfound refusal detail }
 {
@@ -49,14 +49,14 @@ fn not_found(refusal: u32, detail: u32) -> Found
     }
 }
 
-// What a search that the library refused answers.
+// The answer of a search that the library refused.
 fn refused(refusal: Refusal) -> Found
     ensures { result ≡ unfound (number_of refusal) (detail_of refusal) }
 {
     not_found(refusal.number(), detail(refusal))
 }
 
-// What a search that found nothing answers.
+// The answer of a search that found nothing.
 fn none_found(edit: u32) -> Found
     ensures { result ≡ nowhere edit }
 {
@@ -65,7 +65,7 @@ fn none_found(edit: u32) -> Found
     answer
 }
 
-// Where an element of a range that ends at `hi` stands.
+// The answer of a search for an element, in a range that ends at `hi`.
 fn element_found(edit: u32, hi: u32, place: Option<Placed>) -> Found
     requires { IfSome place (λ p. p.index < hi) }
     ensures { result ≡ placed_at edit place }
@@ -80,7 +80,7 @@ fn element_found(edit: u32, hi: u32, place: Option<Placed>) -> Found
     answer
 }
 
-// Where a run stands.
+// The answer of a search for a run.
 fn run_found(edit: u32, run: Option<Run>) -> Found
     ensures { result ≡ run_at edit run }
 {
@@ -94,7 +94,7 @@ fn run_found(edit: u32, run: Option<Run>) -> Found
     answer
 }
 
-// A part of a range.
+// The answer of a search that found a part of a range.
 fn part_found(edit: u32, lo: u32, hi: u32) -> Found
     ensures { result ≡ part_at edit lo hi }
 {
@@ -105,7 +105,7 @@ fn part_found(edit: u32, lo: u32, hi: u32) -> Found
     answer
 }
 
-// Where a sum is reached from the start of a range on.
+// The answer of a search for the end up to which the elements from the range's start on reach a sum.
 fn end_found(edit: u32, lo: u32, end: Option<u32>) -> Found
     ensures { result ≡ end_at edit lo end }
 {
@@ -115,7 +115,7 @@ fn end_found(edit: u32, lo: u32, end: Option<u32>) -> Found
     }
 }
 
-// Where a sum is reached up to the end of a range.
+// The answer of a search for the start from which on the elements up to the range's end reach a sum.
 fn start_found(edit: u32, hi: u32, start: Option<u32>) -> Found
     ensures { result ≡ start_at edit hi start }
 {
@@ -125,7 +125,7 @@ fn start_found(edit: u32, hi: u32, start: Option<u32>) -> Found
     }
 }
 
-// Where an element within a bound stands, in a range that ends at `hi`.
+// The answer of a search for an element within a bound, in a range that ends at `hi`.
 fn index_found(edit: u32, hi: u32, index: Option<u32>) -> Found
     requires { IfSome index (λ i. i < hi) }
     ensures { result ≡ index_at edit index }
@@ -213,7 +213,7 @@ fn find_last(vector: &mut KindVector, lo: u32, hi: u32, bound: Bound) -> Found
     }
 }
 
-// What is looked for in a range of a vector.
+// Searches a range of a vector for what is wanted.
 fn find_in(vector: &mut KindVector, wanted: Wanted, lo: u32, hi: u32) -> Found
     ensures answer { FindsVector wanted lo hi result vector.old }
     ensures same { vector.new ≡ vector.old }
@@ -229,7 +229,7 @@ fn find_in(vector: &mut KindVector, wanted: Wanted, lo: u32, hi: u32) -> Found
     }
 }
 
-// The same, where the vector may be asked by the kind.
+// Searches a range of a vector, if the vector may be asked by the kind that the search needs.
 fn find_asked(vector: &mut KindVector, asked: bool, wanted: Wanted, lo: u32, hi: u32) -> Found
     ensures answer { FindsAsked asked wanted lo hi result vector.old }
     ensures same { vector.new ≡ vector.old }
@@ -240,7 +240,7 @@ fn find_asked(vector: &mut KindVector, asked: bool, wanted: Wanted, lo: u32, hi:
     find_in(vector, wanted, lo, hi)
 }
 
-// What is looked for in a range of an object.
+// Searches a range of an object, if it is a vector.
 fn find_of(object: &mut Object, wanted: Wanted, lo: u32, hi: u32) -> Found
     ensures answer { FindsObject wanted lo hi result object.old }
     ensures same { object.new ≡ object.old }
@@ -254,7 +254,7 @@ fn find_of(object: &mut Object, wanted: Wanted, lo: u32, hi: u32) -> Found
     }
 }
 
-/// Where something stands in a range of a vector: what, a number says, with what it is compared with.
+/// Searches a range of a vector. A number says for what, and `x` is what this is compared with.
 #[unsafe(no_mangle)]
 pub extern "C" fn livevec_proved_find(
     alloc: Global,

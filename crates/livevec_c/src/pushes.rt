@@ -9,7 +9,7 @@ use crate::writes::{Many, not_written, write_at_object};
 use lv_geometry::Refusal;
 use std::alloc::Global;
 
-// What pushes answer, by what the library does.
+// The answer of pushes, by what the library does.
 fn pushes_answer(values: &[i64], answer: Result<u32, Refusal>) -> Many
     ensures { result ≡ pushed_by (length values.now) answer }
 {

@@ -20,8 +20,8 @@ const MOST: usize = 64;
 // The number for a name that no question has, as the library has it.
 const NO_SUCH_NAME: u32 = 11;
 
-/// Queries by name, in the order in which they were named, and what each was told last. A question that wasn't told of counts as told
-/// its answer of no elements. Contracts don't see what the questions were answered and not told.
+/// Queries by name, in the order in which they were named, and the answer of each that was reported last. Before the first report of a question,
+/// its answer of no elements counts as reported. Contracts don't see answers that weren't reported.
 #[derive(Drop)]
 pub struct Queries {
     set: QuerySet<SetQuery>,
@@ -87,7 +87,7 @@ impl Queries {
         self.set.queries()
     }
 
-    // The first question that may not be asked of what is of one kind, or of all six, and has times or not, if there is one.
+    // The first question, if there is one, that may not be asked of something that is of one kind or of all six, and has times or not.
     fn first_refused(&self, only: Option<Kind>, timed: bool) -> Option<usize>
         ensures place { result ≡ first_refused only timed self.now.questions }
         ensures few { IfSome result (λ place. place < 64) }
@@ -96,7 +96,7 @@ impl Queries {
         questions.position(|q| !q.may_be_asked(only, timed))
     }
 
-    // Tells of each question, in order, of whose answer a note is due, where there is room for all notes.
+    // Reports each question, in order, for whose answer a note is due, if there is room for all notes.
     fn tell<A: Target>(&mut self, asked: &mut A, notes: &mut [Note]) -> Noted
         ensures told { Tells self.old self.new (A.seen asked.old) notes.old notes.new result }
         ensures same { asked.new ≡ asked.old }
@@ -118,7 +118,8 @@ impl Queries {
         }
     }
 
-    /// The same where all of them may be asked of it: of what is of one kind, or of all six, and has times or not.
+    /// Reports each question for whose answer a note is due, if all questions may be asked: of something that is of one kind or of all six, and has
+    /// times or not.
     pub fn tell_asked<A: Target>(
         &mut self,
         asked: &mut A,

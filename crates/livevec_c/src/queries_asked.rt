@@ -1,4 +1,4 @@
-//! Standing queries: their answers, and notes of those whose answer is another than they were told.
+//! Standing queries: their answers, and the notes of those for whose answer one is due.
 ghost use Rattle.std.specs.Prelude.{◌≡◌, None, false, option_map, true};
 ghost use Rattle.lv_script.specs.Values.{without_trees};
 ghost use Rattle.livevec_c.specs.Queried.{TellsAll, TellsBehind, TellsBy, TellsObject, TellsUnless, answered, answered_behind, answered_if, first_refused, found_behind, found_in, object_answered, question_of};
@@ -29,7 +29,7 @@ fn find_in(object: &Object, name: &Name) -> Result<SetQuery, u32>
     }
 }
 
-// The question of a name at what lies behind a slot.
+// The question of a name in the set that a slot holds.
 fn find_held(alloc: Global, slot: &mut Slot, name: &Name) -> Result<SetQuery, u32>
     ensures found { result ≡ found_behind name.now slot.old.raw.inner }
     ensures same { slot.new.raw.inner ≡ slot.old.raw.inner }
@@ -44,7 +44,7 @@ fn find_held(alloc: Global, slot: &mut Slot, name: &Name) -> Result<SetQuery, u3
     }
 }
 
-// The same of bytes that may be a name.
+// The question that some bytes name in the set that a slot holds, if they are a name.
 fn question_of(alloc: Global, slot: &mut Slot, name: &[u8]) -> Result<SetQuery, u32>
     ensures found { result ≡ question_of name.now slot.old.raw.inner }
     ensures same { slot.new.raw.inner ≡ slot.old.raw.inner }
@@ -55,7 +55,7 @@ fn question_of(alloc: Global, slot: &mut Slot, name: &[u8]) -> Result<SetQuery, 
     }
 }
 
-// What a question is answered by a series, by the trees that there are.
+// The answer of a series to a question, from the trees that there are.
 fn answer_kept(series: &Series, question: &SetQuery) -> SeriesReduced
     ensures { result ≡ answered_if (is_asked None false question.now.query) question.now (seen_series series.now) }
 {
@@ -63,7 +63,7 @@ fn answer_kept(series: &Series, question: &SetQuery) -> SeriesReduced
     answer_asked(&mut asked, None, false, question)
 }
 
-// The same, once its kind has a tree.
+// The answer of a series to a question. A tree of its kind is made first if there is none, and memory for it.
 fn answer_series(series: &mut Series, question: &SetQuery) -> SeriesReduced
     ensures answer { result ≡ answered_if (is_asked None false question.now.query) question.now (seen_series series.old) }
     ensures same { without_trees series.new ≡ without_trees series.old }
@@ -72,7 +72,7 @@ fn answer_series(series: &mut Series, question: &SetQuery) -> SeriesReduced
     answer_kept(series, question)
 }
 
-// What a question is answered by samples, by the trees that there are.
+// The answer of samples to a question, from the trees that there are.
 fn answer_taken(samples: &Samples, question: &SetQuery) -> SeriesReduced
     ensures { result ≡ answered_if (is_asked None true question.now.query) question.now (seen_samples samples.now) }
 {
@@ -80,7 +80,7 @@ fn answer_taken(samples: &Samples, question: &SetQuery) -> SeriesReduced
     answer_asked(&mut asked, None, true, question)
 }
 
-// The same, once its kind has a tree.
+// The answer of samples to a question. A tree of its kind is made first if there is none, and memory for it.
 fn answer_samples(samples: &mut Samples, question: &SetQuery) -> SeriesReduced
     ensures answer { result ≡ answered_if (is_asked None true question.now.query) question.now (seen_samples samples.old) }
     ensures same { seen_samples samples.new ≡ seen_samples samples.old }
@@ -89,7 +89,7 @@ fn answer_samples(samples: &mut Samples, question: &SetQuery) -> SeriesReduced
     answer_taken(samples, question)
 }
 
-// What a question is answered by an object.
+// The answer of an object to a question.
 fn answer_object(object: &mut Object, question: &SetQuery) -> SeriesReduced
     ensures answer { result ≡ object_answered question.now object.old }
     ensures same { bare object.new ≡ bare object.old }
@@ -102,7 +102,7 @@ fn answer_object(object: &mut Object, question: &SetQuery) -> SeriesReduced
     }
 }
 
-// What a question is answered by what lies behind a slot.
+// The answer of the object in a slot to a question.
 fn answer_held(alloc: Global, slot: &mut Slot, question: &SetQuery) -> SeriesReduced
     ensures answer { result ≡ answered_behind question.now slot.old.raw.inner }
     ensures same { option_map bare slot.new.raw.inner ≡ option_map bare slot.old.raw.inner }
@@ -117,7 +117,7 @@ fn answer_held(alloc: Global, slot: &mut Slot, question: &SetQuery) -> SeriesRed
     }
 }
 
-/// What the question of a name is answered now by a vector, a series or samples. Nothing counts as told by it. Trees are made where there is none.
+/// The answer that a vector, a series or samples give now to the question of a name. It doesn't count as reported. Trees are made if there is none.
 #[unsafe(no_mangle)]
 pub extern "C" fn livevec_proved_answer(
     alloc: Global,
@@ -135,7 +135,7 @@ pub extern "C" fn livevec_proved_answer(
     }
 }
 
-// Tells of a set by a series, by the trees that there are.
+// Reports a set's questions by the answers of a series, from the trees that there are.
 fn tell_kept(set: &mut Queries, series: &Series, notes: &mut [Note]) -> Noted
     ensures { TellsUnless (first_refused None false set.old.questions) set.old set.new (seen_series series.now) notes.old notes.new result }
 {
@@ -143,7 +143,7 @@ fn tell_kept(set: &mut Queries, series: &Series, notes: &mut [Note]) -> Noted
     set.tell_asked(&mut asked, None, false, notes)
 }
 
-// The same, once each kind that is asked for has a tree.
+// Reports a set's questions by the answers of a series. Missing trees of the kinds that are asked for are made first, if there is memory.
 fn tell_series(set: &mut Queries, series: &mut Series, notes: &mut [Note]) -> Noted
     ensures told { TellsUnless (first_refused None false set.old.questions) set.old set.new (seen_series series.old) notes.old notes.new result }
     ensures same { without_trees series.new ≡ without_trees series.old }
@@ -152,7 +152,7 @@ fn tell_series(set: &mut Queries, series: &mut Series, notes: &mut [Note]) -> No
     tell_kept(set, series, notes)
 }
 
-// Tells of a set by samples, by the trees that there are.
+// Reports a set's questions by the answers of samples, from the trees that there are.
 fn tell_taken(set: &mut Queries, samples: &Samples, notes: &mut [Note]) -> Noted
     ensures { TellsUnless (first_refused None true set.old.questions) set.old set.new (seen_samples samples.now) notes.old notes.new result }
 {
@@ -160,7 +160,7 @@ fn tell_taken(set: &mut Queries, samples: &Samples, notes: &mut [Note]) -> Noted
     set.tell_asked(&mut asked, None, true, notes)
 }
 
-// The same, once each kind that is asked for has a tree.
+// Reports a set's questions by the answers of samples. Missing trees of the kinds that are asked for are made first, if there is memory.
 fn tell_samples(set: &mut Queries, samples: &mut Samples, notes: &mut [Note]) -> Noted
     ensures told { TellsUnless (first_refused None true set.old.questions) set.old set.new (seen_samples samples.old) notes.old notes.new result }
     ensures same { seen_samples samples.new ≡ seen_samples samples.old }
@@ -169,7 +169,7 @@ fn tell_samples(set: &mut Queries, samples: &mut Samples, notes: &mut [Note]) ->
     tell_taken(set, samples, notes)
 }
 
-// Tells of a set by an object.
+// Reports a set's questions by the answers of an object.
 fn tell_by(set: &mut Queries, object: &mut Object, notes: &mut [Note]) -> Noted
     ensures told { TellsBy set.old set.new object.old notes.old notes.new result }
     ensures same { bare object.new ≡ bare object.old }
@@ -182,7 +182,7 @@ fn tell_by(set: &mut Queries, object: &mut Object, notes: &mut [Note]) -> Noted
     }
 }
 
-// Tells of a set by what lies behind a slot.
+// Reports a set's questions by the answers of the object in a slot.
 fn tell_held(alloc: Global, set: &mut Queries, target: &mut Slot, notes: &mut [Note]) -> Noted
     ensures told { TellsBehind set.old set.new target.old.raw.inner notes.old notes.new result }
     ensures same { option_map bare target.new.raw.inner ≡ option_map bare target.old.raw.inner }
@@ -197,7 +197,7 @@ fn tell_held(alloc: Global, set: &mut Queries, target: &mut Slot, notes: &mut [N
     }
 }
 
-// Tells of an object, which is to be a set.
+// Reports the questions of an object, which is to be a set.
 fn tell_of(alloc: Global, object: &mut Object, target: &mut Slot, notes: &mut [Note]) -> Noted
     ensures told { TellsObject object.old object.new target.old.raw.inner notes.old notes.new result }
     ensures same { option_map bare target.new.raw.inner ≡ option_map bare target.old.raw.inner }
@@ -208,7 +208,7 @@ fn tell_of(alloc: Global, object: &mut Object, target: &mut Slot, notes: &mut [N
     }
 }
 
-/// Tells of each question of a set, in order, of whose answer by a vector, a series or samples a note is due. Trees are made where there is none.
+/// Reports each question of a set, in order, for whose answer by a vector, a series or samples a note is due. Trees are made if there is none.
 #[unsafe(no_mangle)]
 pub extern "C" fn livevec_proved_notes(
     alloc: Global,

@@ -24,7 +24,7 @@ pub fn new_queries(alloc: Global) -> Result<Box<Object>, AllocError>
     Ok(Box::new(alloc, Object::Queries(Queries::new(alloc)))?)
 }
 
-// The question of a name by what numbers name, or the number for what they don't.
+// The question of a name by what numbers name, or the number for why there is none.
 fn question_by(
     name: Name,
     kind: Option<Kind>,
@@ -86,7 +86,7 @@ fn watch_object(object: &mut Object, question: &SetQuery) -> u32
     }
 }
 
-// Registers a question at what lies behind a slot.
+// Registers a question in the set that a slot holds.
 fn watch_held(alloc: Global, slot: &mut Slot, question: &SetQuery) -> u32
     ensures { WatchesBehind question.now result slot.old.raw.inner slot.new.raw.inner }
 {
@@ -100,7 +100,8 @@ fn watch_held(alloc: Global, slot: &mut Slot, question: &SetQuery) -> u32
     }
 }
 
-/// Registers a question by a name: what a kind says of the elements in a span, which numbers name, and the bound by which it is told of.
+/// Registers a question by a name: the value by a kind of the elements in a span, which numbers name, and the bound that decides when it is
+/// reported.
 #[unsafe(no_mangle)]
 pub extern "C" fn livevec_proved_watch(
     alloc: Global,
@@ -131,7 +132,7 @@ fn unwatch_object(object: &mut Object, name: &Name) -> u32
     }
 }
 
-// Forgets the question of a name at what lies behind a slot.
+// Forgets the question of a name in the set that a slot holds.
 fn unwatch_held(alloc: Global, slot: &mut Slot, name: &Name) -> u32
     ensures { UnwatchesBehind name.now result slot.old.raw.inner slot.new.raw.inner }
 {

@@ -11,7 +11,8 @@ use crate::values::PlainValues;
 use lv_bodies::{Name, Shown};
 use lv_standing::Question;
 
-/// That a note of a query is due: its name, a zero behind it, its kind, after which edit, and its answer. Of the edit it has the low 32 bits.
+/// A note of a query that is due: its name with a zero after it, its kind, after which edit it is, and its answer. Of the edit's number it has the
+/// low 32 bits.
 #[repr(C)]
 #[derive(Clone, Copy)]
 pub struct Note {
@@ -21,7 +22,7 @@ pub struct Note {
     pub values: PlainValues,
 }
 
-/// What a call for notes answers.
+/// The answer of a call for notes.
 #[repr(C)]
 #[derive(Clone, Copy)]
 pub struct Noted {
@@ -31,7 +32,7 @@ pub struct Noted {
     pub count: u32,
 }
 
-/// What a call for notes answers that was refused.
+/// The answer of a call for notes that was refused.
 pub fn not_noted(refusal: u32, detail: u32) -> Noted
     ensures { result ≡ unnoted refusal detail }
 {
@@ -75,7 +76,7 @@ fn note_of<A: Target>(asked: &A, question: &SetQuery, value: Shown) -> Note
     }
 }
 
-// Puts a note at a place, where there is such a place.
+// Puts a note at a place, if there is such a place.
 fn put_note(notes: &mut [Note], place: usize, note: Note)
     ensures { PutsNote note place notes.old notes.new }
 {
@@ -84,7 +85,7 @@ fn put_note(notes: &mut [Note], place: usize, note: Note)
     }
 }
 
-// The note of a question that was told a value before and has another now, if one is due.
+// The note of a question whose answer was reported as one value and is another now, if a note is due.
 fn due_note<A: Target>(
     asked: &A,
     question: &SetQuery,
@@ -101,8 +102,8 @@ fn due_note<A: Target>(
     Some(note_of(asked, question, *value))
 }
 
-// Notes a question if a note of its value is due, behind so many notes, and tells how many there are then. If there is no room for it, it
-// is counted only.
+// Notes a question if a note of its value is due, after `count` other notes, and returns how many there are then. If there is no room for it, it is
+// counted only.
 fn note_one<A: Target>(
     asked: &A,
     question: &SetQuery,
@@ -123,8 +124,8 @@ fn note_one<A: Target>(
     }
 }
 
-/// Notes each question of whose value a note is due, at the front of the notes' places, and tells how many these are. If there are more
-/// than places, what is in the places is nothing to rely on.
+/// Notes each question for whose value a note is due, in the first of the notes' places, and returns how many these are. If there are more than
+/// places, the contents of the places can't be relied on.
 pub fn note_all<A: Target>(
     asked: &A,
     questions: &[SetQuery],

@@ -1,4 +1,4 @@
-//! What a target answers a standing query.
+//! The answer of a target to a standing query.
 ghost use Rattle.std.specs.Prelude.{◌≡◌};
 ghost use Rattle.livevec_c.specs.Targets.{is_asked};
 ghost use Rattle.livevec_c.specs.Queried.{answered_if};
@@ -36,7 +36,7 @@ impl Askable for KindVector {
     }
 }
 
-/// What a question is answered by what is of one kind, or of all six, and has times or not.
+/// The answer to a question by something that is of one kind or of all six, and has times or not.
 pub fn answer_asked<A: Target>(
     asked: &mut A,
     only: Option<Kind>,

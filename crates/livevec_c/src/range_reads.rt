@@ -25,7 +25,7 @@ fn lay_at(elements: &[i64], from: usize, buffer: &mut [i64])
     lay_elements(elements, &mut buffer[from..]);
 }
 
-// Puts the elements of a range into a buffer of as many places, by runs of elements that lie side by side.
+// Puts the elements of a range into a buffer that has exactly as many places. It goes by runs of elements that are next to each other in memory.
 fn lay_runs(history: &Edits, lo: u32, buffer: &mut [i64])
     requires { lo + length buffer.old ≤ length (list_of history.now.journal) }
     ensures { buffer.new ≡ slice_of history.now.journal lo (lo + length buffer.old) }
@@ -42,7 +42,7 @@ fn lay_runs(history: &Edits, lo: u32, buffer: &mut [i64])
     }
 }
 
-// The same into the front of a buffer that has as many places or more. What it has behind stays.
+// Puts the elements of a range at the start of a buffer that has at least as many places. The places after them keep what they have.
 fn lay_range(history: &Edits, lo: u32, hi: u32, buffer: &mut [i64])
     requires order { lo ≤ hi }
     requires inside { hi ≤ length (list_of history.now.journal) }
@@ -121,7 +121,7 @@ fn read_of(object: &Object, sort: u32, lo: u32, hi: u32, buffer: &mut [i64]) -> 
     }
 }
 
-/// Puts the elements of a range of a vector or of a closed board, as the sort tells, into a buffer, from its start on.
+/// Puts the elements of a range of a vector or of a closed board, as the sort says, into a buffer, from its start on.
 #[unsafe(no_mangle)]
 pub extern "C" fn livevec_proved_read(
     alloc: Global,

@@ -23,7 +23,7 @@ use lv_live::Live;
 use lv_tree::KindSummary;
 use std::alloc::Global;
 
-/// The element where a slot holds no vector.
+/// The answer for an element if a slot holds no vector.
 pub fn missing() -> Element
     ensures { result ≡ no_element }
 {
@@ -57,7 +57,7 @@ fn get_of(object: &Object, sort: u32, index: u32) -> Element
     }
 }
 
-/// The element at an index, of a vector or of a closed board, as the sort tells.
+/// The element at an index, of a vector or of a closed board, as the sort says.
 #[unsafe(no_mangle)]
 pub extern "C" fn livevec_proved_get(
     alloc: Global,
@@ -85,7 +85,7 @@ pub fn count_answer(value: u32) -> Count
     Count { refusal: 0, value }
 }
 
-/// The count where a slot holds no vector.
+/// The answer for a count if a slot holds no vector.
 pub fn uncounted() -> Count
     ensures { result ≡ record { refusal = 101; value = 0 } }
 {
@@ -115,7 +115,7 @@ fn put_value(vector: &mut KindVector, kind: Kind, lo: u32, hi: u32, values: &mut
     put_part(values, answer.summary);
 }
 
-// The plain values of a range of which the sum is known: the others are asked by their kinds.
+// The plain values of a range whose sum is known. The others are asked by their kinds.
 fn six_values(vector: &mut KindVector, lo: u32, hi: u32, sum: KindSummary) -> PlainValues
     requires granted { range_refusal vector.old.history.journal lo hi ≡ None }
     requires sum { sum ≡ summary_by (table_of vector.old.body.automaton) kinds.Sum (slice_of vector.old.history.journal lo hi) }
@@ -132,7 +132,7 @@ fn six_values(vector: &mut KindVector, lo: u32, hi: u32, sum: KindSummary) -> Pl
     values
 }
 
-// The same, each kind by its own tree.
+// The plain values of a range of a vector, each kind by its own tree.
 fn ask_six(vector: &mut KindVector, lo: u32, hi: u32) -> Reduced
     ensures answer { AsksVector lo hi result vector.old }
     ensures same { vector.new ≡ vector.old }
@@ -150,7 +150,7 @@ fn ask_six(vector: &mut KindVector, lo: u32, hi: u32) -> Reduced
     }
 }
 
-// One of the two, at a vector that is of all six, or of one kind.
+// The plain values of a range in one of these two ways, of a vector that is of all six kinds. One of a single kind refuses it.
 fn six_of(vector: &mut KindVector, only: Option<Kind>, trees: bool, lo: u32, hi: u32) -> Reduced
     ensures answer { SixOf only trees lo hi result vector.old }
     ensures same { vector.new ≡ vector.old }
@@ -165,7 +165,7 @@ fn six_of(vector: &mut KindVector, only: Option<Kind>, trees: bool, lo: u32, hi:
     }
 }
 
-// The same of an object.
+// The plain values of a range of an object, if it is a vector.
 fn six_in(object: &mut Object, trees: bool, lo: u32, hi: u32) -> Reduced
     ensures answer { SixIn trees lo hi result object.old }
     ensures same { object.new ≡ object.old }

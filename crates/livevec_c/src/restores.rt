@@ -1,4 +1,4 @@
-//! A vector that is made anew from the edits of a transcript's front.
+//! A vector that is made anew from the edits of a prefix of a transcript.
 ghost use Rattle.std.specs.Prelude.{◌≡◌, None};
 ghost use Rattle.lv_edits.specs.Kept.{IsLegalInLimits};
 ghost use Rattle.lv_live.specs.State.{SameRefresh};
@@ -42,7 +42,7 @@ fn remake(vector: &mut KindVector, edits: &[Edit]) -> Result<(), Refusal>
     Ok(())
 }
 
-// The same, and tells how many were made.
+// Makes edits at a vector, one after the other. If one is refused, it returns how many edits the vector has then.
 fn remake_told(vector: &mut KindVector, edits: &[Edit]) -> Result<(), Stopped>
     ensures { RemakesState edits.now result vector.old vector.new }
 {
@@ -56,7 +56,7 @@ fn remake_told(vector: &mut KindVector, edits: &[Edit]) -> Result<(), Stopped>
     }
 }
 
-// The same at an object.
+// Makes edits at an object, one after the other, if it is a vector. With any other it makes none and returns `NoMemory`.
 fn remake_object(object: &mut Object, edits: &[Edit]) -> Result<(), Stopped>
     ensures { RemakesObject edits.now result object.old object.new }
 {
@@ -69,7 +69,7 @@ fn remake_object(object: &mut Object, edits: &[Edit]) -> Result<(), Stopped>
     }
 }
 
-// The same at an object that then goes into an empty slot, where all edits were made.
+// Makes edits at an object, one after the other, and puts the object into an empty slot if all were made.
 fn place_remade(slot: &mut Slot, held: Box<Object>, edits: &[Edit]) -> Result<(), Stopped>
     requires { slot.old.raw.inner ≡ None }
     ensures { PlacesRemade edits.now held.value result slot.new.raw.inner }
@@ -104,7 +104,7 @@ fn restore_edits(
     }
 }
 
-// What a restoration answers, by the verdict on its front and by what became of its edits.
+// The answer of a restoration, by the verdict on its text and by what became of its edits.
 fn restored_answer(verdict: FrontVerdict, became: Result<(), Stopped>) -> Audited
     ensures { result ≡ restored_by verdict became }
 {
@@ -119,7 +119,7 @@ fn restored_answer(verdict: FrontVerdict, became: Result<(), Stopped>) -> Audite
     }
 }
 
-// Puts a vector that is made anew from what was found of a text into an empty slot, where that is a front.
+// Puts a vector that is made anew from what was found of a text into an empty slot, if the text is a prefix of a transcript.
 fn restore_found(
     alloc: Global,
     slot: &mut Slot,
@@ -161,7 +161,7 @@ fn restore_at(
     }
 }
 
-// The same within limits that may be none.
+// Puts a vector that is made anew from a text into an empty slot, within limits that may not be allowed.
 fn restore_within(
     alloc: Global,
     slot: &mut Slot,
@@ -179,7 +179,7 @@ fn restore_within(
     }
 }
 
-/// Puts a vector with the edits of a front into an empty slot, of all six kinds or of the one of a number.
+/// Puts a vector with the edits of a transcript's prefix into an empty slot, of all six kinds or of the one that a number names.
 #[unsafe(no_mangle)]
 pub extern "C" fn livevec_proved_restore(
     alloc: Global,

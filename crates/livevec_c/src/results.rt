@@ -1,4 +1,4 @@
-//! What the calls answer, in the layouts of the header, and the words that make them.
+//! The answers of the calls, in the layouts of the header, and what makes them.
 ghost use Rattle.std.specs.Prelude.{◌≡◌, pos};
 ghost use Rattle.livevec_c.specs.Answers.{detail_of, edited_by, element_by, reduced_by, unreduced};
 
@@ -8,7 +8,7 @@ use lv_edits::Receipt;
 use lv_geometry::Refusal;
 use lv_reduce::Answer;
 
-/// The number for want of memory, as the library has it.
+/// The number for out of memory, as the library has it.
 pub const NO_MEMORY: u32 = 6;
 
 /// The number for limits outside their ranges, as the library has it.
@@ -29,7 +29,7 @@ pub const SHORT_BUFFER: u32 = 103;
 /// The number for a slot that should be empty and is full.
 pub const IN_USE: u32 = 104;
 
-/// The number for a board of which no seat is there.
+/// The number for a board that has no seat left.
 pub const NO_SEAT: u32 = 105;
 
 /// The number for a board that is closed while a seat isn't there.
@@ -41,7 +41,7 @@ pub const BAD_KIND: u32 = 113;
 /// The number for a seat that is given back to another board than its own.
 pub const OTHER_BOARD: u32 = 107;
 
-/// What an edit answers.
+/// The answer of an edit.
 #[repr(C)]
 #[derive(Clone, Copy)]
 pub struct Edited {
@@ -52,7 +52,7 @@ pub struct Edited {
     pub value: i64,
 }
 
-/// Why an edit would be refused: zeros where it would be accepted.
+/// Why an edit would be refused: zeros if it would be accepted.
 #[repr(C)]
 #[derive(Clone, Copy)]
 pub struct Verdict {
@@ -88,7 +88,7 @@ pub struct Taken {
     pub strangers: u64,
 }
 
-/// What a reduction answers.
+/// The answer of a reduction.
 #[repr(C)]
 #[derive(Clone, Copy)]
 pub struct Reduced {
@@ -100,7 +100,7 @@ pub struct Reduced {
     pub values: PlainValues,
 }
 
-/// What a refusal tells beside its number: the size, the limit, or the edit that came first.
+/// What a refusal says besides its number: the size, the limit, or the edit that came first.
 pub fn detail(refusal: Refusal) -> u32
     ensures { result ≡ detail_of refusal }
 {
@@ -112,7 +112,7 @@ pub fn detail(refusal: Refusal) -> u32
     }
 }
 
-/// What an edit that was not accepted answers.
+/// The answer of an edit that was not accepted.
 pub fn not_edited(refusal: u32, detail: u32) -> Edited
     ensures { result ≡ record { refusal = refusal; detail = detail; edit = 0; place = 0; value = pos 0 } }
 {
@@ -126,7 +126,7 @@ pub fn not_edited(refusal: u32, detail: u32) -> Edited
 }
 
 /// What an edit answers for C.
-// Inlined: where the edit is known, so is its receipt's variant.
+// Inlined: if the edit is known, its receipt's variant is known too.
 #[inline(always)]
 pub fn edit_answer(answer: Result<Receipt, Refusal>) -> Edited
     ensures { result ≡ edited_by answer }
@@ -149,7 +149,7 @@ pub fn edit_answer(answer: Result<Receipt, Refusal>) -> Edited
     }
 }
 
-/// What a copy answers that was refused, or came to nothing.
+/// The answer of a copy that was refused, or that copied nothing.
 pub fn not_copied(refusal: u32) -> Count
     ensures { result ≡ record { refusal = refusal; value = 0 } }
 {
@@ -174,7 +174,7 @@ pub fn element_answer(answer: Result<i64, Refusal>) -> Element
     }
 }
 
-/// What a reduction that was not answered answers.
+/// The answer of a reduction that was refused.
 pub fn not_reduced(refusal: u32, detail: u32) -> Reduced
     ensures { result ≡ unreduced refusal detail }
 {
@@ -188,7 +188,7 @@ pub fn not_reduced(refusal: u32, detail: u32) -> Reduced
     }
 }
 
-/// What a reduction answers for C.
+/// The answer of a reduction, for C.
 pub fn reduction_answer(answer: Result<Answer<SixSummary>, Refusal>) -> Reduced
     ensures { result ≡ reduced_by answer }
 {

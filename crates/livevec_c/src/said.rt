@@ -1,4 +1,4 @@
-//! What a board's answer to a call is for C, or that to none where a slot holds no seat.
+//! A board's answers to calls, as C has them, and the answer if a slot holds no seat.
 ghost use Rattle.std.specs.Prelude.{◌≡◌};
 ghost use Rattle.livevec_c.specs.Seats.{reduced_for, told_for, values_for};
 
@@ -7,7 +7,7 @@ use crate::values::{PlainValues, halves, no_values};
 use lv_bodies::Shown;
 use lv_machine::Said;
 
-// What a look or a refresh answers that was not refused.
+// The answer of a look or a refresh that was not refused.
 fn told(edit: u32, place: u32, value: i64) -> Edited
     ensures { result ≡ record { refusal = 0; detail = 0; edit = edit; place = place; value = value } }
 {
@@ -20,7 +20,7 @@ fn told(edit: u32, place: u32, value: i64) -> Edited
     }
 }
 
-/// What an edit, a look or a refresh answers.
+/// The answer of an edit, a look or a refresh.
 pub fn call_said(said: Option<Said<Shown>>) -> Edited
     ensures { result ≡ told_for said }
 {
@@ -51,7 +51,7 @@ pub fn shown_values(any: bool, shown: Shown) -> PlainValues
     values
 }
 
-/// What a reduction answers; whether its range has an element is told beside it.
+/// The answer of a reduction. The caller says whether its range has an element.
 pub fn reduction_said(any: bool, said: Option<Said<Shown>>) -> Reduced
     ensures { result ≡ reduced_for any said }
 {

@@ -46,7 +46,7 @@ fn edit_samples(samples: &mut Samples, expires: bool, time: i64, value: i64) -> 
     }
 }
 
-// The same of an object.
+// An edit of an object, if it is samples.
 fn edit_object(object: &mut Object, expires: bool, time: i64, value: i64) -> SeriesEdited
     ensures { SamplesObject expires time value result object.old object.new }
 {
@@ -94,7 +94,7 @@ pub fn sample_of(object: &Object, index: u64) -> SampleElement
     }
 }
 
-// Where there is no window.
+// The answer if there is no window.
 fn no_window(refusal: u32) -> SampleWindow
     ensures { result ≡ unwindowed refusal }
 {
@@ -132,7 +132,7 @@ fn window_in(samples: &Samples, last: bool, since: i64, until: i64, span: u64) -
     }
 }
 
-// The same of an object.
+// A window of an object, if it is samples.
 fn window_of(object: &Object, last: bool, since: i64, until: i64, span: u64) -> SampleWindow
     ensures { WindowsIn last since until span result object.now }
 {
@@ -166,7 +166,7 @@ pub extern "C" fn livevec_proved_samples_window(
     }
 }
 
-// The times of samples, as many as a buffer takes.
+// The times of samples, as many as fit into a buffer.
 fn read_times(samples: &Samples, lo: u64, hi: u64, buffer: &mut [i64]) -> SeriesScanned
     ensures answer { result ≡ times_in lo hi (length buffer.old) (objects.Samples samples.now) }
     ensures buffer { buffer.new ≡ times_put_in lo hi buffer.old (objects.Samples samples.now) }
@@ -183,7 +183,7 @@ fn read_times(samples: &Samples, lo: u64, hi: u64, buffer: &mut [i64]) -> Series
     }
 }
 
-/// The same of an object.
+/// The times of an object, if it is samples, as many as fit into a buffer.
 pub fn times_of(object: &Object, lo: u64, hi: u64, buffer: &mut [i64]) -> SeriesScanned
     ensures answer { result ≡ times_in lo hi (length buffer.old) object.now }
     ensures buffer { buffer.new ≡ times_put_in lo hi buffer.old object.now }

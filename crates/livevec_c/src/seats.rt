@@ -40,7 +40,7 @@ fn call_of(object: &mut Object, call: Call, tries: u32) -> Option<Said<Shown>>
     }
 }
 
-// A call of what lies behind a slot.
+// A call of the seat that a slot holds.
 fn call_held(alloc: Global, slot: &mut Slot, call: Call, tries: u32) -> Option<Said<Shown>>
     ensures { Calls tries call result slot.old.raw.inner slot.new.raw.inner }
 {
@@ -72,7 +72,7 @@ pub extern "C" fn livevec_proved_seat_call(
     }
 }
 
-/// The plain value of a range by the board's kind, where the seat looks.
+/// The plain value of a range by the board's kind, after the edits that the seat's look shows.
 #[unsafe(no_mangle)]
 pub extern "C" fn livevec_proved_seat_reduce(
     alloc: Global,

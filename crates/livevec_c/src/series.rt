@@ -22,7 +22,7 @@ pub fn new_series(alloc: Global) -> Result<Box<Object>, AllocError>
     Ok(Box::new(alloc, Object::Series(series))?)
 }
 
-// An edit of samples by one of their values, where it leaves each value its time.
+// An edit of the values of samples, if each value keeps its time.
 fn edit_samples(samples: &mut Samples, edit: &LongEdit) -> SeriesEdited
     ensures { EditsSamplesBy (sample_edit_of edit.now) result samples.old (objects.Samples samples.new) }
 {
@@ -69,7 +69,7 @@ fn write_object(object: &mut Object, index: u64, value: i64) -> SeriesEdited
     }
 }
 
-// An edit of what lies behind a slot.
+// An edit of the object in a slot.
 #[inline(always)]
 fn edit_held(alloc: Global, slot: &mut Slot, edit: LongEdit) -> SeriesEdited
     ensures { EditsBehind edit result slot.old.raw.inner slot.new.raw.inner }
@@ -83,7 +83,7 @@ fn edit_held(alloc: Global, slot: &mut Slot, edit: LongEdit) -> SeriesEdited
     answer
 }
 
-// A push at what lies behind a slot, and a write.
+// A push at the object in a slot, and a write.
 #[inline(always)]
 fn push_held(alloc: Global, slot: &mut Slot, value: i64) -> SeriesEdited
     ensures { EditsBehind (asked.Push value) result slot.old.raw.inner slot.new.raw.inner }
@@ -110,7 +110,7 @@ fn write_held(alloc: Global, slot: &mut Slot, index: u64, value: i64) -> SeriesE
     answer
 }
 
-/// Makes an edit by its number. Pushes and writes come most, and less is told apart for them.
+/// Makes the edit that a number names. Pushes and writes come most, so they have paths of their own, which tell fewer cases apart.
 #[unsafe(no_mangle)]
 pub extern "C" fn livevec_proved_series_edit(
     alloc: Global,

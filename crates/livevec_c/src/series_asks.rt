@@ -1,4 +1,4 @@
-//! What is asked of a series, or of samples: elements and reductions.
+//! Queries of a series, or of samples: elements and reductions.
 ghost use Rattle.std.specs.Prelude.{◌≡◌, true};
 ghost use Rattle.livevec_c.specs.SamplesBehind.{element_behind, element_told};
 ghost use Rattle.livevec_c.specs.SeriesBehind.{AsksSeries, IsSameButKinds, SixBehind, SixLong, all_kinds, element_in, values_in, values_of};
@@ -28,7 +28,7 @@ fn value_of(object: &Object, index: u64) -> SampleElement
     }
 }
 
-// The same, or with its time, of samples.
+// An element of an object, or a sample with its time.
 fn get_of(object: &Object, index: u64, timed: bool) -> SampleElement
     ensures { result ≡ element_told timed index object.now }
 {
@@ -60,7 +60,7 @@ pub extern "C" fn livevec_proved_series_get(
     }
 }
 
-// A reduction of a series: each kind by its tree, where it has one.
+// A reduction of a series. Each kind that has a tree answers by it.
 fn reduce_series(series: &Series, lo: u64, hi: u64) -> SeriesReduced
     ensures { result ≡ values_of lo hi series.now }
 {
@@ -84,7 +84,7 @@ fn reduce_of(object: &Object, lo: u64, hi: u64) -> SeriesReduced
     }
 }
 
-// Makes the tree of each kind, where there is none, and says whether there was memory for it.
+// Makes the missing trees of all kinds, and returns whether there was memory for them.
 fn prepare_each<H: HasSeries>(held: &mut H) -> bool
     ensures kinds { (state : Long) × (held.new ≡ H.with_series state held.old) × IsSameButKinds (H.series_of held.old) state }
     ensures all { result ≡ true → held.new ≡ H.with_series (record (H.series_of held.old) { kinds = all_kinds }) held.old }
@@ -117,7 +117,7 @@ fn ask_held<H: HasSeries>(held: &mut H, lo: u64, hi: u64) -> SeriesReduced
     reduce_series(held.series(), lo, hi)
 }
 
-// The same of an object.
+// A reduction of an object, if it has a series. The tree of each kind is made first.
 fn ask_of(object: &mut Object, lo: u64, hi: u64) -> SeriesReduced
     ensures { AtObject (AsksSeries lo hi result) (result ≡ unreduced_by unheld) object.old object.new }
 {
@@ -128,7 +128,7 @@ fn ask_of(object: &mut Object, lo: u64, hi: u64) -> SeriesReduced
     }
 }
 
-// The same, or without a tree that isn't there.
+// A reduction of an object, with the trees of all kinds made first, or without making any.
 fn six_of(object: &mut Object, trees: bool, lo: u64, hi: u64) -> SeriesReduced
     ensures { SixLong trees lo hi result object.old object.new }
 {
@@ -139,7 +139,7 @@ fn six_of(object: &mut Object, trees: bool, lo: u64, hi: u64) -> SeriesReduced
     }
 }
 
-/// The plain values of the elements of a range by all six kinds. The tree of each is made first, where that is asked and there is none.
+/// The plain values of the elements of a range by all six kinds. Missing trees are made first, if that is asked.
 pub fn six_held(alloc: Global, slot: &mut Slot, trees: bool, lo: u64, hi: u64) -> SeriesReduced
     ensures { SixBehind trees lo hi result slot.old.raw.inner slot.new.raw.inner }
 {

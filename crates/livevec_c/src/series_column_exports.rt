@@ -1,4 +1,4 @@
-//! The export that scans a series: by one kind, or by all six at once, into the column of that.
+//! The export that scans a series, by one kind or by all six at once, into the column that fits.
 ghost use Rattle.std.specs.Prelude.{◌≡◌, length, if◌then◌else◌, ◌==◌};
 ghost use Rattle.lv_bodies.specs.Plain.{plain_sum};
 ghost use Rattle.livevec_c.specs.Cells.{affine_cell, automaton_cell, best_cell, greatest_cell, least_cell, values_cell};
@@ -14,8 +14,8 @@ use crate::values::PlainValues;
 use lv_bodies::{Affine, Automaton, Best, Greatest, Least, SixPairs, Sum};
 use std::alloc::Global;
 
-/// Puts what the beginnings of a range come to into a column, from an index on, each with the element at its end or without it. A number says
-/// by which kind, or by all six (6), and so into which column: the others stay as they are.
+/// Puts the running values of a range into a column, from an index on, each with the element at its end or without it. A number says by which kind,
+/// or that it is by all six (6), and so into which column. The other columns stay as they are.
 #[unsafe(no_mangle)]
 pub extern "C" fn livevec_proved_series_scan(
     alloc: Global,

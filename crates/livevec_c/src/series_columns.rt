@@ -15,8 +15,8 @@ use crate::slots::{Slot, put, take};
 use lv_series::Series;
 use std::alloc::Global;
 
-// Puts the running values of some elements into the front of a column, which keeps what it has behind. The elements are those from an
-// index on, and what stands before them begins at another.
+// Puts the running values of some elements at the start of a column, which keeps what it has after them. The elements are those from index `at` on,
+// and the values are of the range that starts at index `lo`.
 fn lay_piece<B: Begins>(
     series: &Series,
     inclusive: bool,
@@ -38,7 +38,7 @@ fn lay_piece<B: Begins>(
     lay_run(&body, inclusive, before, xs, 0, &mut column[..xs.len()]);
 }
 
-// A scan of a series that goes on from an index, as many values as a column takes.
+// A scan of a series that goes on from an index, as many values as fit into a column.
 fn scan_series<B: Begins>(
     series: &Series,
     lo: u64,
@@ -63,7 +63,7 @@ fn scan_series<B: Begins>(
     }
 }
 
-// The same of an object.
+// A scan of an object that goes on from an index, if the object has a series.
 fn scan_object<B: Begins>(
     object: &Object,
     lo: u64,
@@ -81,7 +81,7 @@ fn scan_object<B: Begins>(
     }
 }
 
-/// A piece of a scan of what lies behind a slot, from an index on, as many cells as a column takes.
+/// A piece of a scan of the object in a slot, from an index on, as many cells as fit into a column.
 pub fn scan_held<B: Begins>(
     alloc: Global,
     slot: &mut Slot,

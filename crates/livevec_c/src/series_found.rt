@@ -1,4 +1,4 @@
-//! Where in a range of a series something stands, or of the values of samples.
+//! Searches of a range of a series, or of the values of samples, which return where something is.
 ghost use Rattle.std.specs.Prelude.{◌≡◌, ◌<◌, IfSome};
 ghost use Rattle.lv_series.specs.Places.{IsSearchable};
 ghost use Rattle.livevec_c.specs.SeriesFound.{FindsAt, FindsBehind, FindsSeries, long_end, long_index, long_nowhere, long_part, long_placed, long_run, long_start, long_unfound};
@@ -17,7 +17,7 @@ use crate::wanted::{Wanted, sought_by, wanted_by};
 use lv_series::{LongPlaced, LongRun, Series};
 use std::alloc::Global;
 
-/// Where something stands in a range of a series.
+/// What a search of a range of a series returns.
 #[repr(C)]
 #[derive(Clone, Copy)]
 pub struct SeriesFound {
@@ -31,7 +31,7 @@ pub struct SeriesFound {
     pub found: bool,
 }
 
-// What a search that was refused answers.
+// The answer of a search that was refused.
 fn not_found(why: Refused) -> SeriesFound
     ensures { result ≡ long_unfound why }
 {
@@ -47,7 +47,7 @@ fn not_found(why: Refused) -> SeriesFound
     }
 }
 
-// What a search that found nothing answers.
+// The answer of a search that found nothing.
 fn none_found(edit: u64) -> SeriesFound
     ensures { result ≡ long_nowhere edit }
 {
@@ -56,7 +56,7 @@ fn none_found(edit: u64) -> SeriesFound
     answer
 }
 
-// A part of a range.
+// The answer of a search that found a part of a range.
 fn part_found(edit: u64, lo: u64, hi: u64) -> SeriesFound
     ensures { result ≡ long_part edit lo hi }
 {
@@ -67,7 +67,7 @@ fn part_found(edit: u64, lo: u64, hi: u64) -> SeriesFound
     answer
 }
 
-// Where an element stands, of a range that ends at `hi`.
+// The answer of a search for an element, in a range that ends at `hi`.
 fn element_found(edit: u64, hi: u64, place: Option<LongPlaced>) -> SeriesFound
     requires { IfSome place (λ p. p.index < hi) }
     ensures { result ≡ long_placed edit place }
@@ -82,7 +82,7 @@ fn element_found(edit: u64, hi: u64, place: Option<LongPlaced>) -> SeriesFound
     }
 }
 
-// Where a run stands.
+// The answer of a search for a run.
 fn run_found(edit: u64, run: Option<LongRun>) -> SeriesFound
     ensures { result ≡ long_run edit run }
 {
@@ -96,7 +96,7 @@ fn run_found(edit: u64, run: Option<LongRun>) -> SeriesFound
     }
 }
 
-// Where a sum is reached from the start of a range on.
+// The answer of a search for the end up to which the elements from the range's start on reach a sum.
 fn end_found(edit: u64, lo: u64, end: Option<u64>) -> SeriesFound
     ensures { result ≡ long_end edit lo end }
 {
@@ -106,7 +106,7 @@ fn end_found(edit: u64, lo: u64, end: Option<u64>) -> SeriesFound
     }
 }
 
-// Where a sum is reached up to the end of a range.
+// The answer of a search for the start from which on the elements up to the range's end reach a sum.
 fn start_found(edit: u64, hi: u64, start: Option<u64>) -> SeriesFound
     ensures { result ≡ long_start edit hi start }
 {
@@ -116,7 +116,7 @@ fn start_found(edit: u64, hi: u64, start: Option<u64>) -> SeriesFound
     }
 }
 
-// Where an element within a bound stands, in a range that ends at `hi`.
+// The answer of a search for an element within a bound, in a range that ends at `hi`.
 fn index_found(edit: u64, hi: u64, index: Option<u64>) -> SeriesFound
     requires { IfSome index (λ i. i < hi) }
     ensures { result ≡ long_index edit index }
@@ -127,7 +127,7 @@ fn index_found(edit: u64, hi: u64, index: Option<u64>) -> SeriesFound
     }
 }
 
-// What is looked for in a range of a series that can be searched.
+// Searches a range of a series that can be searched.
 fn find_in(series: &Series, wanted: Wanted, lo: u64, hi: u64) -> SeriesFound
     requires { IsSearchable series.now (kind_sought wanted) lo hi }
     ensures { FindsAt wanted series.now.held lo hi series.now.edits result }
@@ -146,7 +146,7 @@ fn find_in(series: &Series, wanted: Wanted, lo: u64, hi: u64) -> SeriesFound
     }
 }
 
-// What is looked for in a range of what has a series. The kind's tree is made first, where there is none.
+// Searches a range of something that has a series. The tree of the kind is made first if there is none.
 fn find_held<H: HasSeries>(held: &mut H, wanted: Wanted, lo: u64, hi: u64) -> SeriesFound
     ensures { (state : Long) × (held.new ≡ H.with_series state held.old) × FindsSeries wanted lo hi result (H.series_of held.old) state }
 {
@@ -156,7 +156,7 @@ fn find_held<H: HasSeries>(held: &mut H, wanted: Wanted, lo: u64, hi: u64) -> Se
     }
 }
 
-// The same of an object.
+// Searches a range of an object, if it has a series.
 fn find_of(object: &mut Object, wanted: Wanted, lo: u64, hi: u64) -> SeriesFound
     ensures { AtObject (FindsSeries wanted lo hi result) (result ≡ long_unfound unheld) object.old object.new }
 {
@@ -167,7 +167,7 @@ fn find_of(object: &mut Object, wanted: Wanted, lo: u64, hi: u64) -> SeriesFound
     }
 }
 
-/// Where something stands in a range of a series: what, a number says, with what it is compared with.
+/// Searches a range of a series. A number says for what, and `x` is what this is compared with.
 #[unsafe(no_mangle)]
 pub extern "C" fn livevec_proved_series_find(
     alloc: Global,

@@ -1,4 +1,4 @@
-//! The series behind a slot: what lies there is a series, or samples, whose values are one.
+//! The series in a slot: the slot holds a series, or samples, whose values are a series.
 ghost use Rattle.std.specs.Prelude.{◌≡◌, IfErr, OnErr, OnOk, option_map};
 ghost use Rattle.lv_series.specs.Places.{IsSearchable};
 ghost use Rattle.lv_series.specs.Series.{Asks, RefusesAsked, with_kind};
@@ -9,15 +9,15 @@ use lv_bodies::Kind;
 use lv_series::{LongAnswer, LongRefusal, Samples, Series};
 use lv_tree::KindSummary;
 
-/// What has a series, of which trees can be made.
+/// Something that has a series, for which trees can be made.
 pub trait HasSeries {
     /// Its series.
     ghost series_of: { Self → Long };
 
-    /// The same with another series.
+    /// This object with another series in place of its own.
     ghost with_series: { Long → Self → Self };
 
-    /// It is the same with its own series, and has the series that it is given. The last series that it is given counts.
+    /// With its own series it is unchanged. With another it has that one, and the last series that it is given counts.
     ghost own_series: { (h : Self) → with_series (series_of h) h ≡ h };
 
     ghost given_series: { (s : Long) (h : Self) → series_of (with_series s h) ≡ s };
@@ -28,20 +28,20 @@ pub trait HasSeries {
     fn series(&self) -> &Series
         ensures { result.now ≡ series_of self.now };
 
-    /// Makes the tree of a kind, where there is none.
+    /// Makes the tree of a kind, if there is none.
     fn prepare(&mut self, kind: Kind) -> Result<(), LongRefusal>
         ensures ok { OnOk result (self.new ≡ with_series (record (series_of self.old) { kinds = with_kind kind (series_of self.old).kinds }) self.old) }
         ensures same { OnErr result (self.new ≡ self.old) }
         ensures err { IfErr result (λ refusal. refusal ≡ LongRefusal.NoMemory) };
 
-    /// Makes the tree of a kind for questions about a range, where there is none: the range can be searched by the kind then.
+    /// Makes the tree of a kind for queries of a range, if there is none. The range can then be searched by the kind.
     fn prepare_for(&mut self, kind: Kind, lo: u64, hi: u64) -> Result<(), LongRefusal>
         ensures searchable { OnOk result (IsSearchable (series_of self.new) kind lo hi) }
         ensures ok { OnOk result (self.new ≡ with_series (record (series_of self.old) { kinds = with_kind kind (series_of self.old).kinds }) self.old) }
         ensures err { IfErr result (λ refusal. RefusesAsked (series_of self.old) kind lo hi refusal (series_of self.new)) }
         ensures same { OnErr result (self.new ≡ self.old) };
 
-    /// The summary by a kind of a range, whose tree is made first, where there is none.
+    /// The summary by a kind of a range. The kind's tree is made first if there is none.
     fn ask(&mut self, kind: Kind, lo: u64, hi: u64) -> Result<LongAnswer<KindSummary>, LongRefusal>
         ensures asked { Asks (series_of self.old) kind lo hi result (series_of self.new) }
         ensures kept { self.new ≡ with_series (series_of self.new) self.old };
@@ -122,7 +122,7 @@ impl HasSeries for Samples {
     }
 }
 
-/// The series of an object: of samples that of their values.
+/// The series of an object: that of the values, if it is samples.
 #[inline(always)]
 pub fn series_of(object: &Object) -> Option<&Series>
     ensures { option_map (λ series. series.now) result ≡ series_in object.now }

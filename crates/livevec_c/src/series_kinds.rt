@@ -1,4 +1,4 @@
-//! Questions at a series by one kind, or by all six, which go by that kind's tree, and the tree itself.
+//! Queries of a series by one kind, or by all six, which use each kind's tree, and how such a tree is made.
 ghost use Rattle.std.specs.Prelude.{◌≡◌};
 ghost use Rattle.livevec_c.specs.Kinds.{kind_at};
 ghost use Rattle.livevec_c.specs.SeriesAnswers.{unheld, unreduced_by};
@@ -19,7 +19,7 @@ use lv_bodies::Kind;
 use lv_series::Series;
 use std::alloc::Global;
 
-/// That a number is of no kind.
+/// The refusal of a number that names no kind.
 pub fn no_kind() -> Refused
     ensures { result ≡ unkind }
 {
@@ -30,7 +30,7 @@ pub fn no_kind() -> Refused
     }
 }
 
-// A value of what has a series by a kind, whose tree is made first.
+// A value by a kind of something that has a series. The kind's tree is made first.
 #[inline(always)]
 fn value_of_held<H: HasSeries>(held: &mut H, kind: Kind, lo: u64, hi: u64) -> SeriesReduced
     ensures { (state : Long) × (held.new ≡ H.with_series state held.old) × ValuesSeries kind lo hi result (H.series_of held.old) state }
@@ -45,7 +45,7 @@ fn value_of_held<H: HasSeries>(held: &mut H, kind: Kind, lo: u64, hi: u64) -> Se
     }
 }
 
-// The same by whichever kind. Sums are asked for most: where the kind is known to be that one, less is told apart.
+// A value of a series by any kind. Sums are asked for most, and the code for a kind that is known has fewer cases to tell apart.
 fn value_by(series: &mut Series, kind: Kind, lo: u64, hi: u64) -> SeriesReduced
     ensures { ValuesSeries kind lo hi result series.old series.new }
 {
@@ -55,7 +55,7 @@ fn value_by(series: &mut Series, kind: Kind, lo: u64, hi: u64) -> SeriesReduced
     }
 }
 
-// The same of an object.
+// A value of an object, if it has a series.
 fn value_of_object(object: &mut Object, kind: Kind, lo: u64, hi: u64) -> SeriesReduced
     ensures { AtObject (ValuesSeries kind lo hi result) (result ≡ unreduced_by unheld) object.old object.new }
 {
@@ -66,7 +66,7 @@ fn value_of_object(object: &mut Object, kind: Kind, lo: u64, hi: u64) -> SeriesR
     }
 }
 
-// The same of what lies behind a slot, by the kind of a number.
+// A value of the object in a slot, by the kind that a number names.
 #[inline(always)]
 fn value_held(alloc: Global, slot: &mut Slot, kind: u32, lo: u64, hi: u64) -> SeriesReduced
     ensures { ValuesBehind (kind_at kind) lo hi result slot.old.raw.inner slot.new.raw.inner }
@@ -83,8 +83,8 @@ fn value_held(alloc: Global, slot: &mut Slot, kind: u32, lo: u64, hi: u64) -> Se
     answer
 }
 
-/// The plain values of the elements of a range by all six kinds, each by its tree, which is made first where that is asked; or the value by one
-/// kind, whose tree is made first, where there is none.
+/// The plain values of the elements of a range by all six kinds, for which missing trees are made first if that is asked; or the value by one kind,
+/// whose tree is made first if there is none.
 #[unsafe(no_mangle)]
 pub extern "C" fn livevec_proved_series_value(
     alloc: Global,
@@ -104,7 +104,7 @@ pub extern "C" fn livevec_proved_series_value(
     }
 }
 
-// Makes the tree of a kind of what has a series.
+// Makes the tree of a kind for something that has a series.
 fn prepare_held<H: HasSeries>(held: &mut H, kind: Kind) -> u32
     ensures { (state : Long) × (held.new ≡ H.with_series state held.old) × PreparesSeries kind result (H.series_of held.old) state }
 {
@@ -114,7 +114,7 @@ fn prepare_held<H: HasSeries>(held: &mut H, kind: Kind) -> u32
     }
 }
 
-// The same of an object.
+// Makes the tree of a kind for an object, if it has a series.
 fn prepare_object(object: &mut Object, kind: Kind) -> u32
     ensures { AtObject (PreparesSeries kind result) (result ≡ 101) object.old object.new }
 {
@@ -125,7 +125,7 @@ fn prepare_object(object: &mut Object, kind: Kind) -> u32
     }
 }
 
-/// Makes the tree of a kind, where there is none.
+/// Makes the tree of a kind, if there is none.
 #[unsafe(no_mangle)]
 pub extern "C" fn livevec_proved_series_prepare(alloc: Global, slot: &mut Slot, kind: u32) -> u32
     ensures { PreparesBehind (kind_at kind) result slot.old.raw.inner slot.new.raw.inner }

@@ -35,7 +35,7 @@ fn lend_series<'a>(series: &'a Series, lo: u64, hi: u64, lent: &mut Lent<'a>) ->
     }
 }
 
-// The same of an object.
+// Lends elements of an object, if it has a series.
 fn lend_of<'a>(object: &'a Object, lo: u64, hi: u64, lent: &mut Lent<'a>) -> SeriesScanned
     ensures answer { result ≡ read_in lo hi (hi - lo) (series_in object.now) }
     ensures lent { lent.new.elements.now ≡ lent_in lo hi lent.old.elements.now (series_in object.now) }
@@ -46,13 +46,13 @@ fn lend_of<'a>(object: &'a Object, lo: u64, hi: u64, lent: &mut Lent<'a>) -> Ser
     }
 }
 
-// What a loan answers. It names the loan's lifetime, so that a clause may say what the slot ends as.
+// The answer of a loan. It names the loan's lifetime, so that a clause may say what the slot ends as.
 struct Loan<'a> {
     answer: SeriesScanned,
     of: [&'a i64; 0],
 }
 
-// Lends elements of what a slot holds.
+// Lends elements of the object in a slot.
 fn lend_behind<'a>(slot: &'a mut Slot, lo: u64, hi: u64, lent: &mut Lent<'a>) -> Loan<'a>
     ensures* kept { sem 𝓛 (Keeps slot.entry) }
     ensures answer { result.answer ≡ read_in lo hi (hi - lo) (series_behind slot.old.raw.inner) }

@@ -1,4 +1,4 @@
-//! Elements of a series, or times of samples, put into a buffer of the caller's, as many as it takes.
+//! Elements of a series, or times of samples, put into a buffer of the caller's, as many as fit.
 ghost use Rattle.std.specs.Prelude.{◌≡◌, ◌++◌, ◌≤◌, drop, length};
 ghost use Rattle.livevec_c.specs.SeriesAnswers.{granted};
 ghost use Rattle.livevec_c.specs.SamplesBehind.{told_behind, told_in, told_put_behind, told_put_in};
@@ -13,7 +13,7 @@ use crate::slots::{Slot, put, take};
 use lv_series::Series;
 use std::alloc::Global;
 
-/// Puts elements into the front of a buffer, which keeps what it has behind.
+/// Puts elements at the start of a buffer, which keeps what it has after them.
 pub fn lay_elements(elements: &[i64], buffer: &mut [i64])
     requires { length elements.now ≤ length buffer.old }
     ensures { buffer.new ≡ elements.now ++ drop (length elements.now) buffer.old }
@@ -21,7 +21,7 @@ pub fn lay_elements(elements: &[i64], buffer: &mut [i64])
     buffer[..elements.len()].copy_from_slice(elements);
 }
 
-/// What a piece that was put answers.
+/// The answer of a piece that was put into a buffer.
 pub fn piece_answer(series: &Series, many: usize) -> SeriesScanned
     ensures { result ≡ record { why = granted; edit = series.now.edits; length = many } }
 {
@@ -32,7 +32,7 @@ pub fn piece_answer(series: &Series, many: usize) -> SeriesScanned
     }
 }
 
-// Elements of a series, as many as a buffer takes.
+// Elements of a series, as many as fit into a buffer.
 fn read_series(series: &Series, lo: u64, hi: u64, buffer: &mut [i64]) -> SeriesScanned
     ensures answer { result ≡ elements_read lo hi (length buffer.old) series.now }
     ensures buffer { buffer.new ≡ elements_put lo hi buffer.old series.now }
@@ -47,7 +47,7 @@ fn read_series(series: &Series, lo: u64, hi: u64, buffer: &mut [i64]) -> SeriesS
     }
 }
 
-// The same of an object.
+// Elements of an object, if it has a series, as many as fit into a buffer.
 fn read_of(object: &Object, lo: u64, hi: u64, buffer: &mut [i64]) -> SeriesScanned
     ensures answer { result ≡ read_in lo hi (length buffer.old) (series_in object.now) }
     ensures buffer { buffer.new ≡ put_in lo hi buffer.old (series_in object.now) }
@@ -58,7 +58,7 @@ fn read_of(object: &Object, lo: u64, hi: u64, buffer: &mut [i64]) -> SeriesScann
     }
 }
 
-// The same, or the times of samples.
+// Elements of an object, or the times of samples, as many as fit into a buffer.
 fn told_of(object: &Object, times: bool, lo: u64, hi: u64, buffer: &mut [i64]) -> SeriesScanned
     ensures answer { result ≡ told_in times lo hi (length buffer.old) object.now }
     ensures buffer { buffer.new ≡ told_put_in times lo hi buffer.old object.now }
@@ -70,7 +70,7 @@ fn told_of(object: &Object, times: bool, lo: u64, hi: u64, buffer: &mut [i64]) -
     }
 }
 
-/// Puts the elements of a range into a buffer, from its start on, as many as it takes, or the times of samples.
+/// Puts the elements of a range, or the times of samples, into a buffer, from its start on, as many as fit.
 #[unsafe(no_mangle)]
 pub extern "C" fn livevec_proved_series_read(
     alloc: Global,

@@ -9,7 +9,7 @@ use crate::slots::{Slot, put, take};
 use lv_series::LongRefusal;
 use std::alloc::Global;
 
-// What pushes answer, by what the library does.
+// The answer of pushes, by what the library does.
 fn pushes_answer(values: &[i64], answer: Result<u64, LongRefusal>) -> SeriesMany
     ensures { result ≡ long_pushed (length values.now) answer }
 {

@@ -1,4 +1,4 @@
-//! What the calls at a series answer, in the layouts of the header, and the words that make them.
+//! The answers of the calls at a series, in the layouts of the header, and what makes them.
 ghost use Rattle.std.specs.Prelude.{◌≡◌};
 ghost use Rattle.livevec_c.specs.SeriesAnswers.{granted, long_edited, long_element, refused_by, sample_edited, unedited_by, unelement, unheld, unnamed, unreduced_by, unscanned_by};
 
@@ -6,7 +6,7 @@ use crate::results::{EARLIER, NO_HANDLE};
 use crate::values::{PlainValues, no_values};
 use lv_series::{LongReceipt, LongRefusal, SampleRefusal};
 
-/// Why a call at a series was refused, 0 where it was not. Of an index that isn't kept it tells which are: from `first` up to `size`.
+/// Why a call at a series was refused, or 0 if it was not. For an index that isn't kept it says which are: from `first` up to `size`.
 #[repr(C)]
 #[derive(Clone, Copy)]
 pub struct Refused {
@@ -15,7 +15,7 @@ pub struct Refused {
     pub size: u64,
 }
 
-/// What an edit of a series answers.
+/// The answer of an edit of a series.
 #[repr(C)]
 #[derive(Clone, Copy)]
 pub struct SeriesEdited {
@@ -25,7 +25,7 @@ pub struct SeriesEdited {
     pub value: i64,
 }
 
-/// An element of a series, or of samples with its time; 0 both where it was refused.
+/// An element of a series, or of samples with its time; both are 0 if the call was refused.
 #[repr(C)]
 #[derive(Clone, Copy)]
 pub struct SampleElement {
@@ -34,7 +34,7 @@ pub struct SampleElement {
     pub value: i64,
 }
 
-/// What a reduction of a series answers.
+/// The answer of a reduction of a series.
 #[repr(C)]
 #[derive(Clone, Copy)]
 pub struct SeriesReduced {
@@ -43,7 +43,7 @@ pub struct SeriesReduced {
     pub values: PlainValues,
 }
 
-/// What many edits at a series answer.
+/// The answer of many edits at a series.
 #[repr(C)]
 #[derive(Clone, Copy)]
 pub struct SeriesMany {
@@ -53,7 +53,7 @@ pub struct SeriesMany {
     pub place: usize,
 }
 
-/// What a piece of a range answers that was put into a buffer.
+/// The answer of a read or a scan that put a piece of a range into a buffer.
 #[repr(C)]
 #[derive(Clone, Copy)]
 pub struct SeriesScanned {
@@ -62,7 +62,7 @@ pub struct SeriesScanned {
     pub length: u64,
 }
 
-/// Of a call that was not refused.
+/// The answer for why, of a call that was not refused.
 pub fn not_refused() -> Refused
     ensures { result ≡ granted }
 {
@@ -73,7 +73,7 @@ pub fn not_refused() -> Refused
     }
 }
 
-/// Of a call at a slot that holds no series.
+/// The answer for why, of a call at a slot that holds no series.
 pub fn not_held() -> Refused
     ensures { result ≡ unheld }
 {
@@ -84,7 +84,7 @@ pub fn not_held() -> Refused
     }
 }
 
-/// Of a call that asks for a query that isn't there, by the number for why.
+/// The answer for why, of a call that asks for a query that isn't there.
 pub fn unnamed(refusal: u32) -> Refused
     ensures { result ≡ unnamed refusal }
 {
@@ -114,7 +114,7 @@ pub fn refusal_answer(refusal: LongRefusal) -> Refused
     }
 }
 
-/// What an edit that was refused answers.
+/// The answer of an edit that was refused.
 pub fn not_edited(why: Refused) -> SeriesEdited
     ensures { result ≡ unedited_by why }
 {
@@ -126,7 +126,7 @@ pub fn not_edited(why: Refused) -> SeriesEdited
     }
 }
 
-/// What an edit answers for C.
+/// The answer of an edit, for C.
 pub fn edit_answer(answer: Result<LongReceipt, LongRefusal>) -> SeriesEdited
     ensures { result ≡ long_edited answer }
 {
@@ -147,7 +147,7 @@ pub fn edit_answer(answer: Result<LongReceipt, LongRefusal>) -> SeriesEdited
     }
 }
 
-/// What an edit of samples answers for C: of an earlier time with that of the last sample.
+/// The answer of an edit of samples for C. If its time was earlier than that of the last sample, the answer has the latter.
 pub fn sample_answer(answer: Result<LongReceipt, SampleRefusal>) -> SeriesEdited
     ensures { result ≡ sample_edited answer }
 {
@@ -167,7 +167,7 @@ pub fn sample_answer(answer: Result<LongReceipt, SampleRefusal>) -> SeriesEdited
     }
 }
 
-/// What a question for an element answers that was refused.
+/// The answer to a query for an element that was refused.
 pub fn no_element(why: Refused) -> SampleElement
     ensures { result ≡ unelement why }
 {
@@ -192,7 +192,7 @@ pub fn element_answer(answer: Result<i64, LongRefusal>) -> SampleElement
     }
 }
 
-/// What a reduction that was refused answers.
+/// The answer of a reduction that was refused.
 pub fn not_reduced(why: Refused) -> SeriesReduced
     ensures { result ≡ unreduced_by why }
 {
@@ -203,7 +203,7 @@ pub fn not_reduced(why: Refused) -> SeriesReduced
     }
 }
 
-/// What a piece of a range answers that was refused.
+/// The answer of a read or a scan that was refused.
 pub fn not_scanned(why: Refused) -> SeriesScanned
     ensures { result ≡ unscanned_by why }
 {

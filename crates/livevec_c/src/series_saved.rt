@@ -66,7 +66,7 @@ pub fn new_loader(alloc: Global) -> Result<Box<Object>, AllocError>
     Ok(Box::new(alloc, Object::Loader(loader))?)
 }
 
-// Bytes for an object that is loaded.
+// Gives bytes to an object, if it is a loader.
 fn give_object(object: &mut Object, bytes: &[u8]) -> u32
     ensures { GivesObject bytes.now result object.old object.new }
 {
@@ -79,7 +79,7 @@ fn give_object(object: &mut Object, bytes: &[u8]) -> u32
     }
 }
 
-/// Takes in bytes of what is loaded, behind the others.
+/// Takes in bytes of what is loaded, after the others.
 #[unsafe(no_mangle)]
 pub extern "C" fn livevec_proved_series_load(alloc: Global, slot: &mut Slot, bytes: &[u8]) -> u32
     ensures { GivesBytes bytes.now result slot.old.raw.inner slot.new.raw.inner }
@@ -94,7 +94,7 @@ pub extern "C" fn livevec_proved_series_load(alloc: Global, slot: &mut Slot, byt
     }
 }
 
-// What the bytes are of: samples, where that is asked, or a series.
+// The object that has the loaded bytes: samples, if that is asked, or a series.
 fn loaded(alloc: Global, loader: Loader, timed: bool) -> Result<Object, LoadRefusal>
     ensures { LoadsOf timed loader result }
 {
@@ -111,7 +111,7 @@ fn loaded(alloc: Global, loader: Loader, timed: bool) -> Result<Object, LoadRefu
     }
 }
 
-// Puts what was loaded into a slot that is empty, in the room of its loader; or leaves it empty.
+// Puts what was loaded into a slot that is empty, in the room of its loader; or leaves the slot empty.
 fn place_loaded(
     alloc: Global,
     slot: &mut Slot,
@@ -134,7 +134,7 @@ fn place_loaded(
     }
 }
 
-// The same where there is a loader.
+// Ends a load, if the object is a loader. Any other is put into the slot again.
 fn end_load_of(alloc: Global, slot: &mut Slot, mut held: Box<Object>, timed: bool) -> u32
     requires empty { slot.old.raw.inner ≡ None }
     ensures { EndsLoadIn timed held.value result slot.new.raw.inner }
@@ -148,7 +148,7 @@ fn end_load_of(alloc: Global, slot: &mut Slot, mut held: Box<Object>, timed: boo
     }
 }
 
-/// Makes what was loaded a series, or samples, where its bytes are exactly those of one. Else the slot is empty.
+/// Makes what was loaded a series, or samples, if its bytes are exactly those of one. Otherwise the slot is empty.
 #[unsafe(no_mangle)]
 pub extern "C" fn livevec_proved_series_end_load(alloc: Global, slot: &mut Slot, timed: bool) -> u32
     ensures { EndsLoad timed result slot.old.raw.inner slot.new.raw.inner }

@@ -9,7 +9,7 @@ use crate::results::SHORT_BUFFER;
 use crate::series_results::{Refused, SeriesMany, not_held, not_refused, refusal_answer};
 use lv_series::Series;
 
-/// What edits answer where they are refused.
+/// The answer of edits that are refused.
 pub fn not_written(why: Refused, place: usize) -> SeriesMany
     ensures { result ≡ unwritten_by why place }
 {
@@ -21,7 +21,7 @@ pub fn not_written(why: Refused, place: usize) -> SeriesMany
     }
 }
 
-// Which of writes under indices, one after another, is the first that would be refused; 0 where none would be.
+// The place of the first of some writes, one after another, that would be refused; 0 if none would be.
 fn place_refused(series: &Series, indices: &[u64]) -> usize
     ensures { (xs : List ℤ) → length indices.now ≡ length xs → result ≡ place_refused series.now (writes_at indices.now xs) }
 {
@@ -37,7 +37,7 @@ fn place_refused(series: &Series, indices: &[u64]) -> usize
     0
 }
 
-// That there are not as many values as indices.
+// The refusal if there are not as many values as indices.
 fn not_paired() -> Refused
     ensures { result ≡ record { refusal = 103; first = 0; size = 0 } }
 {

@@ -1,4 +1,4 @@
-//! What a set of standing queries asks for.
+//! A query in a set of standing queries.
 ghost use Rattle.std.specs.Prelude.{◌≡◌};
 ghost use Rattle.livevec_c.specs.Queries.{untold};
 ghost use Rattle.livevec_c.specs.Targets.{bound_at, is_asked, is_timed as is_timed_span, span_at};
@@ -10,7 +10,7 @@ use lv_script::{SampleQuery, SampleSpan};
 use lv_standing::{Asks, Query, Question, Span, Terms};
 use lv_tree::Bound;
 
-/// A query by a name, which is asked of whatever is a target.
+/// A query by a name, which can be asked of any target.
 #[derive(Clone, Copy)]
 pub struct SetQuery {
     pub query: SampleQuery,
@@ -37,14 +37,14 @@ impl<A: Target> Asks<A> for SetQuery {
 }
 
 impl SetQuery {
-    /// What it counts as told before its first note: its answer of no elements.
+    /// The answer that counts as reported before its first note: that of no elements.
     pub fn untold(&self) -> Shown
         ensures { result ≡ untold self.now }
     {
         Query::between(self.query.name, self.query.kind, 0, 0).untold()
     }
 
-    /// Whether it may be asked of what is of one kind, or of all six, and has times or not.
+    /// Whether it may be asked of something that is of one kind or of all six, and has times or not.
     pub fn may_be_asked(&self, only: Option<Kind>, timed: bool) -> bool
         ensures { result ≡ is_asked only timed self.now.query }
     {
@@ -62,7 +62,7 @@ fn is_timed(span: SampleSpan) -> bool
     }
 }
 
-/// Which elements a number names, if it does: a range, the last so many, or those of the last so much time.
+/// The elements that a number names, if it does: a range, the last `lo` of them, or those of the last so much time.
 pub fn span_of(number: u32, lo: u64, hi: u64) -> Option<SampleSpan>
     ensures { result ≡ span_at number lo hi }
 {
@@ -74,7 +74,8 @@ pub fn span_of(number: u32, lo: u64, hi: u64) -> Option<SampleSpan>
     }
 }
 
-/// By which bound a number has a query told of, if it is a number of these: by none (0), or where it is at least, or at most, so much.
+/// The bound that a number names, if it does. A query is then reported at each change (0), or when its answer begins or ceases to be at least (1),
+/// or at most (2), `x`.
 pub fn bound_of(number: u32, x: i64) -> Option<Option<Bound>>
     ensures { result ≡ bound_at number x }
 {

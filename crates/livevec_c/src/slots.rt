@@ -8,7 +8,7 @@ use crate::raw::Raw;
 use std::alloc::Global;
 use std::mem;
 
-/// What C holds: all zeros is 'empty'.
+/// The handle that C holds. If all its bytes are zero, it is empty.
 #[repr(C)]
 #[derive(Drop)]
 pub struct Slot {
@@ -51,7 +51,7 @@ pub fn take(alloc: Global, slot: &mut Slot) -> Option<Box<Object>>
 }
 
 /// Takes what a full slot holds, and leaves it empty.
-// Inlined: where a caller asked first whether it is full, no choice between two pointers is left.
+// Inlined: if a caller asked first whether it is full, no choice between two pointers is left.
 #[inline(always)]
 pub fn take_full(alloc: Global, slot: &mut Slot) -> Box<Object>
     requires full { IsSome slot.old.raw.inner }

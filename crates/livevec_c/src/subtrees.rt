@@ -60,7 +60,7 @@ pub fn copy_subtree(alloc: Global, object: &Object, number: u32, slot: &mut Slot
     }
 }
 
-/// Computes a subtree's job: the number of the refusal, and what is there then.
+/// Computes a subtree's job. Returns 0 and its outcome, or the number of the refusal and the job.
 pub fn run_subtree(alloc: Global, job: SubtreeJob<SixByTable>) -> (u32, Object)
     ensures { RunsSubtree result.0 job result.1 }
 {
@@ -70,7 +70,7 @@ pub fn run_subtree(alloc: Global, job: SubtreeJob<SixByTable>) -> (u32, Object)
     }
 }
 
-// Takes a subtree in at a vector, where what it is of stands there still.
+// Takes a subtree in at a vector, if it wasn't taken in yet and the vector still has the elements that it was computed from.
 fn take_in(vector: &mut KindVector, outcome: &mut SubtreeOutcome<SixByTable>) -> Count
     ensures { TakesSubtreeIn result vector.old vector.new outcome.old outcome.new }
 {
@@ -84,7 +84,7 @@ fn take_in(vector: &mut KindVector, outcome: &mut SubtreeOutcome<SixByTable>) ->
     }
 }
 
-// Takes an object in at a vector, where it is what a subtree's job gave.
+// Takes an object in at a vector, if it is the outcome of a subtree's job.
 fn accept_vector(vector: &mut KindVector, brought: &mut Object) -> Count
     ensures { TakesObjectIn result vector.old vector.new brought.old brought.new }
 {
@@ -104,7 +104,7 @@ fn accept_of(object: &mut Object, brought: &mut Object) -> Count
     }
 }
 
-// Takes what lies behind a slot in at an object. It lies there still.
+// Takes in the object that a slot holds. It stays in the slot.
 fn accept_from(alloc: Global, object: &mut Object, batch: &mut Slot) -> Count
     ensures { TakesInFrom result object.old object.new batch.old.raw.inner batch.new.raw.inner }
 {
@@ -118,8 +118,8 @@ fn accept_from(alloc: Global, object: &mut Object, batch: &mut Slot) -> Count
     }
 }
 
-/// Takes what a subtree's job gave in, where the elements that it is of stand there still, and tells of how many summaries. The batch's slot
-/// has it still, spent where it was taken in.
+/// Takes in the outcome of a subtree's job, if it wasn't taken in yet and the vector still has the elements that it was computed from. Returns how
+/// many summaries were taken in. The batch's slot keeps the outcome, which is spent if it was taken in.
 #[unsafe(no_mangle)]
 pub extern "C" fn livevec_proved_accept_subtree(
     alloc: Global,

@@ -38,7 +38,7 @@ pub struct SummaryBytes {
     pub bytes: [u8; SUMMARY_BYTES],
 }
 
-/// What answers by a summary.
+/// The answer of a call that returns a summary.
 #[repr(C)]
 #[derive(Clone, Copy)]
 pub struct Summarised {
@@ -66,7 +66,7 @@ pub struct Chunk {
     pub values: [i64; CHUNK],
 }
 
-// What a call that was refused answers.
+// The answer of a call for a summary that was refused.
 fn not_summarised(refusal: u32, detail: u32) -> Summarised
     ensures { result ≡ unsummarised refusal detail }
 {
@@ -114,7 +114,7 @@ fn unread_number(refusal: ReadRefusal) -> u32
     }
 }
 
-// What bytes come in as.
+// Reads a summary from its bytes.
 fn read(bytes: &SummaryBytes) -> Result<ShardSummary, ReadRefusal>
     ensures { Reads bytes.now.bytes result }
 {
@@ -128,7 +128,7 @@ fn empty_by_program() -> Summarised
     summary_answer(&ShardSummary::empty(Automaton::program()))
 }
 
-// The same, by an automaton of this table.
+// The summary of no elements, by an automaton of a table that may have a wrong entry.
 fn empty_by_table(table: &Table) -> Summarised
     ensures { IsEmptyBy table.now.next result }
 {
@@ -167,7 +167,7 @@ fn sum_up(live: &Live<SixByTable>, lo: u32, hi: u32) -> Summarised
     }
 }
 
-// The same of a vector, which is of all six kinds.
+// The summary of a range of a vector, if the vector is of all six kinds.
 fn sum_six(live: &Live<SixByTable>, only: Option<Kind>, lo: u32, hi: u32) -> Summarised
     ensures { SumsBy only lo hi result live.now }
 {
@@ -177,7 +177,7 @@ fn sum_six(live: &Live<SixByTable>, only: Option<Kind>, lo: u32, hi: u32) -> Sum
     }
 }
 
-// The same of an object.
+// The summary of a range of an object, if it is a vector.
 fn sum_of(object: &Object, lo: u32, hi: u32) -> Summarised
     ensures { SumsObject lo hi result object.now }
 {
@@ -208,7 +208,7 @@ pub extern "C" fn livevec_proved_summary_of(
     }
 }
 
-// What was read on the left, joined with what the right comes in as.
+// Joins a summary with the one that is read from some bytes.
 fn join_read(left: &ShardSummary, right: &SummaryBytes) -> Summarised
     ensures { JoinsWith (Ok left.now) right.now.bytes result }
 {
@@ -218,7 +218,7 @@ fn join_read(left: &ShardSummary, right: &SummaryBytes) -> Summarised
     }
 }
 
-/// The summary of the elements of one, and then those of another.
+/// The summary of the elements of the left one and then those of the right one.
 #[unsafe(no_mangle)]
 pub extern "C" fn livevec_proved_summary_join(
     left: &SummaryBytes,
@@ -232,7 +232,7 @@ pub extern "C" fn livevec_proved_summary_join(
     }
 }
 
-// What was read, with more elements.
+// Joins a summary with that of more elements.
 fn extend_read(summary: &ShardSummary, chunk: &Chunk, length: u32) -> Summarised
     ensures { ExtendsRead (Ok summary.now) (take (min length 1024) chunk.now.values) result }
 {
@@ -240,7 +240,7 @@ fn extend_read(summary: &ShardSummary, chunk: &Chunk, length: u32) -> Summarised
     join_answer(summary.extend(&chunk.values[..length]))
 }
 
-/// The summary of its elements, and then of so many of these, at most 1,024.
+/// The summary of a summary's elements and then of `length` more, at most 1,024.
 #[unsafe(no_mangle)]
 pub extern "C" fn livevec_proved_summary_extend(
     summary: &SummaryBytes,

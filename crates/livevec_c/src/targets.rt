@@ -1,4 +1,4 @@
-//! What standing queries are asked of: a vector, a series, or samples.
+//! The targets of standing queries: a vector, a series, or samples.
 ghost use Rattle.std.specs.Prelude.{◌≡◌, ◌+◌, ℤ, List, length, nat_lt};
 ghost use Rattle.lv_script.specs.SampleQueries.{sample_answer};
 ghost use Rattle.lv_series.specs.Samples.{SamplesState};
@@ -11,20 +11,20 @@ use lv_script::{AskedSamples, AskedSeries, SampleQuery, SampleSpan};
 use lv_series::{Series, Window};
 use lv_standing::{Askable, Asks, Indices, Span, value_in_span};
 
-/// What standing queries are asked of. That changes nothing that shows.
+/// Something that standing queries are asked of. Asking it changes nothing that contracts see.
 pub trait Target: Askable {
-    // What it has, as samples: without times, where it has none.
+    // What it has, as samples; without times, if it has none.
     ghost seen: { Self → SamplesState };
 
     /// The number of its last edit.
     fn edits(&self) -> u64
         ensures { result ≡ (seen self.now).series.edits };
 
-    /// Whether a span has an element. Of what has no times none is in a window of time.
+    /// Whether a span has an element. A window of time has none if the target has no times.
     fn has_some(&self, span: SampleSpan) -> bool
         ensures { result ≡ has_some_in (seen self.now) span };
 
-    /// What a query is answered. Takes no memory.
+    /// The answer to a query. Takes no memory.
     fn answer(&mut self, query: &SampleQuery) -> Shown
         ensures value { result ≡ sample_answer (seen self.old) query.now }
         ensures same { self.new ≡ self.old };

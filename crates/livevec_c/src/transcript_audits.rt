@@ -1,4 +1,4 @@
-//! Audits of a transcript's text, or of a front's, that lies in memory of the caller's.
+//! Audits of the text of a transcript, or of a prefix of one, that is in the caller's memory.
 ghost use Rattle.std.specs.Prelude.{◌≡◌};
 ghost use Rattle.livevec_c.specs.Audits.{Audits, AuditsFrontFor, AuditsFor, fronted_by, no_front, unaudited, unread_number, verdict_for};
 
@@ -9,10 +9,10 @@ use std::alloc::Global;
 /// The number for a text of more than 2^30 bytes.
 pub const TOO_LONG: u32 = 112;
 
-/// The number for a text that is no front of a transcript.
+/// The number for a text that is no prefix of a transcript.
 pub const NO_FRONT: u32 = 116;
 
-/// What an audit answers, and a restoration.
+/// The answer of an audit, and of a restoration.
 #[repr(C)]
 #[derive(Clone, Copy)]
 pub struct Audited {
@@ -24,7 +24,7 @@ pub struct Audited {
     pub answers: u32,
 }
 
-/// The answer where there is no verdict.
+/// The answer if there is no verdict.
 pub fn not_audited(refusal: u32) -> Audited
     ensures { result ≡ unaudited refusal }
 {
@@ -48,7 +48,7 @@ fn verdict_at(verdict: u32, line: u32) -> Audited
     answer
 }
 
-// A verdict on a transcript.
+// The answer for a verdict on a transcript.
 fn verdict_answer(verdict: Verdict) -> Audited
     ensures { result ≡ verdict_for verdict }
 {
@@ -59,7 +59,7 @@ fn verdict_answer(verdict: Verdict) -> Audited
     }
 }
 
-/// A verdict on a front.
+/// The answer for a verdict on a prefix of a transcript.
 pub fn front_answer(verdict: FrontVerdict) -> Audited
     ensures { result ≡ fronted_by verdict }
 {
@@ -75,7 +75,7 @@ pub fn front_answer(verdict: FrontVerdict) -> Audited
     }
 }
 
-/// The same, as the refusal of a text that is no front.
+/// The answer that refuses a text which is no prefix of a transcript, with the verdict on it.
 pub fn front_refused(verdict: FrontVerdict) -> Audited
     ensures { result ≡ no_front verdict }
 {
@@ -104,7 +104,7 @@ fn audit_whole(alloc: Global, text: &[u8]) -> Audited
     }
 }
 
-// Audits bytes as a front of a transcript.
+// Audits bytes as the prefix of some transcript.
 fn audit_front(alloc: Global, text: &[u8]) -> Audited
     ensures { AuditsFrontFor text.now result }
 {
@@ -114,7 +114,7 @@ fn audit_front(alloc: Global, text: &[u8]) -> Audited
     }
 }
 
-/// Audits bytes as a transcript, or as a front of one.
+/// Audits bytes as a transcript, or as the prefix of some transcript.
 #[unsafe(no_mangle)]
 pub extern "C" fn livevec_proved_audit(alloc: Global, text: &[u8], front: bool) -> Audited
     ensures { Audits front text.now result }

@@ -12,7 +12,7 @@ use lv_live::Live;
 use lv_transcript::{Claimed, FlatEdit, Unput, copy_edits, put_transcript};
 use std::alloc::Global;
 
-/// What a read of a journal answers.
+/// The answer of a read of a journal.
 #[repr(C)]
 #[derive(Clone, Copy)]
 pub struct JournalRead {
@@ -21,7 +21,7 @@ pub struct JournalRead {
     pub length: usize,
 }
 
-/// What a text that goes into bytes of the caller's answers: how many bytes it takes.
+/// The answer of a call that puts a text into the caller's bytes: how many bytes the text takes.
 #[repr(C)]
 #[derive(Clone, Copy)]
 pub struct TextPut {
@@ -29,7 +29,7 @@ pub struct TextPut {
     pub length: usize,
 }
 
-// What a read answers where a slot holds no vector.
+// The answer of a read if a slot holds no vector.
 fn not_read() -> JournalRead
     ensures { result ≡ unread_journal }
 {
@@ -40,7 +40,7 @@ fn not_read() -> JournalRead
     }
 }
 
-// Edits of a vector behind the first `from`, as many as stand there and fit.
+// The edits of a vector after the first `from`, as many as there are and fit.
 fn read_live(live: &Live<SixByTable>, from: u32, edits: &mut [FlatEdit]) -> JournalRead
     ensures answer { result ≡ journal_read from (length edits.old) live.now }
     ensures edits { edits.new ≡ edits_put from edits.old live.now }
@@ -53,7 +53,7 @@ fn read_live(live: &Live<SixByTable>, from: u32, edits: &mut [FlatEdit]) -> Jour
     }
 }
 
-// The same of an object.
+// The edits of an object after the first `from`, if it is a vector, as many as there are and fit.
 fn read_of(object: &Object, from: u32, edits: &mut [FlatEdit]) -> JournalRead
     ensures answer { result ≡ object_journal from (length edits.old) object.now }
     ensures edits { edits.new ≡ object_edits from edits.old object.now }
@@ -64,7 +64,7 @@ fn read_of(object: &Object, from: u32, edits: &mut [FlatEdit]) -> JournalRead
     }
 }
 
-/// Puts the accepted edits behind the first `from` into the caller's places, as many as stand there and fit.
+/// Puts the accepted edits after the first `from` into the caller's places, as many as there are and fit.
 #[unsafe(no_mangle)]
 pub extern "C" fn livevec_proved_journal(
     alloc: Global,
@@ -86,14 +86,14 @@ pub extern "C" fn livevec_proved_journal(
     }
 }
 
-// What a text that was not put there answers.
+// The answer for a text that was not put into the caller's bytes.
 fn not_put(refusal: u32) -> TextPut
     ensures { result ≡ unwritten_text refusal }
 {
     TextPut { refusal, length: 0 }
 }
 
-// What a text answers, by what became of it.
+// The answer for a text, by what became of it.
 fn put_answer(became: Result<usize, Unput>) -> TextPut
     ensures { result ≡ written_text became }
 {
@@ -107,7 +107,7 @@ fn put_answer(became: Result<usize, Unput>) -> TextPut
     }
 }
 
-// The transcript of a vector and of claims, which rise by their edits.
+// The transcript of a vector and of claims, which are in the order of their edits.
 fn transcribe_live(
     alloc: Global,
     live: &Live<SixByTable>,
@@ -120,7 +120,7 @@ fn transcribe_live(
     put_answer(put_transcript(alloc, live.journal(), claims, text))
 }
 
-// The same of an object.
+// The transcript of an object and of claims, if the object is a vector.
 fn transcribe_of(alloc: Global, object: &Object, claims: &[Claimed], text: &mut [u8]) -> TextPut
     requires { AreInOrder claims.now }
     ensures { TranscribesObject claims.now result text.old text.new object.now }
@@ -131,7 +131,7 @@ fn transcribe_of(alloc: Global, object: &Object, claims: &[Claimed], text: &mut 
     }
 }
 
-// The same of what lies behind a slot.
+// The transcript of the object in a slot and of claims.
 fn transcribe_held(alloc: Global, slot: &mut Slot, claims: &[Claimed], text: &mut [u8]) -> TextPut
     requires { AreInOrder claims.now }
     ensures answer { TranscribesBehind claims.now result text.old text.new slot.old.raw.inner }
@@ -147,7 +147,8 @@ fn transcribe_held(alloc: Global, slot: &mut Slot, claims: &[Claimed], text: &mu
     }
 }
 
-/// Puts the transcript of a vector's journal and of answers, which rise by their edits, into the front of the caller's bytes.
+/// Puts the transcript of a vector's journal and of recorded answers at the start of the caller's bytes. The answers must be in the order of their
+/// edits, or the call is refused.
 #[unsafe(no_mangle)]
 pub extern "C" fn livevec_proved_transcript(
     alloc: Global,

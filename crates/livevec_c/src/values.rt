@@ -18,7 +18,7 @@ pub struct PlainValues {
     pub affine_a: u32,
     pub affine_b: u32,
     pub automaton: [u8; 8],
-    /// 1 where there is an element, else 0: C's `bool` and the bytes behind it as one word, which is copied whole.
+    /// 1 if there is an element, else 0: C's `bool` and the bytes after it as one word, which is copied whole.
     pub any: u64,
 }
 
@@ -34,7 +34,7 @@ pub fn halves(x: i128) -> (u64, i64)
     )
 }
 
-/// The low and the high half of a total, 0 where there is none.
+/// The low and the high half of a total, 0 if there is none.
 pub fn total_halves(totals: Option<RunTotals>) -> (u64, i64)
     ensures low { result.0 ≡ low_half (unwrap_or (option_map (λ r. r.best) totals) (pos 0)) }
     ensures high { result.1 ≡ high_half (unwrap_or (option_map (λ r. r.best) totals) (pos 0)) }
@@ -52,7 +52,7 @@ pub fn plain_values(summary: SixSummary) -> PlainValues
     each_values(summary.each())
 }
 
-/// The same, where the six are apart.
+/// Six summaries of some elements that are separate values, laid out for C.
 pub fn each_values(each: Each) -> PlainValues
     ensures { result ≡ spread each }
 {
@@ -71,7 +71,7 @@ pub fn each_values(each: Each) -> PlainValues
     }
 }
 
-/// Puts the value of a kind among the plain values. That of the least tells whether there is an element.
+/// Puts the value of a kind among the plain values. The minimum's also says whether there is an element.
 pub fn put_part(values: &mut PlainValues, part: KindSummary)
     ensures { values.new ≡ with_part part values.old }
 {
@@ -88,7 +88,7 @@ pub fn put_part(values: &mut PlainValues, part: KindSummary)
     }
 }
 
-/// The values where there are none.
+/// The values if there are none.
 pub fn no_values() -> PlainValues
     ensures { result ≡ valueless }
 {

@@ -12,7 +12,7 @@ use crate::slots::{Slot, is_full, put, take_full};
 use lv_edits::Edit;
 use std::alloc::Global;
 
-// What an edit answers where a slot holds no vector.
+// The answer of an edit if a slot holds no vector.
 fn not_held() -> Edited
     ensures { result ≡ unedited }
 {
@@ -47,7 +47,7 @@ fn write_object(object: &mut Object, index: u32, value: i64) -> Edited
     }
 }
 
-// An edit of what lies behind a slot.
+// An edit of the object in a slot.
 #[inline(always)]
 fn edit_held(alloc: Global, slot: &mut Slot, edit: Edit) -> Edited
     ensures { Edits edit result slot.old.raw.inner slot.new.raw.inner }
@@ -61,7 +61,7 @@ fn edit_held(alloc: Global, slot: &mut Slot, edit: Edit) -> Edited
     answer
 }
 
-// A write at what lies behind a slot.
+// A write at the object in a slot.
 #[inline(always)]
 fn write_held(alloc: Global, slot: &mut Slot, index: u32, value: i64) -> Edited
     ensures { Edits (asked.Write index value) result slot.old.raw.inner slot.new.raw.inner }
@@ -75,7 +75,7 @@ fn write_held(alloc: Global, slot: &mut Slot, index: u32, value: i64) -> Edited
     answer
 }
 
-/// Makes an edit by its number. Writes come most, and less is told apart for them.
+/// Makes the edit that a number names. Writes come most, so they have a path of their own, which tells fewer cases apart.
 #[unsafe(no_mangle)]
 pub extern "C" fn livevec_proved_edit(
     alloc: Global,

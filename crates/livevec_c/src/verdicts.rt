@@ -12,7 +12,7 @@ use lv_edits::Edit;
 use lv_geometry::Refusal;
 use std::alloc::Global;
 
-// What is judged where a slot holds no vector.
+// The verdict if a slot holds no vector.
 fn not_judged() -> Verdict
     ensures { result ≡ unjudged }
 {
@@ -48,7 +48,7 @@ fn judge_of(object: &Object, edit: &Edit) -> Verdict
     }
 }
 
-// A verdict on an edit of what lies behind a slot.
+// A verdict on an edit of the object in a slot.
 fn judge_held(alloc: Global, slot: &mut Slot, edit: Edit) -> Verdict
     ensures answer { Judges edit result slot.old.raw.inner }
     ensures same { slot.new.raw.inner ≡ slot.old.raw.inner }
@@ -63,7 +63,7 @@ fn judge_held(alloc: Global, slot: &mut Slot, edit: Edit) -> Verdict
     }
 }
 
-/// Why an edit would be refused, by its number.
+/// Why the edit that a number names would be refused.
 #[unsafe(no_mangle)]
 pub extern "C" fn livevec_proved_verdict(
     alloc: Global,

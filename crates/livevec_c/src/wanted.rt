@@ -1,11 +1,11 @@
-//! What is looked for in a range.
+//! The searches of a range.
 ghost use Rattle.std.specs.Prelude.{◌≡◌};
 ghost use Rattle.livevec_c.specs.Wanted.{kind_sought, wanted_at};
 
 use lv_bodies::Kind;
 use lv_tree::Bound;
 
-/// What is looked for in a range.
+/// What a search of a range looks for.
 #[derive(Clone, Copy)]
 pub enum Wanted {
     /// The first of the least elements.
@@ -24,7 +24,7 @@ pub enum Wanted {
     Last(Bound),
 }
 
-/// What a number asks for, with what it is compared with; nothing where it is no number of these.
+/// The search that a number names, with what it compares with; nothing if it names none.
 pub fn wanted_by(number: u32, x: i64) -> Option<Wanted>
     ensures { result ≡ wanted_at number x }
 {
@@ -42,7 +42,7 @@ pub fn wanted_by(number: u32, x: i64) -> Option<Wanted>
     }
 }
 
-/// The kind by which it is looked for.
+/// The kind that a search needs.
 pub fn sought_by(wanted: Wanted) -> Kind
     ensures { result ≡ kind_sought wanted }
 {

@@ -7,7 +7,7 @@ use crate::kind_vectors::KindVector;
 use crate::objects::Object;
 use crate::results::{NO_HANDLE, SHORT_BUFFER, detail};
 
-/// What many edits answer.
+/// The answer of many edits.
 #[repr(C)]
 #[derive(Clone, Copy)]
 pub struct Many {
@@ -18,7 +18,7 @@ pub struct Many {
     pub place: usize,
 }
 
-// Which of writes at indices, one after another, is the first that would be refused, want of memory apart; 0 where none would be.
+// The place of the first of some writes, one after another, that would be refused for another reason than out of memory; 0 if none would be.
 fn place_refused(vector: &KindVector, indices: &[u32]) -> usize
     ensures { (xs : List ℤ) → length indices.now ≡ length xs → result ≡ place_refused vector.now.history (writes_at indices.now xs) }
 {
@@ -37,7 +37,7 @@ fn place_refused(vector: &KindVector, indices: &[u32]) -> usize
     0
 }
 
-/// What edits answer where they are refused.
+/// The answer of edits that are refused.
 pub fn not_written(refusal: u32, detail: u32, place: usize) -> Many
     ensures { result ≡ unwritten refusal detail place }
 {

@@ -1,4 +1,4 @@
--- What a move of one actor leaves as it was for the others.
+-- What a move of one actor leaves unchanged for the others.
 use Rattle.std.proofs.Common.{◌≡◌, ◌≢◌, ℕ, zero, suc, ◌/◌, ◌≤◌, max, Bool, true, false, nat_eq, List, [], ◌∷◌, slice_index, slice_set, refl, sym, ap, ◌∙◌, subst, arith}
 use Rattle.std.specs.Prelude.{All, if◌then◌else◌}
 use Rattle.std.proofs.lemmas.Bool.{cond-false, cond-true, eq-eqb, false≢true}
@@ -24,7 +24,8 @@ use Rattle.lv_board.specs.declared.actors.View.{View}
 use Rattle.lv_board.specs.Rule.{ActorFits, IsThere}
 use Rattle.lv_board.specs.TableRule.{HasMade, IsSeat, ViewFits}
 
--- a state goes on to another by a move of actor a: the history grows, by edits of a alone; other looks stay, and no word but the descriptor falls
+-- A state leads to another by a move of actor a. The history grows only by updates of a, other looks stay, and only the descriptor can become
+-- smaller.
 pub record Advances (a : ℕ) (c d : Config) : Type 0 where
   pub history : Ends c.history d.history
   pub own_is : (b : ℕ) → b ≢ a → own b d.history ≡ own b c.history
@@ -81,7 +82,7 @@ exchanged_advances : (a : ℕ) (c : Config) (e : Edit) (found : Bool) → Advanc
 exchanged_advances a c e true = accepted_advances a c e
 exchanged_advances a c e false = looked_advances a c
 
--- the moves of a list that one actor made, with one move more
+-- the moves of a list that one actor made, with one more move
 made_by-same : (a : ℕ) (m : Move) (ms : List Move) → mover m ≡ a → made_by a (m ∷ ms) ≡ m ∷ made_by a ms
 unfolding made_by
 made_by-same a m ms of = cond-true _ _ _ (eq-eqb _ _ of)
@@ -107,7 +108,7 @@ one_made seats m ms v y seat number of made = record {
 stays : (a : ℕ) (c : Config) → Advances a c c
 stays a c = record { history = Ends-whole c.history; own_is = λ b apart. refl; looks = λ b apart. refl; words = λ q some. omega arith }
 
--- what a move leaves as it was for the others, whose it is not
+-- what a move leaves unchanged for the seats that didn't make it
 pub moved_advances : (a : ℕ) (c : Config) (m : Move) → mover m ≡ a → Advances a c (moved c m)
 moved_advances a c (Look b) is = subst (λ n. Advances n c (looked c b)) is (looked_advances b c)
 moved_advances a c (Exchange b e) is = subst (λ n. Advances n c (moved c (Exchange b e))) is (exchanged_advances b c e (nat_eq (slice_index c.words 0) (c.looks b)))
@@ -119,11 +120,11 @@ moved_advances a c (Read b) is = stays a c
 no_place_first : (b r : ℕ) → place b r ≢ 0
 no_place_first b r is = omega (arith, place_is b r)
 
--- parts that were installed stand there after any move, or are displaced by later ones
+-- parts that were installed are still there after any move, or are displaced by later ones
 pub installed_stays : (a : ℕ) (c d : Config) (xs : List InstalledPart) → Advances a c d → All (IsThere c.words) xs → All (IsThere d.words) xs
 installed_stays a c d xs on = All-weaker (IsThere c.words) (IsThere d.words) (λ p was. let more = on.words p.place (λ zero. omega (arith, was.some)) in record { some = was.some; word = omega (arith, was.word) }) xs
 
--- what another seat's actor knows stays true
+-- what another seat's actor knows remains true
 pub actor_stays : (seats a : ℕ) (c d : Config) (owner : ℕ → ℕ) (id : ℕ) (x : Actor) → Advances a c d → x.number ≢ a → ActorFits seats c owner id x → ActorFits seats d owner id x
 actor_stays seats a c d owner id x on apart fits = record {
   number = fits.number;
@@ -146,7 +147,7 @@ actor_stays seats a c d owner id x on apart fits = record {
 }
 
 module _ {B : Type 0} (f : B → Folding) where
-  -- what another token's view says stays true
+  -- what another token's view says remains true
   pub view_stays : (z : Basis B) (a : ℕ) (c d : Config) (owner : ℕ → ℕ) (id : ℕ) (v : View B) → Advances a c d → owner a ≢ id → ViewFits f z c owner id v → ViewFits f z d owner id v
   view_stays z a c d owner id v on apart fits =
       let other : (n : ℕ) → owner n ≡ id → n ≢ a = λ n is same. apart (ap owner (sym same) ∙ is) in
@@ -160,7 +161,7 @@ module _ {B : Type 0} (f : B → Folding) where
         more = All-weaker (ActorFits z.seats c owner id) (ActorFits z.seats d owner id) (λ x y. actor_stays z.seats a c d owner id x on (other x.number y.owner_is) y) v.more fits.more;
       }
 
-  -- and another seat's moves are those that it made
+  -- another seat's moves are still those that it made
   pub others_made : (z : Basis B) (a : ℕ) (m : Move) (ms : List Move) (c : Config) (owner : ℕ → ℕ) (id : ℕ) (v : View B) → mover m ≡ a → owner a ≢ id → ViewFits f z c owner id v → HasMade z.seats ms v → HasMade z.seats (m ∷ ms) v
   others_made z a m ms c owner id v of apart fits made =
       let other : (n : ℕ) → owner n ≡ id → n ≢ a = λ n is same. apart (ap owner (sym same) ∙ is) in

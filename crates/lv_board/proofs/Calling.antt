@@ -1,4 +1,4 @@
--- How the steps of a call make up its answer.
+-- How the steps of a call make up its result.
 use Rattle.std.proofs.Common.{◌≡◌, ◌≢◌, ℕ, ℤ, pos, ◌<◌, ◌≤◌, None, Result, Ok, Err, List, ◌∷◌, length, refl, sym, ap, ◌∙◌, subst, inl, inr, arith, ◌*◌}
 use Rattle.std.specs.Prelude.{ok_or}
 use Rattle.std.specs.List.{slice_index_or}
@@ -43,7 +43,7 @@ quiet_then x y z first second = record {
   made = second.made ∙ first.made;
 }
 
--- a step that shows nothing new is quiet
+-- if an actor knows the same after a step, and has made the same, it has made no update
 pub quiet_same : (x y : Actor) → y.number ≡ x.number → y.known ≡ x.known → y.own ≡ x.own → IsQuiet x y
 quiet_same x y number known made = record {
   number = number;
@@ -61,7 +61,7 @@ has_looked f y z a b found same quiet sees = subst (λ w. HasLooked (terms_of f 
   legal = sees.legal;
 }
 
--- what follows quietly upon a look leaves what was seen
+-- steps without an update after a look leave what was seen
 pub looked_then : (t : Terms) (x y z : Actor) → HasLooked t x y → IsQuiet y z → z.seen ≡ y.seen → HasLooked t x z
 looked_then t x y z looked quiet same = record {
   quiet = quiet_then x y z looked.quiet quiet;
@@ -70,7 +70,7 @@ looked_then t x y z looked quiet same = record {
   legal = subst (IsLegalHistory t) (sym same) looked.legal;
 }
 
--- a look that follows quietly upon what an actor knew
+-- a look after steps without an update extends what an actor knew
 pub looked_before : (t : Terms) (x m y : Actor) → IsQuiet x m → HasLooked t m y → HasLooked t x y
 looked_before t x m y quiet looked = record {
   quiet = quiet_then x m y quiet looked.quiet;
@@ -83,11 +83,11 @@ looked_before t x m y quiet looked = record {
 pub cell_found : (t : Terms) (x y : Actor) (look at found i : ℕ) → IsRead t x y at found → look ≡ descriptor_of x.seen → IsReady x look → i < capacity_of t.limits.buckets → at ≡ cell_place i → IsCellRead i x.seen y.known found
 cell_found t x y look at found i read is ready within place = read.cell i within place (λ has. ready.helped (subst HasPending (sym is) has))
 
--- the version of such a cell is that of an edit
+-- the version of such a cell is the number of an update
 pub version_few : (t : Terms) (i : ℕ) (k h : List Entry) (found : ℕ) → AreTerms t → IsLegalHistory t h → IsCellRead i k h found → cell_version found ≤ 16777215
 version_few t i k h found terms legal read = let few = terms.allowed.few_edits in omega (arith, read.late, length_below t h terms legal)
 
--- the element at an index that there is, and at one that there is not
+-- the element at an index, if there is one, and if there is none
 pub element_inside : (es : List Edit) (i : ℕ) (x : ℤ) → i < length (list_of es) → x ≡ slice_index_or (list_of es) i (pos 0) → element_at es i ≡ Ok x
 element_inside es i x within is = ap (λ o. ok_or o (OutOfRange (length (list_of es)))) (slice_get-get_or (list_of es) i (pos 0) within) ∙ ap Ok (sym is)
 
@@ -98,21 +98,21 @@ element_outside es i past = ap (λ o. ok_or o (OutOfRange (length (list_of es)))
 pub helped_quiet : (x y : Actor) → y.own ≡ x.own → y.known ≡ x.known → y.number ≡ x.number → IsQuiet x y
 helped_quiet x y made known number = quiet_same x y number known made
 
--- the verdict at a look is that at what it shows
+-- the precondition check at a look is that at the history that the look shows
 pub verdict_is : (limits : Bounds) (look : ℕ) (h : List Entry) (e : Edit) → edit_of look ≡ length h → size_of look ≡ length (elements_of h) → verdict_at limits look e ≡ verdict_of limits (edits_of h) e
 verdict_is limits look h e edit size = rw (edit, size, same_refusal, length-edits_of)
 
 not_worn : (limits : Bounds) (look : ℕ) (e : Edit) → verdict_at limits look e ≡ None → edit_of look ≢ limits.edits
 not_worn limits look e free same = none-some Worn (sym free ∙ cond-true _ _ _ (eq-eqb _ _ same))
 
--- an edit that nothing refuses can be packed
+-- an update that nothing refuses fits into a descriptor
 pub can_pack : {B : Type 0} (z : Basis B) (look : ℕ) (h : List Entry) (e : Edit) → IsBasis z → IsLook z.buckets z.edits look h → IsShortEdit e → IsIndexShort e → verdict_at (limits_of z) look e ≡ None → CanPack look e
 can_pack z look h e basis is short index free =
     let few = capacity_of_mono z.buckets 9 basis.few_buckets in
     let left = not_worn (limits_of z) look e free in
     record { short = short; number = omega (arith, is.few_edits, basis.few_edits); size = omega (arith, is.few_cells); index = index }
 
--- an accepted edit is added to what was seen
+-- an accepted update is added to what was seen
 pub added_of : (t : Terms) (x y : Actor) (e : Edit) (receipt : Receipt) → IsAccepted t x y record { actor = x.number; edit = e } → verdict_of t.limits (edits_of x.seen) e ≡ None → receipt ≡ receipt_of (edits_of x.seen) e → HasAdded t x y e x.seen receipt
 added_of t x y e receipt told free is = record {
   number = told.number;
@@ -125,7 +125,7 @@ added_of t x y e receipt told free is = record {
   receipt_is = is;
 }
 
--- an edit that is added after quiet steps is added to what the actor knew before them, too
+-- an update that is added after steps without an update is also added to what the actor knew before them
 added_quiet : (t : Terms) (x m y : Actor) (e : Edit) (h : List Entry) (receipt : Receipt) → IsQuiet x m → Ends x.known h → HasAdded t m y e h receipt → HasAdded t x y e h receipt
 added_quiet t x m y e h receipt quiet knew added = record {
   number = added.number ∙ quiet.number;
@@ -150,7 +150,7 @@ accepted_before t x u y e number seen known made told = record {
   legal = subst (λ h. IsLegalHistory t (record { actor = x.number; edit = e } ∷ h)) seen (subst (λ (n : ℕ). IsLegalHistory t (record { actor = n; edit = e } ∷ u.seen)) number told.legal);
 }
 
--- a try that another edit came before has looked
+-- a try that came after another update has looked
 pub contended_looked : (t : Terms) (x u y : Actor) (found : ℕ) → IsQuiet x u → IsContended t u y found → HasLooked t x y
 contended_looked t x u y found quiet told = looked_before t x u y quiet record {
   quiet = told.quiet;
@@ -159,7 +159,7 @@ contended_looked t x u y found quiet told = looked_before t x u y quiet record {
   legal = told.sees.legal;
 }
 
--- what an exchange from a look answers is what a try answers that looked
+-- the result of a compare-and-swap from a look is the result of a try that looked
 pub try_of_looked : (t : Terms) (x m y : Actor) (e : Edit) (r : Result Receipt Refusal) → HasLooked t x m → LookedAnswers t m y e r → TryAnswers t x y e r
 try_of_looked t x m y e (Ok receipt) looked added = (m.seen, added_quiet t x m y e m.seen receipt looked.quiet looked.fresh added)
 try_of_looked t x m y e (Err refusal) looked (inl (verdict, same)) = (subst (HasLooked t x) (sym same) looked, inl (ap (λ (a : Actor). verdict_of t.limits (edits_of a.seen) e) same ∙ verdict))

@@ -1,4 +1,4 @@
--- The end of a board: what its last words show, and that the entries of all seats are all that there are.
+-- The end of a board: what its last words show, and that each entry of the history is one of a seat's own.
 use Rattle.std.proofs.Common.{◌≡◌, ◌≢◌, ℕ, zero, suc, ◌+◌, ◌*◌, ◌/◌, ◌%◌, ◌<◌, ◌≤◌, true, false, nat_eq, List, [], ◌∷◌, ◌++◌, length, map, slice_index, refl, sym, ap, ◌∙◌, subst, inl, inr, arith}
 use Rattle.std.specs.Prelude.{All, pos}
 use Rattle.std.specs.List.{range_with_len, slice_index_or, sum_by}
@@ -37,13 +37,13 @@ use Rattle.lv_board.proofs.Advancing.{own-nil, own-other, own-same}
 use Rattle.lv_board.proofs.Handing.{gathers}
 use Rattle.lv_board.proofs.Keeping.{shows, state_of}
 
--- a word that is there reads so
+-- the value of a word that is there
 pub word_read : (words : List ℕ) (i word : ℕ) → get_elem? words i ≡ some word → slice_index words i ≡ word
 word_read [] i word is = absurd (some-ne-none word (sym is))
 word_read (w ∷ words) zero word is = some-injective w word is
 word_read (w ∷ words) (suc i) word is = word_read words i word is
 
--- one more element is put at the end
+-- one more element is appended
 pub collected : {X : Type 0} (f : ℕ → X) (xs ys : List X) (i : ℕ) (x : X) → xs ≡ map f (range_with_len 0 i) → ys ≡ xs ++ x ∷ [] → x ≡ f i → ys ≡ map f (range_with_len 0 (i + 1))
 collected f xs ys i x before more is = more ∙ ap (λ l. l ++ x ∷ []) before ∙ ap (λ y. map f (range_with_len 0 i) ++ y ∷ []) is ∙ sym (map-range_with_len_more f 0 i i (omega arith))
 
@@ -54,7 +54,7 @@ shown_elsewhere words i look word bits index at first is apart place there value
     ap signed (value ∙ ap value_of (sym (word_read words at word there) ∙ ap (slice_index words) place))
     ∙ sym (cond-false _ _ _ (ap (λ n. nat_eq n i) (ap index_of (sym first) ∙ sym is) ∙ other))
 
--- one more seat is gathered, before the others
+-- one more seat is merged, in front of the others
 pub gathered_more : {B : Type 0} (before after : List (Seat B)) (s : Seat B) (w u : View B) (all : List Actor) → before ≡ after ++ s ∷ [] → s.token.me.0.more ≡ [] → u ≡ gathered s.token.me.0 w → map actor_of before ++ w.actor ∷ w.more ≡ all → map actor_of after ++ u.actor ∷ u.more ≡ all
 gathered_more {B = B} before after s w u all popped alone both actors =
     ap (λ (x : View B). map actor_of after ++ x.actor ∷ x.more) both
@@ -63,7 +63,7 @@ gathered_more {B = B} before after s w u all popped alone both actors =
     ∙ ap (λ l. l ++ w.actor ∷ w.more) (sym (map-append actor_of after (s ∷ [])) ∙ ap (map actor_of) (sym popped))
     ∙ actors
 
--- nothing is gathered from no seats
+-- no seats have no actors
 pub none_gathered : {B : Type 0} (seats : List (Seat B)) → length seats ≡ 0 → map actor_of seats ≡ []
 none_gathered [] none = refl
 none_gathered (s ∷ seats) none = absurd (omega arith)
@@ -79,7 +79,7 @@ none_made : (from count : ℕ) → made_in [] from count ≡ 0
 none_made from zero = refl
 none_made from (suc count) = omega (arith, made_in-cons [] from count, ap length (own-nil from), none_made (from + 1) count)
 
--- an entry counts for its own actor alone
+-- an entry counts only for its own actor
 made_after : (e : Entry) (h : List Entry) (from count : ℕ) → e.actor < from → made_in (e ∷ h) from count ≡ made_in h from count
 made_after e h from zero before = refl
 made_after e h from (suc count) before =
@@ -97,12 +97,12 @@ made_among e h from (suc count) least most = elim (cases_lt from e.actor) [
       omega (arith, made_in-cons (e ∷ h) from count, made_in-cons h from count, ap length (own-same from e h here), made_after e h (from + 1) count (omega arith))
 ]
 
--- the entries of all actors are all that there are
+-- each entry is one of an actor's own
 pub own_total : (t : Terms) (h : List Entry) → IsLegalHistory t h → length h ≡ made_in h 0 t.seats
 own_total t [] legal = sym (none_made 0 t.seats)
 own_total t (e ∷ h) (legal, next) = let actor = next.actor in omega (arith, own_total t h legal, made_among e h 0 t.seats (omega arith) (omega arith))
 
--- what seats know of their own is what they made
+-- what seats know of their own entries is what they made
 pub known_total : {B : Type 0} (h : List Entry) (seats : List (Seat B)) → All (λ s. IsKept h (actor_of s)) seats → sum_by made_by seats ≡ sum_by (λ n. length (own n h)) (map (λ s. (actor_of s).number) seats)
 known_total h [] kept = refl
 known_total h (s ∷ seats) kept =
@@ -134,7 +134,7 @@ element_shown t words h looks i terms show within =
           cond-false _ _ _ elsewhere ∙ ap (λ w. signed (value_of w)) word ∙ cell_element t i h terms show.legal within
     ]
 
--- and so are all
+-- all elements are shown
 pub elements_shown : (t : Terms) (words : List ℕ) (h : List Entry) (looks : ℕ → ℕ) → AreTerms t → ShowsHistory t words h looks → map (shown_at words) (range_with_len 0 (size_of (slice_index words 0))) ≡ elements_of h
 elements_shown t words h looks terms show =
     let size : size_of (slice_index words 0) ≡ length (elements_of h) = ap size_of show.first ∙ (decoded t h terms show.legal).size in
@@ -142,7 +142,7 @@ elements_shown t words h looks terms show =
     ext_get_or (pos 0) (map (shown_at words) (range_with_len 0 (size_of (slice_index words 0)))) (elements_of h) (long ∙ size)
     (λ i within. get_or-map-range_with_len (shown_at words) 0 (size_of (slice_index words 0)) i i (pos 0) (omega arith) (omega arith) ∙ element_shown t words h looks i terms show (omega arith))
 
--- how many there are, which have their cells among the words
+-- how many elements there are, which all have their cells among the words
 pub size_within : (t : Terms) (words : List ℕ) (h : List Entry) (looks : ℕ → ℕ) → AreTerms t → ShowsHistory t words h looks → size_of (slice_index words 0) ≤ capacity_of t.limits.buckets
 size_within t words h looks terms show =
     let size : size_of (slice_index words 0) ≡ length (elements_of h) = ap size_of show.first ∙ (decoded t h terms show.legal).size in
@@ -152,7 +152,7 @@ pub cell_within : (t : Terms) (i : ℕ) → i < capacity_of t.limits.buckets →
 cell_within t i within = place_within t.limits (i / 8) (i % 8) (omega arith) (omega arith)
 
 module _ {S B : Type 0} (f : B → Folding) (z key : Basis B) (is_key : key ≡ z) where
-  -- the last state, where the actors of all seats stand in one view
+  -- the last state, in which one view has the actors of all seats
   pub settles : (id : ℕ) (v : View B) (actors : List Actor) (words : List ℕ) (slots : List S) → v.sits ≡ true → v.actor ∷ v.more ≡ actors → Final (Seen (TableHolds f key) id v) words slots → IsSettled (terms_of f z) actors words
   settles id v actors words slots sits are end =
       subst (λ k. Final (Seen (TableHolds f k) id v) words slots → IsSettled (terms_of f z) actors words) (sym is_key)
@@ -184,11 +184,11 @@ module _ {S B : Type 0} (f : B → Folding) (z key : Basis B) (is_key : key ≡ 
         kept = All-same (IsKept (state_of f z s rule).history) actors [] none (All-nil (IsKept (state_of f z s rule).history));
       }) end
 
--- one seat is gathered into another, at the table's key
+-- one seat is merged into another, at the table's key
 pub gathers_at_key : (S : Type 0) {B : Type 0} (f : B → Folding) (z key : Basis B) (id : ℕ) (v : View B) (other : ℕ) (w : View B) → key ≡ z → w.sits ≡ true → Joins {S = S} (TableHolds f key) id v other w (gathered v w) spent
 gathers_at_key S f z key id v other w is_key sits = subst (λ k. Joins {S = S} (TableHolds f k) id v other w (gathered v w) spent) (sym is_key) (gathers S f z id v other w sits)
 
--- what a settled board was
+-- the vector of a settled board
 pub ended_of : {B : Type 0} (t : Terms) (seats : List (Seat B)) (words : List ℕ) (closed : Closed) → IsSettled t (map actor_of seats) words → closed.edit ≡ edit_of (slice_index words 0) → closed.elements ≡ map (shown_at words) (range_with_len 0 (size_of (slice_index words 0))) → IsEnded t seats closed
 ended_of t seats words closed settled edit elements =
     let show = settled.shown in
@@ -202,7 +202,7 @@ ended_of t seats words closed settled edit elements =
       known = All-unmap (IsKept settled.history) actor_of seats settled.kept;
     }
 
--- and where all seats were handed in
+-- and the vector if all seats were handed in
 pub closed_of : {B : Type 0} (t : Terms) (seats : List (Seat B)) (closed : Closed) → AreAll t.seats seats → IsEnded t seats closed → IsClosed t seats closed
 closed_of t seats closed all ended = record {
   history = ended.history;

@@ -1,4 +1,4 @@
--- An exchange of the descriptor keeps the rule, and tells which edit was accepted, or what was found.
+-- A compare-and-swap of the descriptor keeps the rule, and says which update was accepted, or what was found.
 use Rattle.std.proofs.Common.{◌≡◌, ◌≢◌, ℕ, ◌<◌, ◌≤◌, Bool, true, false, nat_eq, None, List, [], ◌∷◌, length, slice_index, slice_set, refl, sym, ap, ◌∙◌, subst, inl, inr, arith}
 use Rattle.std.specs.Prelude.{MatchBool}
 use Rattle.std.proofs.lemmas.Bool.{cases_lt, cond-false, cond-true, eqb-true, eqb-false, eq-eqb}
@@ -51,7 +51,7 @@ whole_seen t x h terms legal seen known same =
     let long : length h ≤ length x.seen = omega (arith, ap edit_of same) in
     (Ends-same x.seen h ends long, Ends-same x.known h known (omega (arith, Ends-length x.seen x.known seen)))
 
--- the edit that the descriptors tell is the one that is exchanged
+-- the update that the descriptors determine is the one that is made
 pub told_by : (t : Terms) (seen : List Entry) (a look new : ℕ) (edit : Edit) → AreTerms t → IsLegalHistory t seen → a < t.seats → look ≡ descriptor_of seen → new ≡ descriptor_after look edit → IsShortEdit edit → verdict_at t.limits look edit ≡ None → edit_between look new ≡ edit
 told_by t seen a look new edit terms legal seat is after short free =
     let may : MayFollow t seen record { actor = a; edit = edit } = record {
@@ -69,7 +69,7 @@ module _ {S B : Type 0} (f : B → Folding) (z : Basis B) (slots id look new : �
   abbrev next : Actor
   next = record { number = me.0.actor.number; seen = entry ∷ me.0.actor.seen; known = entry ∷ me.0.actor.seen; own = entry ∷ me.0.actor.own; told = []; helped = false; marked = false; installed = me.0.actor.installed }
 
-  -- what the exchange is to answer for, where a word is found
+  -- what the compare-and-swap must satisfy, for the word that is found
   abbrev Ends' : State S (View B) → ℕ → Bool → Type 0
   Ends' s n found = (w : View B) × (a : Act S) × Valid s.homes me.1 a × TableHolds f z (stepped s 0 (either found new n) id me.1 w a)
       × ((carried_after me.1 a ≡ me.1) × (w ≡ record (me.0) { actor = w.actor; moves = Exchange me.0.actor.number (edit_between look new) ∷ me.0.moves }))
@@ -192,14 +192,14 @@ module _ {S B : Type 0} (f : B → Folding) (z : Basis B) (slots id look new : �
       let (w, a, valid, holds, same, told) = by_found s rule at (nat_eq (slice_index s.words 0) look) refl in
       (w, a, valid, holds, (same, told))
 
--- the edit that the descriptors tell is the one that was exchanged
+-- the update that the descriptors determine is the one that was made
 pub told_edit : (t : Terms) (x y : Actor) (look new : ℕ) (edit : Edit) → look ≡ descriptor_of x.seen → new ≡ descriptor_after look edit → IsShortEdit edit → verdict_at t.limits look edit ≡ None → IsAccepted t x y record { actor = x.number; edit = edit_between look new } → edit_between look new ≡ edit
 told_edit t x y look new edit is after short free told = told_by t x.seen x.number look new edit told.terms told.legal.0 told.legal.1.actor is after short free
 
 pub accepted_as : (t : Terms) (x y : Actor) (look new : ℕ) (edit : Edit) → look ≡ descriptor_of x.seen → new ≡ descriptor_after look edit → IsShortEdit edit → verdict_at t.limits look edit ≡ None → IsAccepted t x y record { actor = x.number; edit = edit_between look new } → IsAccepted t x y record { actor = x.number; edit = edit }
 accepted_as t x y look new edit is after short free told = subst (λ (e : Edit). IsAccepted t x y record { actor = x.number; edit = e }) (told_edit t x y look new edit is after short free told) told
 
--- the descriptor that was put there is a look of the history with the edit
+-- the descriptor that was written is a look of the history with the update
 pub look_accepted : (t : Terms) (x y : Actor) (look new : ℕ) (edit : Edit) → look ≡ descriptor_of x.seen → new ≡ descriptor_after look edit → IsShortEdit edit → verdict_at t.limits look edit ≡ None → IsAccepted t x y record { actor = x.number; edit = edit } → IsLook t.limits.buckets t.limits.edits new y.seen
 look_accepted t x y look new edit is after short free told =
     let word : new ≡ descriptor_of (record { actor = x.number; edit = edit } ∷ x.seen) = after ∙ ap (λ w. descriptor_after w edit) is ∙ next_descriptor t x.seen record { actor = x.number; edit = edit } told.terms told.legal.0 told.legal.1 in
@@ -209,7 +209,7 @@ module _ {S B : Type 0} (f : B → Folding) (z key : Basis B) (is_key : key ≡ 
   pub exchanges_at_key : look ≡ descriptor_of me.0.actor.seen → new ≡ descriptor_after look edit → IsShortEdit edit → IsReady me.0.actor look → verdict_at record { buckets = z.buckets; edits = z.edits } look edit ≡ None → Allows (TableHolds f key) slots id me 0 (λ n. either (nat_eq n look) new n) (Exchanges f (step slots 0 look new none) me)
   exchanges_at_key is after short ready free = subst (λ k. Allows (TableHolds f k) slots id me 0 (λ n. either (nat_eq n look) new n) (Exchanges f (step slots 0 look new none) me)) (sym is_key) (exchanges_allowed f z slots id look new edit me seat is after short ready free)
 
--- what an actor made is its own after an edit of its, too
+-- what an actor made is its own after its update, too
 pub made_accepted : (t : Terms) (x y : Actor) (e : Edit) → own x.number x.known ≡ x.own → IsAccepted t x y record { actor = x.number; edit = e } → own y.number y.known ≡ y.own
 made_accepted t x y e was told =
     ap (λ n. own n y.known) told.number ∙ ap (own x.number) told.known ∙ own-same x.number record { actor = x.number; edit = e } x.seen refl

@@ -1,4 +1,4 @@
--- Splitting and joining views keeps the rule: dealing seats, handing on what one knows, gathering the seats.
+-- Splitting and joining views keeps the rule: seats are dealt, pass on what they know, and are merged.
 use Rattle.std.proofs.Common.{◌≡◌, ◌≢◌, ◌⊎◌, ℕ, zero, suc, ◌+◌, ◌<◌, true, false, nat_eq, List, [], ◌∷◌, ◌++◌, length, refl, sym, ap, ◌∙◌, subst, inl, inr, ⊎_elim, length-set, arith}
 use Rattle.std.specs.Prelude.{if◌then◌else◌}
 use Rattle.std.proofs.lemmas.Bool.{cond-false, cond-true, eq-eqb, false≢true}
@@ -21,7 +21,7 @@ use Rattle.lv_board.specs.Rule.{ActorFits, IsThere, newcomer, terms_of}
 use Rattle.lv_board.specs.TableRule.{dealer_from, gathered, HasMade, TableHolds, informed, IsSeat, note, spent, ViewFits}
 use Rattle.lv_board.proofs.Advancing.{own-nil}
 
--- no history is an earlier one of each
+-- the empty history is an earlier state of every history
 pub Ends-none : (h : List Entry) → Ends [] h
 Ends-none h = record { later = h; whole_is = sym (append-nil h) }
 
@@ -37,7 +37,7 @@ there_below [] b j e = absurd (some-ne-none b (sym e))
 there_below (x ∷ xs) b zero e = omega arith
 there_below (x ∷ xs) b (suc j) e = let less = there_below xs b j e in omega arith
 
--- with another owner of its number, an actor fits another token
+-- an actor fits another token if its number has another owner
 refit : (seats : ℕ) (c : Config) (owner owner' : ℕ → ℕ) (id id' : ℕ) (x : Actor) → ActorFits seats c owner id x → owner' x.number ≡ id' → ActorFits seats c owner' id' x
 refit seats c owner owner' id id' x fits is = record {
   number = fits.number;
@@ -73,7 +73,7 @@ module _ {B : Type 0} (f : B → Folding) (z : Basis B) where
     more = All-weaker (ActorFits z.seats c owner id) (ActorFits z.seats c owner' id) (λ x y. refit z.seats c owner owner' id id x y (same x.number y.owner_is)) v.more fits.more;
   }
 
-  -- a view that says nothing but what it knows
+  -- a view that says nothing except what it knows
   quiet_fits : (c : Config) (owner : ℕ → ℕ) (id : ℕ) (k : List Entry) → Ends k c.history → ViewFits f z c owner id record { actor = record { number = 0; seen = []; known = k; own = []; told = []; helped = false; marked = false; installed = [] }; sits = false; deals = false; bases = []; moves = []; more = [] }
   quiet_fits c owner id k known = record {
     known = known;
@@ -235,7 +235,7 @@ module _ (S : Type 0) {B : Type 0} (f : B → Folding) (z : Basis B) where
             (at_set (set s.views id (informed v w)) other j spent u here);
       }
 
-  -- a seat takes in another, whose place is its own from then on
+  -- a seat takes in another one, and has its place from then on
   pub gathers : (id : ℕ) (v : View B) (other : ℕ) (w : View B) → w.sits ≡ true → Joins {S = S} (TableHolds f z) id v other w (gathered v w) spent
   gathers id v other w sits s rule at apart there =
       let c = state_of f z s rule in

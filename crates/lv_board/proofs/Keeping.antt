@@ -1,4 +1,4 @@
--- Each step of a seat keeps the rule, and tells what it says.
+-- Each step of a seat keeps the rule, and guarantees what the specification of the step says.
 use Rattle.std.proofs.Common.{◌≡◌, ◌≢◌, ℕ, ◌+◌, ◌-◌, ◌/◌, ◌%◌, ◌<◌, ◌≤◌, max, true, false, List, [], ◌∷◌, slice_index, slice_set, refl, sym, ap, ◌∙◌, subst, ⊎_elim, arith}
 use Rattle.std.proofs.lemmas.Bool.{cond-true, eq-eqb}
 use Rattle.std.proofs.lemmas.List.Elements.{All-cons}
@@ -42,7 +42,7 @@ module _ {S B : Type 0} (f : B → Folding) (z : Basis B) where
   pub shows : (s : State S (View B)) (rule : TableHolds f z s) → Shows (terms_of f z) (state_of s rule)
   shows s rule = reached_shows (terms_of f z) rule.moves rule.terms rule.allowed
 
-  -- a move of the seat `id` keeps the rule, where the seat's new view is true of the new state
+  -- a move of the seat `id` keeps the rule, if the seat's new view is true of the new state
   pub rule_moved : (s : State S (View B)) (rule : TableHolds f z s) (id i n : ℕ) (cs : List (ℕ × S)) (u : View B) (y : Actor) (m : Move) → IsSeat u → get_elem? s.views id ≡ some u → y.number ≡ u.actor.number → mover m ≡ u.actor.number → rule.owner u.actor.number ≡ id → MayMove (terms_of f z) (state_of s rule) m → (moved (state_of s rule) m).words ≡ slice_set (state_of s rule).words i n → ViewFits f z (moved (state_of s rule) m) rule.owner id (record u { actor = y; moves = m ∷ u.moves }) → TableHolds f z (stepped s i n id cs (record u { actor = y; moves = m ∷ u.moves }) keeps)
   unfolding reached
   rule_moved s rule id i n cs u y m seat here number of owned may words fits = record {
@@ -182,7 +182,7 @@ module _ {S B : Type 0} (f : B → Folding) (z : Basis B) where
         (refl, refl),
       )
 
-  -- completing the mark of its block
+  -- completing the mark of the block of that cell
   pub helps_mark_allowed : (slots id look : ℕ) (me : Me S (View B)) → IsSeat me.0 → look ≡ descriptor_of me.0.actor.seen → HasPending look → Allows (TableHolds f z) slots id me (mark_place (index_of look / 8)) (λ n. max n (edit_of look)) (HelpsMark (step slots (mark_place (index_of look / 8)) (edit_of look) 0 none) me)
   helps_mark_allowed slots id look me seat is has s rule homes at below =
       let fits = rule.views id me.0 at in
@@ -216,7 +216,7 @@ module _ {S B : Type 0} (f : B → Folding) (z : Basis B) where
         (refl, refl),
       )
 
-  -- installing a part of a block that is whole where the seat looked
+  -- installing a part of a block that is full as the seat sees it
   pub installs_allowed : (slots id b p n : ℕ) (me : Me S (View B)) → IsSeat me.0 → b < blocks_of (terms_of f z).limits → p < (f z.body).parts → is_whole (edits_of me.0.actor.seen) (block b) ≡ true → n ≡ part_word (mark_of b me.0.actor.seen) ((f z.body).part p (elements_under (edits_of me.0.actor.seen) (block b))) → Allows (TableHolds f z) slots id me (part_place b p) (λ w. max w n) (Installs (step slots (part_place b p) n 0 none) me)
   installs_allowed slots id b p n me seat near few whole is s rule homes at below =
       let fits = rule.views id me.0 at in
@@ -253,7 +253,7 @@ module _ {S B : Type 0} (f : B → Folding) (z : Basis B) where
         (refl, ap (λ made. record (me.0) { actor = record (me.0.actor) { installed = put ∷ me.0.actor.installed }; moves = made ∷ me.0.moves }) (install_at me.0.actor.number b p n (omega (arith, few, rule.terms.few_parts)))),
       )
 
--- the same steps at the table's key, and at the places and words that the code computes
+-- these steps at the table's key, and at the places and words that the code computes
 module _ {S B : Type 0} (f : B → Folding) (z key : Basis B) (is_key : key ≡ z) (slots id : ℕ) (me : Me S (View B)) (seat : IsSeat me.0) where
   pub looks_at_key : Allows (TableHolds f key) slots id me 0 (λ n. n) (Looks f (step slots 0 0 0 none) me)
   looks_at_key = subst (λ k. Allows (TableHolds f k) slots id me 0 (λ n. n) (Looks f (step slots 0 0 0 none) me)) (sym is_key) (looks_allowed f z slots id me seat)

@@ -1,4 +1,4 @@
--- How the moves of a call's steps make up those of the call.
+-- How the moves of a call's steps make up the moves of the call.
 use Rattle.std.proofs.Common.{◌≡◌, ℕ, suc, ◌+◌, ◌*◌, ◌≤◌, Option, Some, None, Result, List, [], ◌∷◌, ◌++◌, append_assoc, refl, sym, ap, ◌∙◌, arith}
 use Rattle.lv_geometry.specs.declared.refusals.Refusal.{Refusal}
 use Rattle.lv_geometry.specs.declared.refusals.Refusal.TheVariants.{Contended, Overtaken}
@@ -18,15 +18,15 @@ use Rattle.lv_board.specs.Tells.{actor_of, HasMoved, moves_of}
 use Rattle.lv_board.specs.Walks.{HasRead}
 use Rattle.lv_board.proofs.Walking.{seen_still}
 
--- an edit that its verdict refuses makes no move
+-- an update that the precondition check refuses makes no move
 pub edit_refused : {A : Type 0} (t : Terms) (x : Actor) (edit : Edit) (result : Result A Refusal) (refusal : Refusal) (moves : List Move) → verdict_of t.limits (edits_of x.seen) edit ≡ Some refusal → moves ≡ edit_moves t x edit result ++ moves
 edit_refused t x edit result refusal moves is = sym (ap (λ o. unless_refused o (exchanging x.number edit (cell_load x.number edit ++ help_of x.number x.seen) (refusal_in result)) ++ moves) is)
 
--- one that nothing refuses makes those up to its end
+-- an update that nothing refuses makes the moves up to its end
 pub edit_made : {A : Type 0} (t : Terms) (x : Actor) (edit : Edit) (result : Result A Refusal) (before after : List Move) → verdict_of t.limits (edits_of x.seen) edit ≡ None → after ≡ exchanging x.number edit (cell_load x.number edit ++ help_of x.number x.seen) (refusal_in result) ++ before → after ≡ edit_moves t x edit result ++ before
 edit_made t x edit result before after free is = is ∙ sym (ap (λ o. unless_refused o (exchanging x.number edit (cell_load x.number edit ++ help_of x.number x.seen) (refusal_in result)) ++ before) free)
 
--- the last of them is the exchange, where it was made or found another descriptor
+-- the last of them is the compare-and-swap, if it succeeded or found another descriptor
 pub exchange_made : (a b : ℕ) (edit : Edit) (ready before on after : List Move) → b ≡ a → on ≡ ready ++ before → after ≡ Exchange b edit ∷ on → after ≡ exchanging a edit ready None ++ before
 exchange_made a b edit ready before on after number first second = second ∙ ap (λ n. Exchange n edit ∷ on) number ∙ ap (λ l. Exchange a edit ∷ l) first
 
@@ -35,12 +35,12 @@ exchange_lost a b n edit refusal ready before on after is number first second =
     second ∙ ap (λ n. Exchange n edit ∷ on) number ∙ ap (λ l. Exchange a edit ∷ l) first
     ∙ sym (ap (λ r. exchanging a edit ready (Some r) ++ before) is)
 
--- it isn't where a load found a later edit
+-- there is none if a load found a later update
 pub exchange_left : (a n : ℕ) (edit : Edit) (refusal : Refusal) (ready before after : List Move) → refusal ≡ Overtaken n → after ≡ ready ++ before → after ≡ exchanging a edit ready (Some refusal) ++ before
 exchange_left a n edit refusal ready before after is first = first ∙ sym (ap (λ r. exchanging a edit ready (Some r) ++ before) is)
 
 module _ {B : Type 0} where
-  -- a look and an edit from it are a try
+  -- a look and an update from it are a try
   pub is_try : (t : Terms) (edit : Edit) (result : Result Receipt Refusal) (s m u : Seat B) → HasLooked t (actor_of s) (actor_of m) → LookedAnswers t (actor_of m) (actor_of u) edit result → HasMoved Look s m → HasMovedBy (edit_moves t (actor_of m) edit result) m u → IsTry t edit result s u
   is_try t edit result s m u looked answers first then = record {
     look = actor_of m;
@@ -68,7 +68,7 @@ module _ {B : Type 0} where
       ∙ ap (λ ms. loads_of n (actor_of s).number ++ ms) first
       ∙ sym (append_assoc (loads_of n (actor_of s).number) (help_of (actor_of s).number (actor_of u).seen) (Look (actor_of s).number ∷ moves_of s))
 
-  -- and parts that are installed then
+  -- and parts that are installed afterwards
   pub read_and_installed : (t : Terms) (b : ℕ) (s u w : Seat B) → (actor_of u).number ≡ (actor_of s).number → (actor_of w).seen ≡ (actor_of u).seen → HasHelpedAnd (loads_of 9 (actor_of s).number) s u → HasMovedBy (installs_of t (actor_of u).number b (actor_of u).seen t.folding.parts) u w → HasHelpedAnd (installs_of t (actor_of s).number b (actor_of w).seen t.folding.parts ++ loads_of 9 (actor_of s).number) s w
   read_and_installed t b s u w number seen reads installs =
       let a = (actor_of s).number in

@@ -1,4 +1,4 @@
--- Seats of which no two have one number: how many they can be, and what all of them made together.
+-- Seats with distinct numbers: how many there can be, and what all of them made together.
 use Rattle.std.proofs.Common.{◌≡◌, ◌≢◌, ℕ, zero, suc, ◌+◌, ◌<◌, ◌≤◌, ◌||◌, true, false, nat_eq, List, [], ◌∷◌, ◌++◌, length, map, get_or, refl, sym, ap, ◌∙◌, subst, inl, inr, arith}
 use Rattle.std.specs.Prelude.{◌⊎◌, All, slice_index_or}
 use Rattle.std.proofs.lemmas.Cmp.{nat_eq_equiv}
@@ -20,12 +20,12 @@ use Rattle.lv_board.specs.declared.seats.Seat.{Seat}
 use Rattle.lv_board.specs.Tells.{actor_of}
 use Rattle.lv_board.proofs.Advancing.{own-nil, own-other, own-same}
 
--- some of the seats of a board of so many: no two of one number
+-- some of the seats of a board, with distinct numbers
 pub record AreSome {B : Type 0} (count : ℕ) (seats : List (Seat B)) : Type 0 where
   pub below : All (λ s. (actor_of s).number < count) seats
   pub apart : IsDistinct nat_eq (map (λ s. (actor_of s).number) seats)
 
--- a number that is among some is below what they are all below
+-- a number among some that are all below n is below n
 among_below : (xs : List ℕ) (n q : ℕ) → All (λ x. x < n) xs → list_any (nat_eq q) xs ≡ true → q < n
 among_below [] n q all any = absurd (false≢true any)
 among_below (x ∷ xs) n q all any = elim (cases_Bool (nat_eq q x)) [
@@ -33,18 +33,18 @@ among_below (x ∷ xs) n q all any = elim (cases_Bool (nat_eq q x)) [
   | inr other ↦ among_below xs n q (All-tail (λ m. m < n) x xs all) (ap (λ b. b || list_any (nat_eq q) xs) (sym other) ∙ any)
 ]
 
--- numbers below n, no two the same, are at most n
+-- distinct numbers below n are at most n
 few_below : (xs : List ℕ) (n : ℕ) → IsDistinct nat_eq xs → All (λ x. x < n) xs → length xs ≤ n
 few_below xs n apart all = length-le_from_distinct_below xs n apart (λ q any. among_below xs n q all any)
 
--- where they are n, each number below n is among them
+-- if they are n, each number below n is among them
 full_has : (xs : List ℕ) (n a : ℕ) → IsDistinct nat_eq xs → All (λ x. x < n) xs → length xs ≡ n → a < n → list_any (nat_eq a) xs ≡ true
 full_has xs n a apart all long less = elim (cases_Bool (list_any (nat_eq a) xs)) [
   | inl has ↦ has
   | inr lacks ↦ absurd (omega (arith, long, length-append xs (a ∷ []), few_below (xs ++ a ∷ []) n (IsDistinct-push nat_eq_equiv xs a apart lacks) (All-push (λ x. x < n) xs a all less)))
 ]
 
--- no two of the numbers below k are the same
+-- the numbers below k are distinct
 range_apart : (k : ℕ) → IsDistinct nat_eq (range_with_len 0 k)
 range_apart k = IsDistinct-from_apart nat_eq (range_with_len 0 k) (λ i j d less within.
     let inside : j < k = omega (arith, length-range_with_len 0 k, within) in
@@ -54,7 +54,7 @@ range_apart k = IsDistinct-from_apart nat_eq (range_with_len 0 k) (λ i j d less
     let apart : get_or (range_with_len 0 k) i d ≢ get_or (range_with_len 0 k) j d = omega (arith, first, second) in
     ne_eqb (get_or (range_with_len 0 k) i d) (get_or (range_with_len 0 k) j d) apart)
 
--- numbers that have each number below k, and k too, have each below the next
+-- numbers that have each number below k, and k too, have each number below k + 1
 has_more : (xs : List ℕ) (k : ℕ) → ((n : ℕ) → n < k → list_any (nat_eq n) xs ≡ true) → list_any (nat_eq k) xs ≡ true → (n : ℕ) → n < suc k → list_any (nat_eq n) xs ≡ true
 has_more xs k has here n less = elim (cases_Bool (nat_eq n k)) [
   | inl same ↦ subst (λ m. list_any (nat_eq m) xs ≡ true) (sym (eqb-true n k same)) here
@@ -74,7 +74,7 @@ has_or_lacks xs (suc k) = elim (has_or_lacks xs k) [
   ]
 ]
 
--- where they are fewer than k, one isn't among them
+-- if they are fewer than k, one isn't among them
 lacks_one : (xs : List ℕ) (k : ℕ) → length xs < k → (n : ℕ) × (n < k) × (list_any (nat_eq n) xs ≡ false)
 lacks_one xs k few = elim (has_or_lacks xs k) [
   | inr lacks ↦ lacks
@@ -83,7 +83,7 @@ lacks_one xs k few = elim (has_or_lacks xs k) [
       absurd (omega (arith, few, length-range_with_len 0 k, length-le_from_is_member nat_eq_equiv (range_with_len 0 k) xs (range_apart k) (λ q any. has q (among_below (range_with_len 0 k) k q below any))))
 ]
 
--- where actors are fewer than the seats of a board, there is a seat with none of their numbers
+-- if actors are fewer than the seats of a board, there is a seat with none of their numbers
 pub seat_out : (count : ℕ) (left : List Actor) → length left < count → (n : ℕ) × (n < count) × All (λ x. x.number ≢ n) left
 seat_out count left few =
     let long = length-map left (λ (x : Actor). x.number) in
@@ -100,7 +100,7 @@ lacks_by : (xs : List ℕ) (a : ℕ) → AllByRecursion (λ y. nat_eq a y ≡ fa
 lacks_by [] a apart = refl
 lacks_by (x ∷ xs) a (first, rest) = ap (λ b. b || list_any (nat_eq a) xs) first ∙ lacks_by xs a rest
 
--- an entry counts for its own actor alone, and once
+-- an entry counts only for its own actor, and once
 not_counted : (e : Entry) (h : List Entry) (xs : List ℕ) → list_any (nat_eq e.actor) xs ≡ false → sum_by (λ n. length (own n (e ∷ h))) xs ≡ sum_by (λ n. length (own n h)) xs
 not_counted e h [] lacks = refl
 not_counted e h (x ∷ xs) lacks = elim (cases_Bool (nat_eq e.actor x)) [
@@ -126,7 +126,7 @@ none_made : (xs : List ℕ) → sum_by (λ n. length (own n [])) xs ≡ 0
 none_made [] = refl
 none_made (x ∷ xs) = omega (arith, sum_by-cons (λ n. length (own n [])) x xs, ap length (own-nil x), none_made xs)
 
--- the entries of all actors are all that there are
+-- each entry is one of an actor's own
 pub all_made : (t : Terms) (h : List Entry) (xs : List ℕ) → IsDistinct nat_eq xs → All (λ x. x < t.seats) xs → length xs ≡ t.seats → IsLegalHistory t h → length h ≡ sum_by (λ n. length (own n h)) xs
 all_made t [] xs apart below long legal = sym (none_made xs)
 all_made t (e ∷ h) xs apart below long (legal, next) = omega (arith, all_made t h xs apart below long legal, counted_once e h xs apart (full_has xs t.seats e.actor apart below long next.actor))
@@ -154,7 +154,7 @@ module _ {B : Type 0} where
         (IsDistinct-push nat_eq_equiv (map (λ u. (actor_of u).number) seats) (actor_of s).number some.apart (lacks_number seats (actor_of s).number apart));
   }
 
-  -- so there was room for it
+  -- therefore there was room for it
   pub some_few : (count : ℕ) (seats : List (Seat B)) → AreSome count seats → length seats ≤ count
   some_few count seats some = omega (arith, few_below (map (λ u. (actor_of u).number) seats) count some.apart (some_below count seats some), length-map seats (λ u. (actor_of u).number))
 

@@ -41,7 +41,7 @@ part_below xs p below = elim (cases_lt p (length xs)) [
   | inr past ↦ omega (arith, nothing xs p past)
 ]
 
--- a basis and the parts of a body make terms
+-- a basis and the parts of a monoid instance make terms
 parts_make_terms : {B S : Type 0} (count : ℕ) (parts : S → List ℕ) (operations : B → Operations S) (z : Basis B) → count ≤ 4 → AreParts count parts → IsBasis z → AreTerms (terms_of (folds count parts operations) z)
 parts_make_terms count parts operations z few are basis = record {
   allowed = record { some_buckets = basis.some_buckets; few_buckets = omega (arith, basis.few_buckets); some_edits = basis.some_edits; few_edits = basis.few_edits };
@@ -51,7 +51,7 @@ parts_make_terms count parts operations z few are basis = record {
   short_parts = λ p xs. part_below (parts (fold_of (operations z.body) xs)) p (are.below (fold_of (operations z.body) xs));
 }
 
--- the same, where a body's folds are kept by parts
+-- a basis makes terms if a monoid instance's folds are stored in parts
 pub are_terms : {B S : Type 0} (f : B → Folding) (count : ℕ) (parts : S → List ℕ) (operations : B → Operations S) (z : Basis B) → f ≡ folds count parts operations → count ≤ 4 → AreParts count parts → IsBasis z → AreTerms (terms_of f z)
 are_terms f count parts operations z by_parts few are basis = subst (λ g. AreTerms (terms_of g z)) (sym by_parts) (parts_make_terms count parts operations z few are basis)
 
@@ -98,7 +98,7 @@ first_of buckets edits =
       pending = λ has. absurd (omega (arith, index_of-nil));
     }
 
--- the look of no edits
+-- the look of no updates
 pub first_look : (buckets edits look : ℕ) (seen : List Entry) → look ≡ descriptor_of [] → seen ≡ [] → IsLook buckets edits look seen
 first_look buckets edits look seen is none = subst (λ w. IsLook buckets edits w seen) (sym is) (subst (IsLook buckets edits (descriptor_of [])) (sym none) (first_of buckets edits))
 
@@ -106,7 +106,7 @@ first_look buckets edits look seen is none = subst (λ w. IsLook buckets edits w
 pub deals_at_key : (S : Type 0) {B : Type 0} (f : B → Folding) (z key : Basis B) (id k : ℕ) (v : View B) → key ≡ z → v ≡ dealer_from z k → k < z.seats → Splits {S = S} (TableHolds f key) id v (dealt v) (fresh v)
 deals_at_key S f z key id k v is_key is below = subst (λ w. Splits {S = S} (TableHolds f w) id v (dealt v) (fresh v)) (sym is_key) (subst (λ u. Splits {S = S} (TableHolds f z) id u (dealt u) (fresh u)) (sym is) (deals S f z id k below))
 
--- a seat's view that is fresh
+-- the view of a new seat
 pub fresh_seat : {B : Type 0} (z : Basis B) (k : ℕ) (v w : View B) → v ≡ dealer_from z k → w ≡ fresh v → w ≡ record { actor = newcomer k; sits = true; deals = false; bases = z ∷ []; moves = []; more = [] }
 fresh_seat z k v w is made = made ∙ ap fresh is
 
@@ -122,7 +122,7 @@ dealt_more table z seats s before at is k within = elim (cases_lt k (length seat
       subst (λ o. IfSome o (λ s. IsAt table z s × (actor_of s ≡ newcomer k))) (ap Some (sym (get_or_push seats s s k last)) ∙ sym (slice_get-get_or (seats ++ s ∷ []) k s within)) (at, is ∙ ap newcomer last)
 ]
 
--- the handing on of what a seat knows, at the table's key
+-- passing on what a seat knows, at the table's key
 pub notes_at_key : (S : Type 0) {B : Type 0} (f : B → Folding) (z key : Basis B) (id : ℕ) (v : View B) → key ≡ z → Splits {S = S} (TableHolds f key) id v v (note v)
 notes_at_key S f z key id v is_key = subst (λ w. Splits {S = S} (TableHolds f w) id v v (note v)) (sym is_key) (notes S f z id v)
 

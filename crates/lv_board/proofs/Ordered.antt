@@ -1,4 +1,4 @@
--- Seats in the order of their numbers: those of a new board, those after calls that leave each the one that it was, and what a close asks.
+-- Seats in the order of their numbers: those of a new board, those after calls that keep each seat at its place, and what a close requires.
 use Rattle.std.proofs.Common.{◌≡◌, ◌≢◌, ℕ, ◌<◌, nat_eq, List, [], ◌∷◌, length, map, IfSome, get_or, sym, ap, ◌∙◌, subst, arith}
 use Rattle.std.specs.List.{IsDistinct, range_with_len}
 use Rattle.std.proofs.lemmas.Bool.{ne_eqb}
@@ -42,7 +42,7 @@ module _ {B : Type 0} (table : TableId) (z : Basis B) where
         (still_at table z (get_or seats k s) (get_or after k s) was.0 is, is.number ∙ was.1);
   }
 
-  -- what a close asks of them
+  -- what a close requires of them
   pub order_at : (seats : List (Seat B)) → AreInOrder table z seats → AreAt table z seats
   order_at seats order = λ k s within. (order.each k s within).0
 
@@ -57,7 +57,7 @@ module _ {B : Type 0} (table : TableId) (z : Basis B) where
   order_all [] order = subst (λ n. IsPermutation (range_with_len 0 n) []) order.count (IsPermutation-refl [])
   order_all (s ∷ rest) order = order_from (s ∷ rest) s order
 
-  -- no two of them have one number
+  -- their numbers are distinct
   some_from : (seats : List (Seat B)) → Seat B → AreInOrder table z seats → IsDistinct nat_eq (map (λ u. (actor_of u).number) seats)
   some_from seats s order = IsDistinct-from_apart nat_eq (map (λ u. (actor_of u).number) seats) (λ i j d less within.
       let inside : j < length seats = subst (λ n. j < n) (length-map seats (λ u. (actor_of u).number)) within in

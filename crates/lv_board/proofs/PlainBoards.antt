@@ -1,4 +1,4 @@
--- Each line of a board's session is answered as lists tell.
+-- Each line of a board's session satisfies the reference model.
 use Rattle.std.proofs.Common.{◌≡◌, ◌⊎◌, ℕ, ℤ, pos, ◌+◌, ◌<◌, ◌≤◌, Bool, true, false, Option, Some, None, Result, Ok, Err, List, [], ◌∷◌, ◌++◌, length, nat_lt, ok_or, sum, All, map, refl, sym, ap, ap₂, ◌∙◌, subst, inl, inr, arith}
 use Rattle.std.specs.List.{sum_by}
 use Rattle.std.specs.Prelude.{if◌then◌else◌}
@@ -59,15 +59,15 @@ there : (edits : List Edit) (i : ℕ) → i < length (list_of edits) → missing
 there edits i within = ap (λ found. missing (ok_or found (OutOfRange (length (list_of edits))))) (slice_get-get_or (list_of edits) i (pos 0) within)
 
 module _ {S : Type 0} (t : Terms) (o : Operations S) (kind : Kind) (shown : S → Shown) (plain : List ℤ → Shown) (terms : AreTerms t) (shows : (xs : List ℤ) → CanFold xs → shown (fold_of o xs) ≡ plain xs) where
-  -- an actor that looked and made no edit only reads
+  -- an actor that looked and made no update only reads
   reads : (a b : Actor) → HasLooked t a b → OnlyReads b.seen (sat_of a) (sat_of b)
   reads a b looked = record { known = looked.kept; own_is = ap (λ n. own n b.known) looked.quiet.number ∙ looked.quiet.own_is }
 
-  -- it reads what it knew where it stays as it was
+  -- it reads what it knew if it is unchanged
   stays : (a b : Actor) → b ≡ a → OnlyReads a.known (sat_of a) (sat_of b)
   stays a b same = record { known = subst (λ x. Ends a.known x.known) (sym same) (Ends-whole a.known); own_is = ap (λ x. own x.number x.known) same }
 
-  -- answers of an actor that looked
+  -- replies to an actor that looked
   granted : (a b : Actor) (asked : Call) (text : List ℕ) → edit_of asked ≡ None → HasLooked t a b → refusal_at t.limits b.seen asked ≡ None → text ≡ reply_at kind plain b.seen asked → PlainCall t.limits kind plain (sat_of a) asked text (sat_of b)
   granted a b asked text reading looked free is =
       record { at = b.seen; grown = looked.fresh; number = looked.quiet.number; answer = inl (free, is, subst (λ e. Adds b.seen e (sat_of a) (sat_of b)) (sym reading) (reads a b looked)) }
@@ -84,20 +84,20 @@ module _ {S : Type 0} (t : Terms) (o : Operations S) (kind : Kind) (shown : S �
     answer = inr (inr (free, record { number = over.version; told = inl (is ∙ ap refused_text over.refusal_is); later = over.later; known = over.shown }, reads a b looked));
   }
 
-  -- a call that is refused at once: nothing has changed
+  -- a call that is refused at once, so that nothing has changed
   at_once : (a b : Actor) (asked : Call) (text : List ℕ) (refusal : Refusal) → b ≡ a → refusal_at t.limits a.known asked ≡ Some refusal → text ≡ refused_text refusal → PlainCall t.limits kind plain (sat_of a) asked text (sat_of b)
   at_once a b asked text refusal same why is =
       record { at = a.known; grown = Ends-whole a.known; number = ap (λ x. x.number) same; answer = inr (inl (refusal, why, is, stays a b same)) }
 
-  -- ---- edits
+  -- ---- updates
 
-  -- a call that is an edit, which its verdict alone refuses
+  -- a call that is an update, which only its precondition check refuses
   pub record IsEdit (asked : Call) (e : Edit) : Type 0 where
     pub edit : edit_of asked ≡ Some e
     pub refusal : (h : List Entry) → refusal_at t.limits h asked ≡ verdict_of t.limits (edits_of h) e
     pub reply : (h : List Entry) → reply_at kind plain h asked ≡ receipt_text (receipt_of (edits_of h) e)
 
-  -- an edit that was tried
+  -- an update that was tried
   tried : (a b : Actor) (asked : Call) (e : Edit) (text : List ℕ) (result : Result Receipt Refusal) → IsEdit asked e → TryAnswers t a b e result → text ≡ said_text kind 0 (said_shown shown (said_by saying.Did result))
       → PlainCall t.limits kind plain (sat_of a) asked text (sat_of b)
   tried a b asked e text (Ok receipt) its answers is =
@@ -134,7 +134,7 @@ module _ {S : Type 0} (t : Terms) (o : Operations S) (kind : Kind) (shown : S �
         }
       ]
 
-  -- an edit of an element
+  -- an update that carries an element
   tries : (a b : Actor) (asked : Call) (x : ℤ) (e : Edit) (end : Said S) (text : List ℕ) → edit_of asked ≡ Some e → ((h : List Entry) → refusal_at t.limits h asked ≡ short_refusal x (verdict_of t.limits (edits_of h) e))
       → ((h : List Entry) → reply_at kind plain h asked ≡ receipt_text (receipt_of (edits_of h) e)) → Edits t (TryAnswers t) (fold_of o) x e a end b → text ≡ said_text kind 0 (said_shown shown end) → PlainCall t.limits kind plain (sat_of a) asked text (sat_of b)
   tries a b asked x e end text its refuses replies tried_so is =
@@ -209,7 +209,7 @@ module _ {S : Type 0} (t : Terms) (o : Operations S) (kind : Kind) (shown : S �
   step_plain a s n line text b is step =
       (sat_of b, refl, subst (λ s. PlainBoardStep t.limits kind plain s n line text (sat_of b)) (sym is) (line_plain a b n (board_line_of kind line) text step))
 
-  -- the conversation of a seat is one of lists
+  -- the conversation of a seat satisfies the reference model
   pub session_plain : {R : Type 0} (a b : Actor) (k l u v : Option (List ℕ)) (result : Result R Fault) → LinesServed (BoardStep t o kind shown) a b k l u v result → LinesServed (PlainBoardStep t.limits kind plain) (sat_of a) (sat_of b) k l u v result
   session_plain a b k l u v result c =
       let came = lines_served_as (λ x s. s ≡ sat_of x) (record { moves = step_plain }) a (sat_of a) b k l u v result refl c in

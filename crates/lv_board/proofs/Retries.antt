@@ -1,4 +1,4 @@
--- What several tries of one edit leave behind.
+-- The effect of several tries of one update.
 use Rattle.std.proofs.Common.{rules, ◌≡◌, ℕ, zero, suc, ◌+◌, Some, Result, Ok, Err, List, ◌∷◌, refl, sym, ap, ◌∙◌, subst, inl, inr, arith}
 use Rattle.lv_geometry.specs.Bounds.{Bounds}
 use Rattle.lv_geometry.specs.declared.refusals.Refusal.{Refusal}
@@ -16,11 +16,11 @@ use Rattle.lv_board.specs.Retrying.{AreOutrun, HasTried, IsOutrun}
 use Rattle.lv_board.specs.Steps.{HasFound}
 use Rattle.lv_board.proofs.Calling.{quiet_same, quiet_then}
 
--- no verdict is that another edit came first
+-- the precondition check never says that another update came first
 no_contended : (limits : Bounds) (es : List Edit) (e : Edit) (n : ℕ) → verdict_of limits es e ≡ Some (Contended n) → ⊥
 no_contended limits es e n is = grind arith
 
--- where an exchange found another descriptor, the look shows all that is known: it is as good as a look made anew
+-- if a compare-and-swap found another descriptor, the look shows all that is known, so it serves as a new look
 pub found_looked : (t : Terms) (e : Edit) (x y : Actor) (result : Result Receipt Refusal) → TryAnswers t x y e result → HasFound result → HasLooked t y y
 found_looked t e x y (Ok receipt) last found = elim found [ ]
 found_looked t e x y (Err refusal) (looked, inl verdict) (n, is) = absurd (no_contended t.limits (edits_of y.seen) e n (verdict ∙ ap Some is))
@@ -32,12 +32,12 @@ found_looked t e x y (Err refusal) (looked, inr (inr (h, first, then, at))) (n, 
   legal = looked.legal;
 }
 
--- tries that were outrun made no edit
+-- tries that failed because of other seats made no update
 outrun_quiet : (t : Terms) (e : Edit) (n : ℕ) (x y : Actor) → AreOutrun t e n x y → IsQuiet x y
 outrun_quiet t e zero x y same = quiet_same x y (ap (λ (a : Actor). a.number) same) (ap (λ (a : Actor). a.known) same) (ap (λ (a : Actor). a.own) same)
 outrun_quiet t e (suc n) x y (m, refusal, before, last, is) = quiet_then x m y (outrun_quiet t e n x m before) last.0.quiet
 
--- one more that was outrun
+-- one more such try
 pub outrun_more : (t : Terms) (e : Edit) (n : ℕ) (x m y : Actor) (result : Result Receipt Refusal) → AreOutrun t e n x m → TryAnswers t m y e result → IsOutrun result → AreOutrun t e (n + 1) x y
 outrun_more t e n x m y (Ok receipt) before last is = elim is [ ]
 outrun_more t e n x m y (Err refusal) before last is =

@@ -1,4 +1,4 @@
--- What holds of a seat in a state, and what a load tells its actor.
+-- What holds of a seat in a state, and what a load guarantees to its actor.
 use Rattle.std.proofs.Common.{◌≡◌, ◌≢◌, ℕ, ◌+◌, ◌-◌, ◌*◌, ◌/◌, ◌%◌, ◌<◌, true, false, List, [], ◌∷◌, slice_index, refl, sym, ap, ◌∙◌, subst, arith}
 use Rattle.std.proofs.lemmas.Bool.{false≢true}
 use Rattle.std.proofs.lemmas.List.Elements.{All-nil, All-same}
@@ -21,7 +21,7 @@ use Rattle.lv_board.specs.Plays.{IsRead}
 use Rattle.lv_board.specs.Rule.{ActorFits, terms_of}
 use Rattle.lv_board.specs.TableRule.{IsSeat, ViewFits}
 
--- the block and the part that lie at a part's place
+-- the block and the part of a part's place
 pub install_at : (a b p n : ℕ) → p < 4 → Install a b p n ≡ Install a (block_at (part_place b p)) (row_at (part_place b p) - 9) n
 install_at a b p n few =
     let spot = place_is b (9 + p) in
@@ -47,7 +47,7 @@ module _ {B : Type 0} (f : B → Folding) (z : Basis B) where
   pub same_basis : (v : View B) (y : Basis B) → v.bases ≡ z ∷ [] → v.bases ≡ y ∷ [] → z ≡ y
   same_basis v y based other = first_same z y (sym based ∙ other)
 
-  -- what a load of a word of a state tells an actor
+  -- what a load of a word of a state guarantees to an actor
   pub read_told : (c : Config) (owner : ℕ → ℕ) (id : ℕ) (x : Actor) (place' : ℕ) → AreTerms (terms_of f z) → Shows (terms_of f z) c → ActorFits z.seats c owner id x → IsRead (terms_of f z) x (record x { known = c.history }) place' (slice_index c.words place')
   read_told c owner id x place' terms show fits =
       let seen = Ends-trans x.seen x.known c.history fits.seen fits.known in

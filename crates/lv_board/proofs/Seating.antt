@@ -1,4 +1,4 @@
--- What a seat keeps from step to step.
+-- What remains true of a seat from step to step.
 use Rattle.std.proofs.Common.{◌≡◌, ℕ, ◌*◌, ◌/◌, ◌%◌, ◌<◌, List, [], ◌∷◌, refl, sym, ap, ◌∙◌, subst, arith}
 use Rattle.lv_geometry.specs.Cells.{capacity_of}
 use Rattle.lv_machine.specs.declared.entries.Entry.{Entry}
@@ -17,7 +17,7 @@ use Rattle.lv_board.specs.TableRule.{IsSeat}
 use Rattle.lv_board.specs.Rule.{terms_of, limits_of}
 use Rattle.lv_board.specs.Stands.{IsLook}
 
--- a view with another actor and other moves is a seat's where it was
+-- a view with another actor and other moves is a seat's if it was before
 pub seat_after : {B : Type 0} {moves : List Move} (v w : View B) (x : Actor) → w ≡ record v { actor = x; moves = moves } → IsSeat v → IsSeat w
 seat_after v w x same seat = record {
   sits = ap (λ u. u.sits) same ∙ seat.sits;
@@ -42,15 +42,15 @@ legal_look t h terms legal =
       pending = λ has. (pending t h terms legal has).within;
     }
 
--- so is what a seat found that sees all
+-- the descriptor that was found by a seat that sees all is a look
 pub look_found : {B : Type 0} (f : B → Folding) (z : Basis B) (y : Actor) (found : ℕ) → SeesAll (terms_of f z) y found → IsLook z.buckets z.edits found y.seen
 look_found f z y found sees = subst (λ w. IsLook z.buckets z.edits w y.seen) (sym sees.found_is) (legal_look (terms_of f z) y.seen sees.terms sees.legal)
 
--- the same look of the same history
+-- a look of a history is one of an equal history
 pub same_look : (buckets edits look : ℕ) (seen seen' : List Entry) → seen' ≡ seen → IsLook buckets edits look seen → IsLook buckets edits look seen'
 same_look buckets edits look seen seen' same is = subst (IsLook buckets edits look) (sym same) is
 
--- the words of a cell, and of a block, lie among the words of the board
+-- the words of a cell, and of a block, are among the words of the board
 pub cell_among : {B : Type 0} (y z : Basis B) (words at i : ℕ) → y ≡ z → words ≡ count_of (limits_of z) → i < capacity_of y.buckets → at ≡ cell_place i → at < words
 cell_among y z words at i same count within is =
     let buckets : y.buckets ≡ z.buckets = ap (λ b. b.buckets) same in
@@ -63,7 +63,7 @@ block_among y z words at b r same count within short is =
     let cells : capacity_of y.buckets ≡ capacity_of z.buckets = ap capacity_of buckets in
     omega (arith, place_is b r)
 
--- what an actor made is its own after quiet steps, too
+-- what an actor made is its own after steps without an update, too
 pub made_after : (x y : Actor) → IsQuiet x y → own x.number x.known ≡ x.own → own y.number y.known ≡ y.own
 made_after x y quiet was = ap (λ n. own n y.known) quiet.number ∙ quiet.own_is ∙ was ∙ sym quiet.made
 

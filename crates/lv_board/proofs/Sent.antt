@@ -1,4 +1,4 @@
--- That a type's values may go to other threads has one proof, and what follows for a call that a session keeps.
+-- That a type's values may be sent to other threads has only one proof, and what follows for a call that a session keeps.
 use Rattle.std.proofs.Common.{◌≤◌, ℕ}
 use Rattle.std.specs.Coded.{×_prop, le_prop}
 use base.Stored.{Coded, Coded-set, coded×, coded_ℕ, coded_via}
@@ -13,7 +13,7 @@ use Rattle.lv_board.specs.declared.actors.Basis.{Basis}
 use Rattle.lv_board.specs.declared.seats.Seat.{Seat}
 use Rattle.lv_board.specs.Tells.{IsAt}
 
--- that a formula names no thread has one proof
+-- that a formula names no thread has only one proof
 Keyless-prop : (P : Fml) → IsProp (Keyless P)
 Keyless-prop ftrue = Unit-prop
 Keyless-prop ffalse = Unit-prop
@@ -59,14 +59,14 @@ basis_coded body = coded_via (coded× coded_ℕ (coded× coded_ℕ (coded× code
     (λ (z : Basis _). (z.buckets, (z.edits, (z.seats, z.body))))
     (λ x y e i. record { buckets = (e i).0; edits = (e i).1.0; seats = (e i).1.1.0; body = (e i).1.1.1 })
 
--- that a seat is one of a board has one proof, where the body can be told apart
+-- that a seat is one of a board has only one proof, if the monoid instance's values can be distinguished
 IsAt-prop : {B : Type 0} → Coded B → (table : TableId) (z : Basis B) (s : Seat B) → IsProp (IsAt table z s)
 IsAt-prop body table z s x y i = record {
   at = Coded-set table_id_coded _ _ x.at y.at i;
   terms = Coded-set (basis_coded body) _ _ x.terms y.terms i;
 }
 
--- so has what a call of a board asks: its seat, room, and that the body may go to other threads
+-- what a call of a board requires has only one proof: its seat, room, and that the monoid instance may be sent to other threads
 pub surely : {B Sends : Type 0} (body : Coded B) (table : TableId) (z : Basis B) (s : Seat B) (low high : ℕ) → IsProp Sends
     → IsAt table z s × (low ≤ high × Sends) → IsContr (IsAt table z s × (low ≤ high × Sends))
 surely body table z s low high alone asked = (asked, λ other. ×_prop (IsAt-prop body table z s) (×_prop le_prop alone) other asked)

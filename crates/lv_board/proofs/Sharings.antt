@@ -1,4 +1,4 @@
--- A board that is shared: as it is opened, and as it is closed.
+-- A shared board: its opening and its close.
 use Rattle.std.proofs.Common.{◌≡◌, ℕ, ℤ, List, [], ◌∷◌, ◌++◌, length, map, IfOk, IfErr, IfSome, Result, Ok, Err, inr, refl, sym, ap, ◌∙◌, subst, arith}
 use Rattle.std.specs.Arc.{arc_value}
 use Rattle.std.specs.List.{All, range_with_len, sum_by}
@@ -34,7 +34,7 @@ sum_of_actors : {B : Type 0} (f : Actor → ℕ) (seats : List (Seat B)) → sum
 sum_of_actors f [] = refl
 sum_of_actors f (s ∷ seats) = omega (arith, sum_by-cons f (actor_of s) (map actor_of seats), sum_by-cons (λ u. f (actor_of u)) s seats, sum_of_actors f seats)
 
--- what is closed where all seats were there
+-- what is closed if all seats were there
 pub closed_shared : {B : Type 0} (old : Shared) (t : Terms) (seats : List (Seat B)) (closed : Closed) → t ≡ old.terms → map actor_of seats ≡ old.left → AreSome old.terms.seats seats → length seats ≡ old.terms.seats → IsEnded t seats closed → IsClosedShared old closed
 closed_shared old t seats closed same left some long ended =
     let e = subst (λ u. IsEnded u seats closed) same ended in
@@ -53,7 +53,7 @@ closed_shared old t seats closed same left some long ended =
           ∙ ap (sum_by (λ x. length (own x.number x.known))) left;
     }
 
--- a seat that was taken back stands behind the others
+-- a seat that was given back comes after the others
 pub left_more : {B : Type 0} (seats after : List (Seat B)) (s : Seat B) → after ≡ seats ++ s ∷ [] → map actor_of after ≡ map actor_of seats ++ actor_of s ∷ []
 left_more seats after s are = ap (map actor_of) are ∙ map-append actor_of seats (s ∷ [])
 
@@ -68,7 +68,7 @@ module _ {B : Type 0} (table : TableId) (z : Basis B) where
   dealt_new (s ∷ rest) dealt = dealt_from (s ∷ rest) s dealt
 
 module _ {B S : Type 0} (folding : B → Folding) (kind : Kind) (plain : B → List ℤ → Shown) where
-  -- what is shared of a new board
+  -- a new board, as it is shared
   pub newly_shared : (limits : Bounds) (number stamp : ℕ) (body : B) (board : Board B S) (seats : List (Seat B)) (result : Result (Opened B S) Refusal) → MayOpen limits number → IsBasisOf limits number body board.terms → length seats ≡ number → AreDealt board.table.shared.table_id board.terms seats
       → IfOk result (λ o. (arc_value o.board ≡ board) × (o.seats.items ≡ seats) × (o.stamp ≡ stamp)) → IfOk result (λ o. IsNewlyShared limits number stamp (folding body) kind (plain body) (shared_of folding kind plain o))
   newly_shared limits number stamp body board seats (Err refusal) may basis long dealt shared = tt
@@ -81,7 +81,7 @@ module _ {B S : Type 0} (folding : B → Folding) (kind : Kind) (plain : B → L
     left = ap (map actor_of) left ∙ dealt_new board.table.shared.table_id board.terms seats dealt ∙ ap (λ n. map newcomer (range_with_len 0 n)) long;
   }
 
--- a board that may be opened isn't shared for want of memory alone
+-- if a board may be opened, it can fail to be shared only because memory ran out
 pub lacks_memory : {X : Type 0} (limits : Bounds) (number : ℕ) (result : Result X Refusal) → MayOpen limits number → IfErr result (λ refusal. refusal ≡ NoMemory) → IfErr result (λ refusal. IsOpeningRefusal limits number refusal)
 lacks_memory limits number (Err refusal) may same = inr (may, same)
 lacks_memory limits number (Ok x) may same = tt

@@ -1,4 +1,4 @@
--- What the test of a number says of it, before it is put at a board.
+-- The result of the test whether a number is short, before it is pushed or written at a board.
 use Rattle.std.proofs.Common.{◌≡◌, ℤ, Bool, true, false, sym, ap, ◌∙◌, arith}
 use Rattle.std.proofs.lemmas.Int.{ints}
 use Rattle.lv_bodies.specs.Parts.{IsShort}

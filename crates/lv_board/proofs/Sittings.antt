@@ -1,4 +1,4 @@
--- What a session's sitting stands for, at the end of it.
+-- The state that a session's sitting represents, at the end of it.
 use Rattle.std.proofs.Common.{◌≡◌, ℕ, Option, Result, List, ◌++◌, drop, length, Vec, refl, sym, ◌∙◌, ap}
 use Rattle.std.proofs.Math.Seq.{drop-append_seam}
 use Rattle.std.specs.declared.alloc.Global.{Global}
@@ -31,7 +31,7 @@ pub of_call : {S L H R : Type 0} (P : S → ℕ → L → H → S → H → Type
 of_call P seat n line held after left c = rw (c.seat_is, c.held_is, c.after_is, c.left_is) at c.called
 
 module _ {A B S : Type 0} (seat_of : S → Seat B) (z : A) (name : ℕ) (first : Seat B) where
-  -- what a sitting stands for: what the seat of a board knows, in the place that it had at first
+  -- a sitting represents what the seat of a board knows, in the place that it had at first
   pub record StandsForActor (s : Sitting A S) (x : Actor) : Type 0 where
     pub by : s.answerer ≡ z
     pub place : s.name ≡ name
@@ -39,7 +39,7 @@ module _ {A B S : Type 0} (seat_of : S → Seat B) (z : A) (name : ℕ) (first :
     pub knows : actor_of (seat_of s.seat) ≡ x
 
 module _ {A B S V : Type 0} (seat_of : S → Seat B) (does : A → S → ℕ → Line Call → Vec ℕ Global → S → Vec ℕ Global → Type 0) (f : B → Folding) (o : B → Operations V) (kind : Kind) (shown : B → V → Shown) (z : A) (b : Basis B) (right : IsRight seat_of does z f o kind shown b) where
-  -- a line by a sitting is one by the actor that it stands for
+  -- a line of a sitting is a line of the actor that it represents
   line_as : (name : ℕ) (first : Seat B) (s : Sitting A S) (x : Actor) (n : ℕ) (line text : List ℕ) (u : Sitting A S) → StandsForActor seat_of z name first s x → SittingStep does kind s n line text u
       → (y : Actor) × StandsForActor seat_of z name first u y × BoardStep (terms_of f b) (o b.body) kind (shown b.body) x n line text y
   unfolding BoardStep
@@ -57,7 +57,7 @@ module _ {A B S V : Type 0} (seat_of : S → Seat B) (does : A → S → ℕ →
         rw (said, fits.knows) at done.answer,
       )
 
-  -- where the sitting's place is still the owner's, its owner has the seat of the end
+  -- if the sitting's place is still its owner's, the owner has the seat of the end
   pub ended_as : {R : Type 0} (y : A) (name place : ℕ) (first last owned : S) (a e k l : Option (List ℕ)) (result : Result R Fault)
       → (name ≡ place → owned ≡ last)
       → LinesServed (SittingStep does kind) record { answerer = z; seat = first; name = name } record { answerer = y; seat = last; name = place } a e k l result

@@ -1,4 +1,4 @@
--- Which calls leave a seat the one that it was, and what is known of all seats by their numbers.
+-- Which calls keep a seat at its place, and what is known of all seats from their numbers.
 use Rattle.std.proofs.Common.{◌≡◌, Result, Ok, Err, [], ◌∷◌, refl, ap, ◌∙◌, inl, inr}
 use Rattle.atomic_table.specs.Seated.{TableId}
 use Rattle.lv_edits.specs.declared.edit.Edit.{Edit}
@@ -48,6 +48,6 @@ module _ {B : Type 0} where
   pub still_at : (table : TableId) (z : Basis B) (s u : Seat B) → IsAt table z s → IsStill s u → IsAt table z u
   still_at table z s u at still = record { at = still.stays.table ∙ at.at; terms = still.stays.terms ∙ at.terms }
 
-  -- two seats in the order of their numbers are all of two
+  -- two seats in the order of their numbers are all seats of a board of two
   pub all_of_two : (s u : Seat B) → (actor_of s).number ≡ 0 → (actor_of u).number ≡ 1 → AreAll 2 (s ∷ u ∷ [])
   all_of_two s u first second = record { moves = []; below = tt; is = ap (λ n. n ∷ (actor_of u).number ∷ []) first ∙ ap (λ n. 0 ∷ n ∷ []) second }

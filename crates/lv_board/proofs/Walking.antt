@@ -1,4 +1,4 @@
--- What the loads of a reduction and of a refresh make of the fold.
+-- How the loads of a reduction and of a refresh make the fold.
 use Rattle.std.proofs.Common.{◌≡◌, ℕ, zero, suc, ℤ, pos, ◌+◌, ◌-◌, ◌*◌, ◌/◌, ◌%◌, ◌<◌, ◌≤◌, true, false, None, List, ◌++◌, append_assoc, Result, Ok, Err, length, nat_lt, slice_index, slice_set, replicate, length-set, refl, sym, ap, ◌∙◌, subst, inl, inr, arith}
 use Rattle.std.specs.Prelude.{take, drop, slice_range, All}
 use Rattle.std.specs.List.{slice_index_or}
@@ -44,7 +44,7 @@ use Rattle.lv_board.specs.Moved.{loads_of}
 use Rattle.lv_board.specs.Walks.{block_fold, block_installed, Comes, GoesOn, HasCome, HasRead, loads_in, MayRead, Sums}
 use Rattle.lv_board.proofs.Calling.{helped_quiet, looked_then, quiet_same, quiet_then}
 
--- the first so many of four numbers are the first parts of a summary, and the others 0
+-- the first of four numbers are the first parts of an aggregate, and the others are 0
 pub record AreTaken {S : Type 0} (parts_of : S → List ℕ) (s : S) (number : ℕ) (values : List ℕ) : Type 0 where
   pub four : length values ≡ 4
   pub taken : (p : ℕ) → p < number → slice_index values p ≡ slice_index (parts_of s) p
@@ -75,7 +75,7 @@ read_then n k s m u first second = record {
       ∙ ap (λ ms. ms ++ moves_of s) (replicate-append-replicate k n (Read (actor_of s).number));
 }
 
--- after loads the same was seen, and more may be loaded
+-- after loads the seat sees what it saw, and may load more
 pub seen_still : {B : Type 0} (n : ℕ) (s u : Seat B) → HasRead n s u → (actor_of u).seen ≡ (actor_of s).seen
 seen_still n s u read = ap (λ (a : Actor). a.seen) read.rest
 
@@ -92,18 +92,18 @@ may_still t n s u may read = record {
   };
 }
 
--- the load of a word is one
+-- the load of a word is one load
 pub word_read : {B : Type 0} (f : B → Folding) (at found : ℕ) (s u : Seat B) → IsWordLoaded f at found s u → HasRead 1 s u
 word_read f at found s u loaded = record { stays = loaded.stays; look = loaded.look; quiet = loaded.read.quiet; rest = loaded.read.rest; moves = loaded.moves }
 
--- and so are those of a cell and of a mark
+-- the load of a cell is one load, and that of a mark too
 pub cell_is_read : {B : Type 0} (t : Terms) (i : ℕ) (result : Result ℤ Refusal) (s u : Seat B) → IsCellTaken t i result s u → HasRead 1 s u
 cell_is_read t i result s u taken = record { stays = taken.stays; look = taken.look; quiet = taken.quiet; rest = taken.rest; moves = taken.moves }
 
 pub mark_is_read : {B : Type 0} (t : Terms) (b : ℕ) (result : Result ℕ Refusal) (s u : Seat B) → IsMarkTaken t b result s u → HasRead 1 s u
 mark_is_read t b result s u taken = record { stays = taken.stays; look = taken.look; quiet = taken.quiet; rest = taken.rest; moves = taken.moves }
 
--- a part of the mark's version is that of the whole block's fold
+-- a part with the mark's version is that of the full block's fold
 pub part_read : (t : Terms) (x y : Actor) (at found b p : ℕ) → IsRead t x y at found → 8 * b < capacity_of t.limits.buckets → p < t.folding.parts → at ≡ part_place b p → is_whole (edits_of x.seen) (block b) ≡ true → part_version found ≡ mark_of b x.seen → part_value found ≡ t.folding.part p (elements_under (edits_of x.seen) (block b))
 part_read t x y at found b p read within few place whole version = part_is t b p found x.seen y.known read.terms read.legal read.seen (read.part b p (omega arith) few place) whole version
 
@@ -151,7 +151,7 @@ module _ {S : Type 0} (o : Operations S) (within : S → ℕ → Type 0) (laws :
         few = omega (arith, w.inside);
       }
 
-  -- a walk with the cell where it stands
+  -- a walk with the cell at its position
   pub cell_added : (walk : BoardWalk S) (s : S) (x y : ℤ) → Sums o k walk → walk.at < length (elements_of k) → x ≡ signed (value_of (cell_of walk.at k)) → y ≡ x → s ≡ o.join walk.sum (o.lift y) → Sums o k record { lo = walk.lo; at = walk.at + 1; sum = s; cells = walk.cells + 1; summaries = walk.summaries }
   cell_added walk s x y w small taken same is =
       let value : x ≡ slice_index_or (elements_of k) walk.at x = taken ∙ cell_element t walk.at k terms legal small ∙ get_or_default (elements_of k) walk.at (pos 0) x small in
@@ -163,7 +163,7 @@ module _ {S : Type 0} (o : Operations S) (within : S → ℕ → Type 0) (laws :
       }
 
   module _ (parts_of : S → List ℕ) (whole_of : List ℕ → S) (has : HasParts parts_of whole_of o) (walk : BoardWalk S) (w : Sums o k walk) (begins : walk.at % 8 ≡ 0) (inside : walk.at + 8 ≤ length (elements_of k)) where
-    -- the whole of a block's parts is the fold of its eight elements
+    -- all parts of a block together make the fold of its eight elements
     whole_is : (parts : List ℕ) → parts ≡ parts_of (block_fold o (walk.at / 8) k) → whole_of parts ≡ fold_of o (slice_range (elements_of k) walk.at (walk.at + 8))
     whole_is parts is =
         let first : walk.at / 8 * 8 ≡ walk.at = omega arith in
@@ -192,11 +192,11 @@ module _ {S : Type 0} (o : Operations S) (within : S → ℕ → Type 0) (laws :
       };
     }
 
--- what a walk with a block counts
+-- the counts of a walk with one more block
 pub block_counted : (parts cells summaries : ℕ) → cells + (summaries + 1) * suc parts ≡ cells + summaries * suc parts + (1 + parts)
 block_counted parts cells summaries = let more : (summaries + 1) * suc parts ≡ summaries * suc parts + suc parts = add-mul summaries 1 (suc parts) ∙ ap (λ n. summaries * suc parts + n) (one-mul (suc parts)) in omega (arith, more)
 
--- a walk that comes to an index after some loads
+-- a walk that reaches an index after some loads
 pub come_then : {B S : Type 0} (o : Operations S) (parts before lo at n : ℕ) (result : Result (BoardWalk S) Refusal) (s m u : Seat B) → HasRead n s m → Comes o parts before lo at result m u → Comes o parts before lo at result s u
 come_then o parts before lo at n (Ok walk) s m u first next = record {
   loads = next.loads + n;
@@ -213,7 +213,7 @@ come_then o parts before lo at n (Err refusal) s m u first next = record {
   overtaken = (next.overtaken.0, omega (arith, next.overtaken.1));
 }
 
--- a walk that has come further by a cell or by a block has gone on
+-- a walk that has passed one more cell or block has proceeded
 pub come_on : {B S : Type 0} (o : Operations S) (parts hi at : ℕ) (walk : BoardWalk S) (result : Result (BoardWalk S) Refusal) (s u : Seat B) → walk.at + 1 ≤ at → at ≤ hi → Comes o parts (loads_in parts walk) walk.lo at result s u → GoesOn o parts hi walk result s u
 come_on o parts hi at walk (Ok next) s u further most comes = record {
   loads = comes.loads;
@@ -232,14 +232,14 @@ may_after f y z m u found same sees helped = subst (λ w. MayRead (terms_of f w)
   ready = helped.ready;
 }
 
--- and after its loads it still sees what it looked at
+-- after its loads it still sees what it looked at
 pub looked_and_read : {B : Type 0} (t : Terms) (x : Actor) (n : ℕ) (m u w : Seat B) → HasLooked t x (actor_of m) → IsHelped m u → HasRead n u w → HasLooked t x (actor_of w)
 looked_and_read t x n m u w looked helped read =
     looked_then t x (actor_of m) (actor_of w) looked
     (quiet_then (actor_of m) (actor_of u) (actor_of w) (helped_quiet (actor_of m) (actor_of u) helped.made helped.known helped.number) read.quiet)
     (seen_still n u w read ∙ helped.seen)
 
--- nor does it see anything else once it has installed parts
+-- it sees nothing else after it has installed parts either
 pub looked_and_installed : {B : Type 0} (t : Terms) (x : Actor) (parts : List InstalledPart) (u w : Seat B) → HasLooked t x (actor_of u) → HasInstalled parts u w → HasLooked t x (actor_of w)
 looked_and_installed t x parts u w looked has =
     looked_then t x (actor_of u) (actor_of w) looked
@@ -257,7 +257,7 @@ part_there t words b p (suc n) h before within all = elim (cases_lt p n) [
       (All-head (IsThere words) record { place = part_place b n; word = part_word (mark_of b h) (t.folding.part n (elements_under (edits_of h) (block b))) } (block_installed t b h n before) all).word
 ]
 
--- the parts of a block that were installed are kept in all words where what was installed is there
+-- the parts of a block that were installed are kept in all words that have what was installed
 pub are_installed : {B : Type 0} (t : Terms) (b : ℕ) (u w : Seat B) → HasInstalled (block_installed t b (actor_of u).seen t.folding.parts (actor_of u).installed) u w → AreInstalled t b (actor_of w)
 are_installed t b u w has = λ words p there within.
     let all = subst (λ l. All (IsThere words) l) (ap (λ (a : Actor). a.installed) has.actor) there in
@@ -272,7 +272,7 @@ range_free es lo hi order inside =
     let second : nat_lt (length (list_of es)) hi ≡ false = grind (arith, nat_tests) in
     cond-false _ _ _ first ∙ cond-false _ _ _ second
 
--- a walk that has come to the end of its range has the answer
+-- a walk that has reached the end of its range has the answer
 pub summed : {S : Type 0} (o : Operations S) (k : List Entry) (lo hi edit : ℕ) (walk : BoardWalk S) → lo ≤ hi → edit ≡ length k → HasCome o k lo hi walk → IsRangeAnswer (fold_of o) (edits_of k) lo hi record { edit = edit; value = walk.sum; cells_read = walk.cells; summaries_read = walk.summaries }
 summed o k lo hi edit walk order is come =
     let sums = come.sums in

@@ -1,4 +1,4 @@
--- What a new board and its seats are.
+-- A new board and its seats.
 use Rattle.std.specs.Prelude.{◌≡◌, ◌⊎◌, ℕ, ◌<◌, ◌≤◌, List, length, IfSome, slice_get}
 use Rattle.atomic_table.specs.Seated.{TableId}
 use Rattle.lv_geometry.specs.Bounds.{Bounds}
@@ -9,20 +9,20 @@ use Rattle.lv_board.specs.declared.seats.Seat.{Seat}
 use Rattle.lv_board.specs.Rule.{newcomer}
 use Rattle.lv_board.specs.Tells.{actor_of, IsAt}
 
--- what may be asked of a board: at most 9 buckets, and 1 to 8 seats
+-- What a board may be opened with: at most 9 buckets, and 1 to 8 seats.
 pub record MayOpen (limits : Bounds) (seats : ℕ) : Type 0 where
   pub few_buckets : limits.buckets ≤ 9
   pub some_seats : 1 ≤ seats
   pub few_seats : seats ≤ 8
 
--- a basis of these limits, this number of seats and this body
+-- A basis with these limits, this number of seats and this monoid instance.
 abbrev pub IsBasisOf : {B : Type 0} → Bounds → ℕ → B → Basis B → Type 0
 IsBasisOf limits seats body z = z ≡ record { buckets = limits.buckets; edits = limits.edits; seats = seats; body = body }
 
--- the seats of a new board: seat k is actor k, and has seen nothing
+-- The seats of a new board. Seat k is actor k, and has seen nothing.
 abbrev pub AreDealt : {B : Type 0} → TableId → Basis B → List (Seat B) → Type 0
 AreDealt table z seats = (k : ℕ) → k < length seats → IfSome (slice_get seats k) (λ s. IsAt table z s × (actor_of s ≡ newcomer k))
 
--- why no board is made: what is asked isn't allowed, or else want of memory
+-- Why no board is made: what is asked isn't allowed, or otherwise memory ran out.
 abbrev pub IsOpeningRefusal : Bounds → ℕ → Refusal → Type 0
 IsOpeningRefusal limits seats refusal = ((¬ MayOpen limits seats) × (refusal ≡ BadLimits)) ⊎ (MayOpen limits seats × (refusal ≡ NoMemory))

@@ -1,4 +1,5 @@
--- Sessions at a board, by lists alone: one history of edits, each made by one seat; each line is answered after a beginning of it.
+-- A reference model of sessions at a board. There is one history of updates, each made by one seat, and each line is answered after some earlier
+-- state of it.
 use Rattle.std.specs.Prelude.{◌≡◌, ◌⊎◌, ℕ, ℤ, ◌<◌, ◌≤◌, Option, Some, None, Result, Ok, Err, List, [], ◌∷◌, length, All, if◌then◌else◌}
 use Rattle.std.specs.List.{sum_by}
 use Rattle.lv_geometry.specs.Bounds.{Bounds}
@@ -23,27 +24,27 @@ use Rattle.lv_lines.specs.declared.lines.Line.TheVariants.{Nothing, Bad, Do}
 use Rattle.lv_script.specs.BoardLine.{board_line_of}
 use Rattle.lv_board.specs.declared.actors.Actor.{Actor}
 
--- what is kept of a session: the number of its seat, and the history that it knows, the last edit first
+-- What the model keeps of a session: the number of its seat, and the history that it knows, with the last update first.
 pub record Sat : Type 0 where
   pub number : ℕ
   pub history : List Entry
 
--- so of a seat by what it knows
+-- `Sat` of a session, taken from what its seat knows.
 abbrev pub sat_of : Actor → Sat
 sat_of a = record { number = a.number; history = a.known }
 
--- ---- what a call is answered after some edits
+-- ---- the reply to a call after some updates
 
--- why an element isn't there
+-- Why an element isn't there, or `None` if it is.
 abbrev pub missing : Result ℤ Refusal → Option Refusal
 missing (Ok x) = None
 missing (Err refusal) = Some refusal
 
--- why an edit of an element is refused: it has more than 16 bits, or else the verdict says so
+-- Why an update that carries an element is refused: the element has more than 16 bits, or else the reason of the precondition check.
 abbrev pub short_refusal : ℤ → Option Refusal → Option Refusal
 short_refusal x verdict = if is_short x then verdict else Some TooWide
 
--- why a call is refused there, or nothing
+-- Why a call is refused after a history, or `None`.
 abbrev pub refusal_at : Bounds → List Entry → Call → Option Refusal
 refusal_at limits h (Push x) = short_refusal x (verdict_of limits (edits_of h) (edit.Push x))
 refusal_at limits h Pop = verdict_of limits (edits_of h) edit.Pop
@@ -53,14 +54,14 @@ refusal_at limits h Size = None
 refusal_at limits h (Reduce lo hi) = range_refusal (edits_of h) lo hi
 refusal_at limits h (Refresh b) = if is_whole (edits_of h) (block b) then None else Some (OutOfRange (length (elements_of h)))
 
--- the edit that a call is, if it is one
+-- The update that a call makes, if it makes one.
 abbrev pub edit_of : Call → Option Edit
 edit_of (Push x) = Some (edit.Push x)
 edit_of Pop = Some edit.Pop
 edit_of (Write i x) = Some (edit.Write i x)
 edit_of _ = None
 
--- what a call is answered there, where nothing refuses it; values are the plain ones of the board's kind
+-- The reply to a call that is not refused, after a history. Values are the plain ones of the board's kind.
 abbrev pub reply_at : Kind → (List ℤ → Shown) → List Entry → Call → List ℕ
 reply_at kind plain h (Push x) = receipt_text (receipt_of (edits_of h) (edit.Push x))
 reply_at kind plain h Pop = receipt_text (receipt_of (edits_of h) edit.Pop)
@@ -70,14 +71,14 @@ reply_at kind plain h Size = size_text (length (elements_of h)) (length h)
 reply_at kind plain h (Reduce lo hi) = answer_text (length h) kind (plain (slice_of (edits_of h) lo hi))
 reply_at kind plain h (Refresh b) = fresh_text b (mark_of b h)
 
--- ---- what a session knows then
+-- ---- what a session knows afterwards
 
--- nothing of its own: it knows a history that goes on from that of the answer, with the same edits of its own
+-- The call made no update. The session knows a history that extends that of the answer, and its own updates are those that it knew before.
 pub record OnlyReads (h : List Entry) (old new : Sat) : Type 0 where
   pub known : Ends h new.history
   pub own_is : own new.number new.history ≡ own old.number old.history
 
--- an edit of its own, right after the history of the answer: it stands once among its own
+-- The call made one update, right after the history of the answer. This is one more among the session's own.
 pub record AddsOne (h : List Entry) (e : Edit) (old new : Sat) : Type 0 where
   pub known : new.history ≡ record { actor = old.number; edit = e } ∷ h
   pub own_is : own new.number new.history ≡ record { actor = old.number; edit = e } ∷ own old.number old.history
@@ -86,17 +87,18 @@ abbrev pub Adds : List Entry → Option Edit → Sat → Sat → Type 0
 Adds h None old new = OnlyReads h old new
 Adds h (Some e) old new = AddsOne h e old new
 
--- another edit came between, whose number is told: it is later than the history of the answer, and known
+-- Another update came in between, and the reply has its number. It is later than the history of the answer, and the session knows it.
 pub record IsOutrunAt (h : List Entry) (text : List ℕ) (new : Sat) : Type 0 where
   pub number : ℕ
   pub told : (text ≡ refused_text (Overtaken number)) ⊎ (text ≡ refused_text (Contended number))
   pub later : length h < number
   pub known : number ≤ length new.history
 
--- ---- what a line is answered
+-- ---- the reply to a line
 
 module _ (limits : Bounds) (kind : Kind) (plain : List ℤ → Shown) where
-  -- after a history that begins with what the session knew, a call is answered as there; or refused as there; or it was outrun
+  -- The reply to a call after a history that extends what the session knew. The call is answered there, or refused there, or another thread was
+  -- faster.
   pub record PlainCall (old : Sat) (asked : Call) (text : List ℕ) (new : Sat) : Type 0 where
     pub at : List Entry
     pub grown : Ends old.history at
@@ -105,20 +107,20 @@ module _ (limits : Bounds) (kind : Kind) (plain : List ℤ → Shown) where
         ⊎ ((refusal : Refusal) × (refusal_at limits at asked ≡ Some refusal) × (text ≡ refused_text refusal) × OnlyReads at old new)
         ⊎ ((refusal_at limits at asked ≡ None) × IsOutrunAt at text new × OnlyReads at old new)
 
-  -- a line that says nothing, one that says nothing known, a call
+  -- An empty line, a bad line, or a call.
   abbrev pub PlainBoardLine : Sat → ℕ → Line Call → List ℕ → Sat → Type 0
   PlainBoardLine old n Nothing text new = (text ≡ []) × (new ≡ old)
   PlainBoardLine old n Bad text new = (text ≡ bad_text n) × (new ≡ old)
   PlainBoardLine old n (Do asked) text new = PlainCall old asked text new
 
-  -- one line of a session, by its bytes and its number
+  -- One line of a session, given by its bytes and its number.
   abbrev pub PlainBoardStep : Sat → ℕ → List ℕ → List ℕ → Sat → Type 0
   PlainBoardStep old n line text new = PlainBoardLine old n (board_line_of kind line) text new
 
 -- ---- the close
 
--- a history of a board and what its sessions know at its close: each knows a beginning of it, with all edits of its own; and the edits of
--- all are all that there are
+-- A history of a board, and what its sessions know when it is closed. Each session knows an earlier state of the history, with all updates of its
+-- own, and each update of the history is one of a session's own.
 pub record IsOneHistory (history : List Entry) (sessions : List Sat) : Type 0 where
   pub begun : All (λ s. Ends s.history history) sessions
   pub each_own : All (λ s. own s.number history ≡ own s.number s.history) sessions

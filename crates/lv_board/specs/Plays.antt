@@ -1,4 +1,4 @@
--- What each step of a seat tells it, and the move that it is.
+-- What each step of a seat tells it, and which move it is.
 use Rattle.std.specs.Prelude.{◌≡◌, ℕ, ◌-◌, ◌<◌, true, [], ◌∷◌, length, MatchBool, nat_eq}
 use Rattle.atomic_table.specs.Table.{Me, Step}
 use Rattle.lv_geometry.specs.Cells.{capacity_of}
@@ -16,7 +16,7 @@ use Rattle.lv_board.specs.declared.actors.View.{View}
 use Rattle.lv_board.specs.Rule.{terms_of}
 pub use Rattle.lv_board.specs.Tells.{IsQuiet}
 
--- an actor sees all that it knows, a legal history whose descriptor was found
+-- An actor sees all that it knows, which is a legal history, and the descriptor that was found is that of this history.
 pub record SeesAll (t : Terms) (y : Actor) (found : ℕ) : Type 0 where
   pub terms : AreTerms t
   pub all : y.seen ≡ y.known
@@ -24,7 +24,7 @@ pub record SeesAll (t : Terms) (y : Actor) (found : ℕ) : Type 0 where
   pub legal : IsLegalHistory t y.seen
   pub made : own y.number y.known ≡ y.own
 
--- what a load of the word at a place tells
+-- What a load of the word at a place tells.
 pub record IsRead (t : Terms) (x y : Actor) (at found : ℕ) : Type 0 where
   pub terms : AreTerms t
   pub quiet : IsQuiet x y
@@ -35,7 +35,7 @@ pub record IsRead (t : Terms) (x y : Actor) (at found : ℕ) : Type 0 where
   pub mark : (b : ℕ) → b < blocks_of t.limits → at ≡ mark_place b → (HasPending (descriptor_of x.seen) → x.marked ≡ true) → IsMarkRead b x.seen y.known found
   pub part : (b p : ℕ) → b < blocks_of t.limits → p < t.folding.parts → at ≡ part_place b p → FitsPart t.folding y.known b p found
 
--- an edit was accepted: it comes after all that the actor knew, which is what it had seen
+-- An update was accepted. It comes after all that the actor knew, which is what it had seen.
 pub record IsAccepted (t : Terms) (x y : Actor) (entry : Entry) : Type 0 where
   pub terms : AreTerms t
   pub number : y.number ≡ x.number
@@ -45,7 +45,7 @@ pub record IsAccepted (t : Terms) (x y : Actor) (entry : Entry) : Type 0 where
   pub made : y.own ≡ entry ∷ x.own
   pub legal : IsLegalHistory t (entry ∷ x.seen)
 
--- another descriptor was found, of a longer history, which the actor sees now
+-- Another descriptor was found, of a longer history, which the actor sees now.
 pub record IsContended (t : Terms) (x y : Actor) (found : ℕ) : Type 0 where
   pub number : x.number < t.seats
   pub seen : Ends x.seen y.seen
@@ -54,7 +54,7 @@ pub record IsContended (t : Terms) (x y : Actor) (found : ℕ) : Type 0 where
   pub later : length x.seen < length y.seen
 
 module _ {S B : Type 0} where
-  -- a seat made a move, of its number: its view is the same but for that and its actor
+  -- A seat made a move with its number. Its view has changed only by that and by its actor.
   abbrev pub Makes : Move → Actor → Me S (View B) → Me S (View B) → Type 0
   Makes move actor me after = (after.1 ≡ me.1) × (after.0 ≡ record (me.0) { actor = actor; moves = move ∷ me.0.moves })
 

@@ -1,4 +1,4 @@
--- What several tries of one edit answer, made one after the other.
+-- The result of several tries of one update, made one after the other.
 use Rattle.std.specs.Prelude.{◌≡◌, ◌⊎◌, ℕ, zero, suc, ◌+◌, ◌<◌, Result, Ok, Err, List, ◌∷◌}
 use Rattle.lv_geometry.specs.declared.refusals.Refusal.{Refusal}
 use Rattle.lv_geometry.specs.declared.refusals.Refusal.TheVariants.{Contended, Overtaken}
@@ -10,29 +10,30 @@ use Rattle.lv_machine.specs.Terms.{Terms}
 use Rattle.lv_board.specs.declared.actors.Actor.{Actor}
 use Rattle.lv_board.specs.Calls.{TryAnswers}
 
--- only an edit of another seat stood in the way: it came first, or a word of it was found
+-- The try failed only because of another seat's update: that came first, or a word of it was found.
 abbrev pub IsOutrun : Result Receipt Refusal → Type 0
 IsOutrun (Ok receipt) = ⊥
 IsOutrun (Err refusal) = (number : ℕ) × ((refusal ≡ Contended number) ⊎ (refusal ≡ Overtaken number))
 
--- so many tries of an edit were made, one after the other, and all were outrun
+-- This many tries of an update were made, one after the other, and all failed because of other seats.
 abbrev pub AreOutrun : Terms → Edit → ℕ → Actor → Actor → Type 0
 AreOutrun t edit zero x y = y ≡ x
 AreOutrun t edit (suc n) x y = (m : Actor) × (refusal : Refusal) × AreOutrun t edit n x m × TryAnswers t m y edit (Err refusal) × IsOutrun (Err refusal)
 
--- the entries of an actor's own after tries of an edit: the edit is the last of them where it was accepted, and there is no other new one
+-- The entries of an actor's own after tries of an update. If it was accepted, it is the last of them, and there is no other new one.
 abbrev pub own_after : Actor → Edit → Result Receipt Refusal → List Entry
 own_after x edit (Ok receipt) = record { actor = x.number; edit = edit } ∷ own x.number x.known
 own_after x edit (Err refusal) = own x.number x.known
 
--- what an actor knew before its tries of an edit is a beginning of what it knows after them, and of its own it made what was accepted alone
+-- What an actor knew before its tries of an update is an earlier state of what it knows after them. Its only new entry is the update, if that was
+-- accepted.
 pub record HasTried (x y : Actor) (edit : Edit) (result : Result Receipt Refusal) : Type 0 where
   pub number : y.number ≡ x.number
   pub known : Ends x.known y.known
   pub own_is : own x.number y.known ≡ own_after x edit result
 
--- at most so many tries of an edit were made, one after the other: all but the last were outrun, and the answer is the last one's; where that
--- is outrun too, all were made
+-- At most `tries` tries of an update were made, one after the other. All but the last failed because of other seats, and the result is that of
+-- the last one. If that failed in the same way, all `tries` were made.
 pub record AnswersWithin (t : Terms) (tries : ℕ) (x y : Actor) (edit : Edit) (result : Result Receipt Refusal) : Type 0 where
   pub before : Actor
   pub outrun : ℕ

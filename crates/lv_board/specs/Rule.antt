@@ -12,24 +12,24 @@ use Rattle.lv_board.specs.declared.actors.Basis.{Basis}
 use Rattle.lv_board.specs.declared.actors.InstalledPart.{InstalledPart}
 use Rattle.lv_geometry.specs.Bounds.{Bounds}
 
--- the limits of a basis
+-- The limits of a basis.
 abbrev pub limits_of : {B : Type 0} → Basis B → Bounds
 limits_of z = record { buckets = z.buckets; edits = z.edits }
 
--- how the folds of a body's blocks are kept: each part of the fold's summary
+-- How the folds of a monoid instance's blocks are stored: each part of the fold's aggregate.
 abbrev pub folds : {B S : Type 0} → ℕ → (S → List ℕ) → (B → Operations S) → B → Folding
 folds count parts operations b = record { parts = count; part = λ p xs. slice_index (parts (fold_of (operations b) xs)) p }
 
--- an actor that has seen nothing
+-- An actor that has seen nothing.
 abbrev pub newcomer : ℕ → Actor
 newcomer number = record { number = number; seen = []; known = []; own = []; told = []; helped = false; marked = false; installed = [] }
 
--- a part that was installed stands in the words, or a later one displaced it
+-- A part that was installed is among the words, or a later one displaced it.
 pub record IsThere (words : List ℕ) (p : InstalledPart) : Type 0 where
   pub some : 1 ≤ p.place
   pub word : p.word ≤ slice_index words p.place
 
--- what a seat's actor knows is true of a state; `owner` tells which token has which number
+-- What a seat's actor knows is true of a state. `owner` says which token has which number.
 pub record ActorFits (seats : ℕ) (c : Config) (owner : ℕ → ℕ) (id : ℕ) (x : Actor) : Type 0 where
   pub number : x.number < seats
   pub owner_is : owner x.number ≡ id
@@ -44,6 +44,6 @@ pub record ActorFits (seats : ℕ) (c : Config) (owner : ℕ → ℕ) (id : ℕ)
   pub installed : All (IsThere c.words) x.installed
 
 module _ {B : Type 0} (f : B → Folding) where
-  -- the terms of the lock-free form that a board is made with
+  -- The terms of the lock-free form with which a board is made.
   abbrev pub terms_of : Basis B → Terms
   terms_of z = record { limits = record { buckets = z.buckets; edits = z.edits }; seats = z.seats; folding = f z.body }

@@ -1,4 +1,4 @@
--- What each line of a board's session is answered, by what its seat knows before and after.
+-- How each line of a board's session is answered, in terms of what its seat knows before and after.
 use Rattle.std.specs.Prelude.{◌≡◌, ℕ, ℤ, ◌<◌, ◌≤◌, Result, Ok, Err, List, [], length, IfOk}
 use Rattle.lv_geometry.specs.declared.refusals.Refusal.{Refusal}
 use Rattle.lv_geometry.specs.declared.refusals.Refusal.TheVariants.{BadRange, TooWide}
@@ -26,47 +26,47 @@ use Rattle.lv_script.specs.Schedule.{said_shown, said_text}
 use Rattle.lv_board.specs.declared.actors.Actor.{Actor}
 use Rattle.lv_board.specs.Calls.{AreInstalled, GetAnswers, HasLooked, ReduceAnswers, RefreshAnswers, TryAnswers}
 
--- ---- what a call ends with
+-- ---- how a call ends
 
--- what a call ends with, by its answer
+-- How a call ends, given its result.
 abbrev pub said_by : {A V : Type 0} → (A → Said V) → Result A Refusal → Said V
 said_by says (Ok answer) = says answer
 said_by says (Err refusal) = said.Refused refusal
 
--- the block that a call refreshes; 0 of other calls
+-- The block that a call refreshes, and 0 for other calls.
 abbrev pub asked_block : Call → ℕ
 asked_block (call.Refresh block) = block
 asked_block _ = 0
 
--- what a call ends with, by what its actor knows before and after: `EditAnswers` is what an edit answers, f what is made
--- of a list
+-- How a call ends, given what its actor knows before and after. `EditAnswers` says which result an update may have, and f is applied to lists of
+-- elements.
 module _ {V : Type 0} (t : Terms) (EditAnswers : Actor → Actor → Edit → Result Receipt Refusal → Type 0) (f : List ℤ → V) where
-  -- an edit of an element is tried; where that has more than 16 bits it is refused, and the actor stays as it was
+  -- An update that carries an element is tried. If the element has more than 16 bits, it is refused, and the actor is unchanged.
   pub record Edits (x : ℤ) (edit : Edit) (a : Actor) (end : Said V) (b : Actor) : Type 0 where
     pub result : Result Receipt Refusal
     pub short : IsShort x → EditAnswers a b edit result
     pub wide : ¬ IsShort x → (result ≡ Err TooWide) × (b ≡ a)
     pub end_is : end ≡ said_by said.Did result
 
-  -- a pop is tried
+  -- A pop is tried.
   pub record Drops (a : Actor) (end : Said V) (b : Actor) : Type 0 where
     pub result : Result Receipt Refusal
     pub tried : EditAnswers a b edit.Pop result
     pub end_is : end ≡ said_by said.Did result
 
-  -- an element is read where the actor looked
+  -- An element is read in what the actor sees.
   pub record Gets (i : ℕ) (a : Actor) (end : Said V) (b : Actor) : Type 0 where
     pub result : Result Read Refusal
     pub looked : HasLooked t a b
     pub answered : GetAnswers i b result
     pub end_is : end ≡ said_by said.Read result
 
-  -- the size is told where the actor looked
+  -- The size is that of what the actor sees.
   pub record Sizes (a : Actor) (end : Said V) (b : Actor) : Type 0 where
     pub looked : HasLooked t a b
     pub end_is : end ≡ said.Sized record { edit = length b.seen; size = length (elements_of b.seen) }
 
-  -- a range is reduced where the actor looked; a range that runs backwards is refused, and the actor stays as it was
+  -- A range is reduced in what the actor sees. A range that runs backwards is refused, and the actor is unchanged.
   pub record Reduces (lo hi : ℕ) (a : Actor) (end : Said V) (b : Actor) : Type 0 where
     pub result : Result (Answer V) Refusal
     pub looked : lo ≤ hi → HasLooked t a b
@@ -74,7 +74,7 @@ module _ {V : Type 0} (t : Terms) (EditAnswers : Actor → Actor → Edit → Re
     pub backwards : hi < lo → (result ≡ Err BadRange) × (b ≡ a)
     pub end_is : end ≡ said_by said.Answered result
 
-  -- a block is refreshed where the actor looked
+  -- A block is refreshed as the actor sees it.
   pub record Refreshes (block : ℕ) (a : Actor) (end : Said V) (b : Actor) : Type 0 where
     pub result : Result Refreshed Refusal
     pub looked : HasLooked t a b
@@ -82,7 +82,7 @@ module _ {V : Type 0} (t : Terms) (EditAnswers : Actor → Actor → Edit → Re
     pub installed : IfOk result (λ refreshed. AreInstalled t block b)
     pub end_is : end ≡ said_by said.Refreshed result
 
-  -- each call by its kind
+  -- Each kind of call.
   abbrev pub CallEnds : Call → Actor → Said V → Actor → Type 0
   CallEnds (call.Push x) a end b = Edits x (edit.Push x) a end b
   CallEnds call.Pop a end b = Drops a end b
@@ -92,21 +92,21 @@ module _ {V : Type 0} (t : Terms) (EditAnswers : Actor → Actor → Edit → Re
   CallEnds (call.Reduce lo hi) a end b = Reduces lo hi a end b
   CallEnds (call.Refresh block) a end b = Refreshes block a end b
 
--- ---- what a line is answered
+-- ---- the reply to a line
 
 module _ {S : Type 0} (t : Terms) (o : Operations S) (kind : Kind) (shown : S → Shown) where
-  -- a call is made once, and answered by the text of what it ends with
+  -- A call is made once, and answered by the text of how it ends.
   pub record CallAnswer (asked : Call) (a : Actor) (text : List ℕ) (b : Actor) : Type 0 where
     pub end : Said S
     pub ends : CallEnds t (TryAnswers t) (fold_of o) asked a end b
     pub text_is : text ≡ said_text kind (asked_block asked) (said_shown shown end)
 
-  -- a line that says nothing is answered by nothing, and a line that says nothing known by its number; then nothing changes
+  -- An empty line has no reply, and a bad line is answered by its number. Neither changes anything.
   abbrev pub BoardAnswer : Actor → ℕ → Line Call → List ℕ → Actor → Type 0
   BoardAnswer a n Nothing text b = (text ≡ []) × (b ≡ a)
   BoardAnswer a n Bad text b = (text ≡ bad_text n) × (b ≡ a)
   BoardAnswer a n (Do asked) text b = CallAnswer asked a text b
 
-  -- one line of a session, by its bytes and its number: its reply, and what the actor knows before and after
+  -- One line of a session, given by its bytes and its number: its reply, and what the actor knows before and after.
   unfoldable pub BoardStep : Actor → ℕ → List ℕ → List ℕ → Actor → Type 0
   BoardStep a n line text b = BoardAnswer a n (board_line_of kind line) text b

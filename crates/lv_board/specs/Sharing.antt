@@ -1,4 +1,4 @@
--- A board that is shared, its seats, and what their calls end with.
+-- A shared board, its seats, and how their calls end.
 use Rattle.std.specs.Prelude.{◌≡◌, ◌≢◌, ℕ, ℤ, ◌+◌, ◌<◌, ◌≤◌, max, List, [], ◌∷◌, ◌++◌, length, map, All}
 use Rattle.std.specs.List.{range_with_len, sum_by}
 use Rattle.std.specs.Arc.{arc_value}
@@ -26,7 +26,7 @@ use Rattle.lv_board.specs.Rule.{newcomer, terms_of}
 use Rattle.lv_board.specs.Session.{CallEnds}
 use Rattle.lv_board.specs.Tells.{actor_of}
 
--- where a seat is, and what it knows: the board with its stamp and its terms, the kind and what it says of a list, and the seat's actor
+-- A seat and what it knows: its board with stamp and terms, the board's kind and its values of lists, and the seat's actor.
 pub record Sat : Type 0 where
   pub board : TableId
   pub stamp : ℕ
@@ -35,7 +35,7 @@ pub record Sat : Type 0 where
   pub plain : List ℤ → Shown
   pub knows : Actor
 
--- a board that is shared: the same, and what those of its seats know that are there. The first of them is the next to be taken
+-- A shared board: the same facts of the board, and what each seat knows that isn't taken. The first of these seats is the next to be taken.
 pub record Shared : Type 0 where
   pub board : TableId
   pub stamp : ℕ
@@ -44,9 +44,10 @@ pub record Shared : Type 0 where
   pub plain : List ℤ → Shown
   pub left : List Actor
 
--- ---- a board that is shared
+-- ---- a shared board
 
--- a board was opened: of these limits, this number of seats, this stamp, this kind and these values, with no edits, and all its seats are there
+-- A board was opened with these limits, this number of seats, this stamp, this kind and these values. It has no updates, and none of its seats is
+-- taken.
 pub record IsNewlyShared (limits : Bounds) (seats stamp : ℕ) (folding : Folding) (kind : Kind) (plain : List ℤ → Shown) (new : Shared) : Type 0 where
   pub allowed : MayOpen limits seats
   pub stamp_is : new.stamp ≡ stamp
@@ -55,31 +56,31 @@ pub record IsNewlyShared (limits : Bounds) (seats stamp : ℕ) (folding : Foldin
   pub plain_is : new.plain ≡ plain
   pub left : new.left ≡ map newcomer (range_with_len 0 seats)
 
--- the first of the seats that were there was taken, and the others are there
+-- The first seat was taken, and the others are left.
 pub record Sits (old : Shared) (s : Sat) (new : Shared) : Type 0 where
   pub seat : s ≡ record { board = old.board; stamp = old.stamp; terms = old.terms; kind = old.kind; plain = old.plain; knows = s.knows }
   pub first : old.left ≡ s.knows ∷ new.left
   pub same : new ≡ record old { left = new.left }
 
--- no seat was taken: there was none, or there was one and no memory
+-- No seat was taken. There was none, or there was one but no memory.
 abbrev pub IsUnseated : Shared → Unseated → Type 0
 IsUnseated old NoSeat = old.left ≡ []
 IsUnseated old NoMemory = 0 < length old.left
 
--- a seat of the board was taken back, behind those that were there, with all that it knows
+-- A seat of the board was given back, with all that it knows. It comes after those that were left.
 pub record IsBack (old : Shared) (s : Sat) (new : Shared) : Type 0 where
   pub stamp : s.stamp ≡ old.stamp
   pub board : s.board ≡ old.board
   pub left : new.left ≡ old.left ++ s.knows ∷ []
   pub same : new ≡ record old { left = new.left }
 
--- why a board stays open: a seat of some number isn't there; or all seats are there, and there was no memory, or somebody has a share of it
+-- Why a board stays open. Either some seat is missing. Or all seats are there, but memory ran out, or somebody has a share of the board.
 abbrev pub IsUnclosed : Shared → Unclosed → Type 0
 IsUnclosed old unclosed.SeatsOut = (n : ℕ) × (n < old.terms.seats) × All (λ x. x.number ≢ n) old.left
 IsUnclosed old other = length old.left ≡ old.terms.seats
 
--- what was closed had one legal history. The number is that of its last edit, and the elements are those after it. All seats of the board were
--- there: each knows an earlier history, with all entries of its own; and the entries of all seats are all that there are
+-- The closed board had one legal history. The number is that of its last update, and the elements are those after it. All seats of the board were
+-- given back. Each knows an earlier state of the history, with all entries of its own, and each entry of the history is one of a seat's own.
 pub record IsClosedShared (old : Shared) (closed : Closed) : Type 0 where
   pub history : List Entry
   pub legal : IsLegalHistory old.terms history
@@ -91,7 +92,7 @@ pub record IsClosedShared (old : Shared) (closed : Closed) : Type 0 where
   pub total : closed.edit ≡ sum_by (λ x. length (own x.number x.known)) old.left
 
 module _ {B S : Type 0} where
-  -- a seat is one of the board's, and none that is there has its number
+  -- A seat is one of the board's, and no seat that is left has its number.
   pub record IsOut (o : Opened B S) (s : SeatWithBoard B S) : Type 0 where
     pub board : arc_value s.board ≡ arc_value o.board
     pub apart : All (λ u. (actor_of u).number ≢ (actor_of s.seat).number) o.seats.items
@@ -117,14 +118,14 @@ module _ {B S : Type 0} (folding : B → Folding) (kind : Kind) (plain : B → L
     left = map actor_of o.seats.items;
   }
 
--- ---- what a seat's calls end with
+-- ---- how a seat's calls end
 
--- what a call ends with, of which a value is the plain one, and an edit is tried so often at most
+-- How a call ends with plain values, where an update is tried at most `tries` times.
 abbrev pub EndsWithin : Terms → (List ℤ → Shown) → ℕ → Call → Actor → Said Shown → Actor → Type 0
 EndsWithin t plain tries = CallEnds t (AnswersWithin t tries) plain
 
--- a seat made a call: nothing has changed but what it knows, its number stayed, and this is what the call ended with. An edit is tried so
--- often at most, and once at least
+-- A seat made a call. Only what it knows has changed, it has kept its number, and this is how the call ended. An update is tried at least once,
+-- and at most `tries` times.
 pub record Makes (tries : ℕ) (asked : Call) (s : Sat) (end : Said Shown) (u : Sat) : Type 0 where
   pub same : u ≡ record s { knows = u.knows }
   pub number : u.knows.number ≡ s.knows.number

@@ -1,4 +1,4 @@
--- What each step of a call on a board tells of a seat, before and after: words for private functions.
+-- What each step of a call on a board guarantees about a seat, before and after. Only private functions use these definitions.
 use Rattle.std.specs.Prelude.{◌≡◌, ℕ, ◌<◌, Bool, true, List, ◌∷◌, length, ℤ, Result, IfOk, IfErr, MatchBool, ◌⊎◌, pos, ◌-◌, Ok, Err}
 use Rattle.lv_machine.specs.declared.entries.Entry.{Entry}
 use Rattle.lv_machine.specs.declared.moves.Move.TheVariants.{Exchange, HelpCell, HelpMark, Install, Look, Read}
@@ -21,21 +21,21 @@ use Rattle.lv_edits.specs.declared.receipt.Receipt.{Receipt}
 use Rattle.lv_board.specs.Calls.{HasLooked}
 use Rattle.lv_board.specs.Moved.{HasMovedBy, help_of, installs_of}
 
--- an exchange found another descriptor, which the seat sees now: a try that comes next needs no look
+-- A compare-and-swap found another descriptor, which the seat sees now. A try that comes next needs no look.
 abbrev pub HasFound : Result Receipt Refusal → Type 0
 HasFound (Ok receipt) = ⊥
 HasFound (Err refusal) = (number : ℕ) × (refusal ≡ Contended number)
 
 module _ {B : Type 0} where
-  -- the move that it made more installs a word as a part of a block
+  -- The further move installs a word as a part of a block.
   abbrev pub HasMovedPart : ℕ → ℕ → ℕ → Seat B → Seat B → Type 0
   HasMovedPart b part word = HasMoved (λ a. Install a b part word)
 
-  -- an edit of a seat's
+  -- The history entry of a seat's update.
   abbrev pub entry_of : Seat B → Edit → Entry
   entry_of s edit = record { actor = (actor_of s).number; edit = edit }
 
-  -- the cell, or the mark, of a seat's pending write was completed
+  -- The cell, or the mark, of a seat's pending write was completed.
   pub record IsCellHelped (s t : Seat B) : Type 0 where
     pub stays : Stays s t
     pub look : t.look ≡ s.look
@@ -48,17 +48,17 @@ module _ {B : Type 0} where
     pub actor : actor_of t ≡ record (actor_of s) { marked = true }
     pub moves : HasMoved HelpMark s t
 
-  -- the parts that a seat installed are these now, and nothing else of it has changed
+  -- The parts that a seat installed are now these, and nothing else of it has changed.
   pub record HasInstalled (parts : List InstalledPart) (s t : Seat B) : Type 0 where
     pub stays : Stays s t
     pub look : t.look ≡ s.look
     pub actor : actor_of t ≡ record (actor_of s) { installed = parts }
 
-  -- a word was installed at a place
+  -- A word was installed at a place.
   abbrev pub IsInstalled : ℕ → ℕ → Seat B → Seat B → Type 0
   IsInstalled at word s t = HasInstalled (record { place = at; word = word } ∷ (actor_of s).installed) s t
 
-  -- a seat's pending write was completed
+  -- A seat's pending write was completed.
   pub record IsHelped (s t : Seat B) : Type 0 where
     pub stays : Stays s t
     pub look : t.look ≡ s.look
@@ -70,21 +70,21 @@ module _ {B : Type 0} where
     pub ready : IsReady (actor_of t) t.look
 
   module _ (f : B → Folding) where
-    -- a seat loaded the descriptor
+    -- A seat loaded the descriptor.
     pub record IsLoaded (s t : Seat B) : Type 0 where
       pub stays : Stays s t
       pub quiet : IsQuiet (actor_of s) (actor_of t)
       pub sees : SeesAll (terms_of f s.terms) (actor_of t) t.look
       pub moves : HasMoved Look s t
 
-    -- a seat loaded another word
+    -- A seat loaded another word.
     pub record IsWordLoaded (at found : ℕ) (s t : Seat B) : Type 0 where
       pub stays : Stays s t
       pub look : t.look ≡ s.look
       pub read : IsRead (terms_of f s.terms) (actor_of s) (actor_of t) at found
       pub moves : HasMoved Read s t
 
-    -- an exchange for an edit was made, or another descriptor was found
+    -- A compare-and-swap for an update succeeded, or another descriptor was found.
     abbrev pub IsExchanged : Edit → Bool → Seat B → Seat B → Type 0
     IsExchanged edit done s t =
         Stays s t
@@ -93,7 +93,7 @@ module _ {B : Type 0} where
         (IsContended (terms_of f s.terms) (actor_of s) (actor_of t) t.look)
         × HasMoved (λ a. Exchange a edit) s t
 
-  -- what a load of a cell gives: the bits that the history wrote there last, which the seat saw, or the later edit that it found
+  -- The result of loading a cell: the bits that were last written there in the history that the seat saw, or the later update that it found.
   pub record IsCellTaken (t : Terms) (i : ℕ) (result : Result ℤ Refusal) (s u : Seat B) : Type 0 where
     pub stays : Stays s u
     pub look : u.look ≡ s.look
@@ -105,7 +105,7 @@ module _ {B : Type 0} where
     pub taken : IfOk result (λ x. x ≡ signed (value_of (cell_of i (actor_of s).seen)))
     pub overtaken : IfErr result (λ refusal. IsOvertaken (actor_of u) refusal)
 
-  -- what a load of a mark gives: the last edit that touched the block, in the history that the seat saw, or the later edit that it found
+  -- The result of loading a mark: the last update that touched the block in the history that the seat saw, or the later update that it found.
   pub record IsMarkTaken (t : Terms) (b : ℕ) (result : Result ℕ Refusal) (s u : Seat B) : Type 0 where
     pub stays : Stays s u
     pub look : u.look ≡ s.look
@@ -117,7 +117,7 @@ module _ {B : Type 0} where
     pub taken : IfOk result (λ mark. mark ≡ mark_of b (actor_of s).seen)
     pub overtaken : IfErr result (λ refusal. IsOvertaken (actor_of u) refusal)
 
--- what a pop or a write answers that nothing refuses at its look: its number and the element at its index, or why it isn't made
+-- The result of a pop or a write that nothing refuses at its look: its number and the element at its index, or why it isn't made.
 abbrev pub TakeAnswers : Terms → Actor → Actor → Edit → ℕ → Result (ℕ × ℤ) Refusal → Type 0
 TakeAnswers t x y edit i (Ok taken) =
     (m : Actor) × IsQuiet x m × (m.seen ≡ x.seen) × IsAccepted t m y record { actor = m.number; edit = edit }

@@ -1,4 +1,4 @@
--- What the calls of a board tell of a seat, before and after.
+-- What the calls of a board guarantee about a seat, before and after.
 use Rattle.std.specs.Prelude.{◌≡◌, ℕ, ◌<◌, ◌≤◌, List, ◌∷◌, length, ◌-◌}
 use Rattle.lv_machine.specs.declared.moves.Move.{Move}
 use Rattle.lv_machine.specs.History.{Ends, own}
@@ -9,14 +9,14 @@ use Rattle.lv_board.specs.declared.actors.Basis.{Basis}
 use Rattle.atomic_table.specs.Seated.{TableId}
 use Rattle.lv_board.specs.declared.seats.Seat.{Seat}
 
--- an actor has made no edit: what it knows may have grown, by edits of others
+-- An actor has made no update. What it knows may have grown by the updates of others.
 pub record IsQuiet (x y : Actor) : Type 0 where
   pub number : y.number ≡ x.number
   pub known : Ends x.known y.known
   pub own_is : own x.number y.known ≡ own x.number x.known
   pub made : y.own ≡ x.own
 
--- a load found a word of a later edit than the look: its number is above that of the look, and the seat knows of that edit
+-- A load found a word of a later update than the look. The refusal has a number above that of the look, and the seat knows the history up to it.
 pub record IsOvertaken (y : Actor) (refusal : Refusal) : Type 0 where
   pub version : ℕ
   pub refusal_is : refusal ≡ Overtaken version
@@ -24,29 +24,29 @@ pub record IsOvertaken (y : Actor) (refusal : Refusal) : Type 0 where
   pub shown : version ≤ length y.known
 
 module _ {B : Type 0} where
-  -- what a seat knows
+  -- What a seat knows.
   abbrev pub actor_of : Seat B → Actor
   actor_of s = s.token.me.0.actor
 
-  -- the steps that a seat made on the words, the last first
+  -- The steps that a seat made on the words, with the last first.
   abbrev pub moves_of : Seat B → List Move
   moves_of s = s.token.me.0.moves
 
-  -- a seat made one move more, of its number
+  -- A seat made one more move, with its number.
   abbrev pub HasMoved : (ℕ → Move) → Seat B → Seat B → Type 0
   HasMoved move s t = moves_of t ≡ move (actor_of s).number ∷ moves_of s
 
-  -- a seat is one of the board of a table and a basis
+  -- A seat is one of the board of this table and basis.
   pub record IsAt (table : TableId) (z : Basis B) (s : Seat B) : Type 0 where
     pub at : s.token.table_id ≡ table
     pub terms : s.terms ≡ z
 
-  -- a seat stays at its board
+  -- A seat stays at its board.
   pub record Stays (s t : Seat B) : Type 0 where
     pub table : t.token.table_id ≡ s.token.table_id
     pub terms : t.terms ≡ s.terms
 
-  -- a seat is as it was
+  -- A seat is unchanged.
   pub record IsSame (s t : Seat B) : Type 0 where
     pub stays : Stays s t
     pub look : t.look ≡ s.look

@@ -1,9 +1,9 @@
-//! What a board is made with, what a seat knows, and the view of it at the table.
+//! The parameters of a board, what a seat knows, and the view of a seat at the table.
 use lv_machine::{Entry, Move};
 use std::alloc::AllocError;
 use std::collections::LinkedList;
 
-/// What a board is made with: its limits, how many seats it has, and its body.
+/// The parameters of a board: its limits, the number of its seats, and its monoid instance.
 #[derive(Copy)]
 pub struct Basis<B: Copy> {
     pub buckets: u32,
@@ -24,33 +24,33 @@ impl<B: Copy> Clone for Basis<B> {
     }
 }
 
-/// A part of a block's summary that a seat installed: its place among the words, and its word. No value of it is made.
+/// A part of a block's aggregate that a seat installed: its place among the words, and its word. No value of this type is made.
 pub struct InstalledPart {
     pub place: usize,
     pub word: u64,
 }
 
-/// What a seat knows. No value of it is made.
+/// What a seat knows. No value of this type is made.
 pub struct Actor {
     pub number: u32,
     /// The history up to its look.
     pub seen: LinkedList<Entry>,
-    /// The longest history that one of its steps showed, or that it was told of.
+    /// The longest history that one of its steps showed, or that it got from another seat.
     pub known: LinkedList<Entry>,
     /// Its own entries among them.
     pub own: LinkedList<Entry>,
-    /// The history that a note told of since it looked.
+    /// The history that a note had, which it has read since its last look.
     pub told: LinkedList<Entry>,
     /// Whether the cell, and the mark, of its look's pending write are complete.
     pub helped: bool,
     pub marked: bool,
-    /// The parts that it installed, the last first. Each stands yet, or a later one displaced it.
+    /// The parts that it installed, the last first. Each is still there, or a later one displaced it.
     pub installed: LinkedList<InstalledPart>,
 }
 
-/// The view of a token at the table. No value of it is made.
+/// The view of a token at the table. No value of this type is made.
 pub struct View<B: Copy> {
-    /// The actor of a seat; of a note, what it tells; of the dealer, the number of the next seat.
+    /// The actor of a seat. Of a note, what it says. Of the dealer, the number of the next seat.
     pub actor: Actor,
     pub sits: bool,
     pub deals: bool,

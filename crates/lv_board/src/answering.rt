@@ -1,4 +1,4 @@
-//! What a line of a session is answered.
+//! How a line of a session is answered.
 ghost use Rattle.std.specs.Prelude.{◌≡◌, ◌++◌, ℕ, List};
 ghost use Rattle.lv_lines.specs.Output.{HasRoom, KeepsRoom};
 ghost use Rattle.lv_board.specs.Answerer.{HasCalled, MayCall};
@@ -13,7 +13,7 @@ use crate::seats::Seat;
 use lv_machine::Call;
 use lv_script::{LINE, Line, put_bad, put_said, said_shown};
 
-// The seat of a body that a type is.
+// Gives the seat that a value of the type `S` represents, with this monoid instance.
 pub(crate) trait SeatedAs<S>: BoardBody {
     ghost use Rattle.lv_board.specs.declared.seats.Seat.{Seat};
 
@@ -24,20 +24,21 @@ impl<B: BoardBody> SeatedAs<Seat<B>> for B {
     ghost seat_of = { λ s. s };
 }
 
-// What answers the lines of a session by a seat, which is an `S`.
+// What answers the lines of a session with a seat, which is an `S`.
 //
-// A call of a board is proved where its body may go to other threads. A method of an `impl` for every body knows that of its own thread
-// alone, so it can't make one. A function can, and so can a closure in it: so a session calls a closure, by its contract.
+// A call of a board is proved for monoid instances that may be sent to other threads. A method of an `impl` for every instance may assume only
+// that it stays in one thread, so it can't make such a call. A function can, and so can a closure in it. Therefore a session calls a closure, by
+// the closure's contract.
 pub(crate) trait Answerer<S> {
     ghost use Rattle.std.specs.Prelude.{Vec};
     ghost use Rattle.std.specs.declared.alloc.Global.{Global};
     ghost use Rattle.lv_lines.specs.declared.lines.Line.{Line};
     ghost use Rattle.lv_machine.specs.declared.events.Call.{Call};
 
-    // It may be asked by a seat, with what is held.
+    // It may be asked with a seat and a buffer.
     ghost may: { Self → S → ℕ → Line Call → Vec ℕ Global → Type 0 };
 
-    // Asked so, it may leave such a seat, and that to be held.
+    // When it is asked in this way, it may leave this seat and this buffer.
     ghost does: { Self → S → ℕ → Line Call → Vec ℕ Global → S → Vec ℕ Global → Type 0 };
 
     fn answer(&self, seat: &mut S, number: u32, line: Line<Call>, held: &mut Vec<u8>)
@@ -45,7 +46,7 @@ pub(crate) trait Answerer<S> {
         ensures { does self.now seat.old number line held.old seat.new held.new };
 }
 
-// An answerer by a closure.
+// An answerer that calls a closure.
 #[derive(Drop)]
 pub(crate) struct ByCall<F> {
     pub(crate) call: F,
@@ -61,7 +62,7 @@ impl<S, F: Fn(&mut S, u32, Line<Call>, &mut Vec<u8>)> Answerer<S> for ByCall<F> 
     }
 }
 
-// Answers a line, and puts the reply after what is held.
+// Answers a line, and puts the reply after what is buffered.
 pub(crate) fn answer_line<B: BoardBody>(
     board: &Board<B>,
     seat: &mut Seat<B>,

@@ -1,13 +1,13 @@
-//! Bodies that boards are made of, and how a board keeps the folds of their blocks.
+//! Monoid instances for boards, and how a board stores the folds of blocks.
 ghost use Rattle.std.specs.Prelude.{◌≡◌, refl};
 ghost use Rattle.lv_machine.specs.Terms.{Folding};
 ghost use Rattle.lv_board.specs.Rule.{folds};
 
 use lv_bodies::Parted;
 
-/// A body that a board is made of. Each body that has parts is one.
+/// A monoid instance that a board can have. Each one that has parts is such an instance.
 pub trait BoardBody: Parted {
-    /// How a board keeps the fold of a block: by its parts, each in a word.
+    /// How a board stores the fold of a block: in parts, each in a word.
     ghost folding: { Self → Folding };
 
     ghost keeps_parts: { folding ≡ folds Self.PARTS Self.parts_of (λ b. Self.operations b) };

@@ -1,4 +1,4 @@
-//! Calls of a board as values, as a session asks for them.
+//! Calls of a board as values, as a session makes them.
 ghost use Rattle.std.specs.Prelude.{◌≡◌, ◌<◌, ◌≤◌, Err};
 ghost use Rattle.lv_geometry.specs.declared.refusals.Refusal.{Refusal};
 ghost use Rattle.lv_bodies.specs.Body.{fold_of};
@@ -19,7 +19,7 @@ use lv_machine::{Call, Read, Refreshed, Said};
 use lv_reduce::Answer;
 
 impl<B: BoardBody> Board<B> {
-    /// What `reduce` answers, with the plain value of the range in place of its summary. The seat is one of this board's.
+    /// Does what `reduce` does, and returns the plain value of the range in place of its aggregate. The seat is one of this board's.
     pub fn reduce_plain(
         &self,
         seat: &mut Seat<B>,
@@ -43,7 +43,7 @@ impl<B: BoardBody> Board<B> {
         }
     }
 
-    // Makes a call, an edit by so many tries at most, and gives what it ends with, a fold as its plain value.
+    // Makes a call, with at most this many tries of an update, and returns how it ends, with a fold as its plain value.
     pub(crate) fn make_within(&self, seat: &mut Seat<B>, call: Call, tries: u32) -> Said<Shown>
         requires here { IsAt self.now.table.shared.table_id self.now.terms seat.old }
         requires some { 1 ≤ tries }
@@ -61,7 +61,7 @@ impl<B: BoardBody> Board<B> {
         }
     }
 
-    // Makes a call, and gives what it ends with.
+    // Makes a call, and returns how it ends.
     pub(crate) fn make(&self, seat: &mut Seat<B>, call: Call) -> Said<B::S>
         requires { IsAt self.now.table.shared.table_id self.now.terms seat.old }
         ensures stays { Stays seat.old seat.new }
@@ -79,7 +79,7 @@ impl<B: BoardBody> Board<B> {
     }
 }
 
-// What a try ends with.
+// How a try ends.
 fn tried<S: Copy>(answer: Result<Receipt, Refusal>) -> Said<S>
     ensures { result ≡ said_by Said.Did answer }
 {
@@ -89,7 +89,7 @@ fn tried<S: Copy>(answer: Result<Receipt, Refusal>) -> Said<S>
     }
 }
 
-// What a read of an element ends with.
+// How a read of an element ends.
 fn read<S: Copy>(answer: Result<Read, Refusal>) -> Said<S>
     ensures { result ≡ said_by Said.Read answer }
 {
@@ -99,7 +99,7 @@ fn read<S: Copy>(answer: Result<Read, Refusal>) -> Said<S>
     }
 }
 
-// What a reduction ends with.
+// How a reduction ends.
 fn reduced<S: Copy>(answer: Result<Answer<S>, Refusal>) -> Said<S>
     ensures { result ≡ said_by Said.Answered answer }
 {
@@ -109,7 +109,7 @@ fn reduced<S: Copy>(answer: Result<Answer<S>, Refusal>) -> Said<S>
     }
 }
 
-// What a refresh ends with.
+// How a refresh ends.
 fn refreshed<S: Copy>(answer: Result<Refreshed, Refusal>) -> Said<S>
     ensures { result ≡ said_by Said.Refreshed answer }
 {
@@ -119,7 +119,7 @@ fn refreshed<S: Copy>(answer: Result<Refreshed, Refusal>) -> Said<S>
     }
 }
 
-// The block that a call refreshes; 0 of other calls.
+// The block that a call refreshes, and 0 for other calls.
 pub(crate) fn asked_block(call: Call) -> u32
     ensures { result ≡ asked_block call }
 {

@@ -21,7 +21,7 @@ use atomic_table::{Closed as Shut, Seat as Token};
 use lv_geometry::capacity;
 use std::alloc::Global;
 
-// The 16 bits of the element at an index that the last words show, of which the first is given.
+// The 16 bits of the element at an index, as the last words show it. `look` is the first of these words.
 #[tactic(auto, using(crate::proofs::Closes::shown_elsewhere))]
 fn shown(words: &Shut<(), Global>, look: u64, i: u32) -> u16
     requires full { IsFull words.now.words }
@@ -35,7 +35,7 @@ fn shown(words: &Shut<(), Global>, look: u64, i: u32) -> u16
     value_in(words.word(cell_place_of(i)))
 }
 
-// What a vector was, by its last descriptor and its elements.
+// The closed vector, from its last descriptor and its elements.
 fn closed_at(look: u64, elements: Vec<i64>) -> Closed
     ensures edit { result.edit ≡ edit_of look }
     ensures elements { result.elements ≡ elements.items }
@@ -61,7 +61,7 @@ fn collect(words: &Shut<(), Global>, look: u64, elements: &mut Vec<i64>)
 }
 
 impl<B: BoardBody> Board<B> {
-    // Seats in one token, whose view has their actors in the order of the seats.
+    // Merges seats into one token, whose view has their actors in the order of the seats.
     fn gather(&self, mut seats: Vec<Seat<B>>, last: Seat<B>) -> Token<(), View<B>>
         requires last { IsAt self.now.table.shared.table_id self.now.terms last }
         requires at { AreAt self.now.table.shared.table_id self.now.terms seats.items }
@@ -103,7 +103,7 @@ impl<B: BoardBody> Board<B> {
         table.close_with(token)
     }
 
-    /// How many elements the board takes: so many a vector has room for into which it is closed.
+    /// How many elements the board takes. The vector into which it is closed needs this much room.
     pub fn capacity(&self) -> u32
         ensures { result ≡ capacity_of self.now.terms.buckets }
     {
@@ -117,7 +117,7 @@ impl<B: BoardBody> Board<B> {
         self.terms.seats
     }
 
-    // The vector by such seats as are handed in, in a vector that has room for its elements.
+    // The closed vector, for the seats that are handed in, in a vector that has room for its elements.
     pub(crate) fn close_by(self, seats: Vec<Seat<B>>, mut elements: Vec<i64>) -> Closed
         requires at { AreAt self.table.shared.table_id self.terms seats.items }
         requires none { elements.items ≡ [] }
@@ -131,7 +131,8 @@ impl<B: BoardBody> Board<B> {
         closed_at(look, elements)
     }
 
-    /// The vector when its threads are done, in a vector that has room for its elements: this takes no memory. All seats are handed in.
+    /// Returns the vector when its threads are done, in a vector that has room for its elements, so that this allocates no memory. All seats are
+    /// handed in.
     pub fn close_into(self, seats: Vec<Seat<B>>, elements: Vec<i64>) -> Closed
         requires at { AreAt self.table.shared.table_id self.terms seats.items }
         requires all { AreAll self.terms.seats seats.items }
@@ -142,8 +143,8 @@ impl<B: BoardBody> Board<B> {
         self.close_by(seats, elements)
     }
 
-    /// The vector when its threads are done: the number of its last edit, and its elements. All seats are handed in. For want of
-    /// memory board and seats come back as they were.
+    /// Returns the vector when its threads are done: the number of its last update, and its elements. All seats are handed in. If memory runs
+    /// out, board and seats are returned unchanged.
     pub fn close(
         self,
         alloc: Global,

@@ -1,4 +1,4 @@
-//! The exchange of the descriptor: the one atomic step by which an edit is made. It needs no more of a board than its table.
+//! The compare-and-swap of the descriptor, which is the only atomic step that makes an update. It needs only the table of a board.
 ghost use Rattle.std.specs.Prelude.{◌≡◌, None};
 ghost use Rattle.lv_machine.specs.History.{IsShortEdit};
 ghost use Rattle.lv_machine.specs.Layout.{count_of};
@@ -18,8 +18,8 @@ use atomic_table::Table;
 use lv_edits::Edit;
 use std::alloc::Global;
 
-// The exchange of the descriptor from the look to the one after an edit, at the seat's own table. Says whether it was made; either
-// way the look becomes the descriptor that is there then.
+// The compare-and-swap of the descriptor from the look to the descriptor after an update, at the seat's own table. Returns whether it succeeded.
+// In both cases the look becomes the descriptor that is there afterwards.
 pub(crate) fn exchange<B: BoardBody>(
     table: &Table<(), View<B>, Basis<B>, Reached<B>, Global>,
     seat: &mut Seat<B>,

@@ -19,7 +19,7 @@ use lv_geometry::Refusal;
 use lv_machine::Read;
 
 impl<B: BoardBody> Board<B> {
-    // The element in a cell, as the seat looked, or the later edit that wrote there since.
+    // The element in a cell, as the seat sees it, or the later update that has since written there.
     pub(crate) fn load_cell(&self, seat: &mut Seat<B>, i: u32) -> Result<i64, Refusal>
         requires here { IsAt self.now.table.shared.table_id self.now.terms seat.old }
         requires ready { IsReady (actor_of seat.old) seat.old.look }
@@ -29,8 +29,8 @@ impl<B: BoardBody> Board<B> {
         load_cell(&self.table, seat, i)
     }
 
-    /// The element at index `i`. Refused with `OutOfRange`, or with `Overtaken` where a later edit wrote there since the look. The
-    /// seat is one of this board's.
+    /// The element at index `i`. Refused with `OutOfRange`, or with `Overtaken` if a later update has written there since the look. The seat is
+    /// one of this board's.
     pub fn get(&self, seat: &mut Seat<B>, i: u32) -> Result<Read, Refusal>
         requires { IsAt self.now.table.shared.table_id self.now.terms seat.old }
         ensures stays { Stays seat.old seat.new }

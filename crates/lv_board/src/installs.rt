@@ -1,4 +1,4 @@
-//! The fetch-max by which a part of a block's summary is installed. It needs no more of a board than its table.
+//! The fetch-max that installs a part of a block's aggregate. It needs only the table of a board.
 ghost use Rattle.std.specs.Prelude.{◌≡◌, ◌<◌, ◌*◌, true};
 ghost use Rattle.lv_edits.specs.Touch.{elements_under, is_whole};
 ghost use Rattle.lv_geometry.specs.Cells.{capacity_of};
@@ -19,7 +19,7 @@ use crate::words::part_place_of;
 use atomic_table::Table;
 use std::alloc::Global;
 
-// Installs a part of the summary of a block that is whole where the seat looked, at the seat's own table.
+// Installs a part of the aggregate of a block that is full as the seat sees it, at the seat's own table.
 pub(crate) fn install<B: BoardBody>(
     table: &Table<(), View<B>, Basis<B>, Reached<B>, Global>,
     seat: &mut Seat<B>,

@@ -9,8 +9,8 @@ ghost use Rattle.lv_board.specs.Tells.{actor_of};
 
 use crate::bodies::BoardBody;
 
-/// A board that was closed had one history: each session's is a beginning of it, with all edits of its own, and each edit is of one
-/// session.
+/// A board that was closed had one history. Each session knows an earlier state of it, with all updates of its own, and each update is one
+/// session's.
 pub fn a_board_has_one_history<B: BoardBody>()
     ensures { (t : Terms) (seats : List (Seat B)) (closed : Closed) → (c : IsClosed t seats closed) → IsOneHistory c.history (map (λ seat. sat_of (actor_of seat)) seats) }
 {}

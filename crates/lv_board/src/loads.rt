@@ -1,4 +1,4 @@
-//! Loads of a word by a seat, each one atomic step. They need no more of a board than its table.
+//! Loads of a word by a seat, each one atomic step. They need only the table of a board.
 ghost use Rattle.std.specs.Prelude.{◌≡◌, ◌<◌, ◌≤◌, true, false};
 ghost use Rattle.lv_geometry.specs.Cells.{capacity_of};
 ghost use Rattle.lv_machine.specs.Layout.{count_of};
@@ -18,7 +18,7 @@ use atomic_table::Table;
 use lv_geometry::Refusal;
 use std::alloc::Global;
 
-// The descriptor of the seat's own table: the look becomes what is loaded.
+// Loads the descriptor of the seat's own table, which becomes the look.
 pub(crate) fn load_descriptor<B: BoardBody>(
     table: &Table<(), View<B>, Basis<B>, Reached<B>, Global>,
     seat: &mut Seat<B>,
@@ -31,7 +31,7 @@ pub(crate) fn load_descriptor<B: BoardBody>(
     seat.look = table.shared.load::<LoadDescriptor<B>>(&mut seat.token, 0);
 }
 
-// Another word of it.
+// Loads another word of that table.
 pub(crate) fn load_word<B: BoardBody>(
     table: &Table<(), View<B>, Basis<B>, Reached<B>, Global>,
     seat: &mut Seat<B>,
@@ -46,7 +46,7 @@ pub(crate) fn load_word<B: BoardBody>(
     table.shared.load::<LoadWord<B>>(&mut seat.token, at)
 }
 
-// Whether a version is that of a later edit than a look.
+// Whether a version is that of a later update than a look.
 pub(crate) fn is_later(version: u64, look: u64) -> bool
     ensures later { result ≡ true → edit_of look < version }
     ensures other { result ≡ false → version ≤ edit_of look }
@@ -54,7 +54,7 @@ pub(crate) fn is_later(version: u64, look: u64) -> bool
     version > u64::from(edit_in(look))
 }
 
-// The element in a cell, as the seat looked, or the later edit that wrote there since.
+// The element in a cell, as the seat sees it, or the later update that has since written there.
 pub(crate) fn load_cell<B: BoardBody>(
     table: &Table<(), View<B>, Basis<B>, Reached<B>, Global>,
     seat: &mut Seat<B>,

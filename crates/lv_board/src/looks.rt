@@ -1,4 +1,4 @@
-//! Looks at the descriptor alone.
+//! Calls that only load the descriptor.
 ghost use Rattle.std.specs.Prelude.{◌≡◌, length};
 ghost use Rattle.lv_machine.specs.declared.moves.Move.{Move};
 ghost use Rattle.lv_machine.specs.History.{elements_of};
@@ -12,7 +12,7 @@ use crate::seats::Seat;
 use crate::words::{edit_in, size_in};
 use lv_machine::Sized;
 
-/// What a look shows: the number of the last edit, and the size after it.
+/// What a look shows: the number of the last update, and the size after it.
 #[derive(Clone, Copy, PartialEq, Eq)]
 pub struct Look {
     pub edit: u32,
@@ -36,7 +36,7 @@ impl<B: BoardBody> Board<B> {
         }
     }
 
-    /// How many elements there are, and after which edit: one load. The seat is one of this board's.
+    /// How many elements there are, and after which update: one load. The seat is one of this board's.
     pub fn size(&self, seat: &mut Seat<B>) -> Sized
         requires { IsAt self.now.table.shared.table_id self.now.terms seat.old }
         ensures stays { Stays seat.old seat.new }

@@ -20,7 +20,7 @@ use crate::words::mark_place_of;
 use lv_geometry::Refusal;
 
 impl<B: BoardBody> Board<B> {
-    // The mark of a block, as the seat looked, or the later edit that touched the block since.
+    // The mark of a block, as the seat sees it, or the later update that has since touched the block.
     pub(crate) fn load_mark(&self, seat: &mut Seat<B>, b: u32) -> Result<u32, Refusal>
         requires here { IsAt self.now.table.shared.table_id self.now.terms seat.old }
         requires ready { IsReady (actor_of seat.old) seat.old.look }
@@ -34,7 +34,7 @@ impl<B: BoardBody> Board<B> {
         Ok(mark as u32)
     }
 
-    // Installs a part of the summary of a block that is whole where the seat looked.
+    // Installs a part of the aggregate of a block that is full as the seat sees it.
     pub(crate) fn install(&self, seat: &mut Seat<B>, b: u32, part: u32, word: u64)
         requires here { IsAt self.now.table.shared.table_id self.now.terms seat.old }
         requires within { 8 * b < capacity_of self.now.terms.buckets }

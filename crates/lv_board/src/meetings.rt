@@ -1,4 +1,4 @@
-//! One seat tells another what it knows.
+//! How one seat passes on to another what it knows.
 ghost use Rattle.std.specs.Prelude.{◌≡◌, [], length};
 ghost use Rattle.lv_machine.specs.declared.moves.Move.TheVariants.{Look};
 ghost use Rattle.lv_machine.specs.History.{Ends};
@@ -15,7 +15,7 @@ use crate::seats::Seat;
 use crate::words::edit_in;
 use atomic_table::Seat as Token;
 
-/// The numbers of the last edits where the two seats looked.
+/// The numbers of the last updates at the looks of the two seats.
 #[derive(Clone, Copy, PartialEq, Eq)]
 pub struct Met {
     pub first: u32,
@@ -50,8 +50,8 @@ impl<B: BoardBody> Board<B> {
             .load::<LoadDescriptor<B>>(&mut seat.token, 0);
     }
 
-    /// Both seats look, the second after it was told what the first knows: what the first sees is an earlier history of what
-    /// the second sees. Both are this board's.
+    /// Both seats look, the second after it got from the first what that one knows. So what the first sees is an earlier state of what the second
+    /// sees. Both are seats of this board.
     pub fn meet(&self, first: &mut Seat<B>, second: &mut Seat<B>) -> Met
         requires first { IsAt self.now.table.shared.table_id self.now.terms first.old }
         requires second { IsAt self.now.table.shared.table_id self.now.terms second.old }

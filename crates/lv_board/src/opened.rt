@@ -1,4 +1,4 @@
-//! A board that is shared, with those of its seats that are there.
+//! A shared board, with those of its seats that aren't taken.
 ghost use Rattle.std.specs.Prelude.{◌<◌, ◌≤◌, map, nat_eq, vec_capacity, All};
 ghost use Rattle.std.specs.Arc.{arc_value};
 ghost use Rattle.std.specs.List.{IsDistinct};
@@ -12,7 +12,7 @@ use crate::seats::Seat;
 use std::alloc::Global;
 use std::sync::Arc;
 
-/// A board that is shared, and those of its seats that are there: none has them. Its stamp tells it from other boards.
+/// A shared board, and those of its seats that nobody has taken. Its stamp distinguishes it from other boards.
 #[derive(Drop)]
 pub struct Opened<B: BoardBody> {
     pub(crate) stamp: u64,

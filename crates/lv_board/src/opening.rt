@@ -1,4 +1,4 @@
-//! Makes a board, and its seats.
+//! Makes a board and its seats.
 ghost use Rattle.std.specs.Prelude.{◌≡◌, ◌<◌, ◌≤◌, ◌⊎◌, ℕ, [], ◌∷◌, ◌++◌, ◌+◌, ◌-◌, ◌*◌, replicate, map, length, IfOk, IfErr, OnOk, vec_len, vec_capacity};
 ghost use Rattle.lv_machine.specs.Layout.{count_of};
 ghost use Rattle.lv_board.specs.Opening.{AreDealt, IsBasisOf, IsOpeningRefusal, MayOpen};
@@ -18,7 +18,7 @@ use atomic_table::{Seat as Token, Table};
 use lv_geometry::{Limits, Refusal, capacity};
 use std::alloc::{AllocError, Global};
 
-// A board with no edits, and the token that deals its seats.
+// A board with no updates, and the token that deals its seats.
 fn lay<B: BoardBody>(
     alloc: Global,
     terms: Basis<B>,
@@ -64,8 +64,8 @@ impl<B: BoardBody> Board<B> {
         }
     }
 
-    /// A board with no edits, and its seats: seat k is actor k. Refused with `BadLimits` above 9 buckets and outside 1 to 8 seats,
-    /// then with `NoMemory`.
+    /// A board with no updates, and its seats. Seat k is actor k. Refused with `BadLimits` for more than 9 buckets, or for a number of seats that
+    /// isn't 1 to 8, then with `NoMemory`.
     pub fn new(
         alloc: Global,
         limits: Limits,

@@ -76,7 +76,7 @@ impl<B: Copy> Join<View<B>> for Inform {
     ghost spent = { spent };
 }
 
-/// A seat takes another's place beside its own.
+/// A seat takes in the place of another, in addition to its own.
 pub(crate) struct Gather;
 
 impl<B: Copy> Join<View<B>> for Gather {

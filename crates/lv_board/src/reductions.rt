@@ -1,4 +1,4 @@
-//! Reductions: the fold of a range, by the parts of whole blocks where they are fresh, else by cells.
+//! Reductions: the fold of a range, from the parts of full blocks if these are valid, and otherwise from cells.
 ghost use Rattle.std.specs.Prelude.{◌≡◌, ◌+◌, ◌*◌, ◌/◌, ◌%◌, ◌<◌, ◌≤◌, length, true, slice_index, Err, IfOk, IfErr, IfSome};
 ghost use Rattle.lv_bodies.specs.Body.{fold_of};
 ghost use Rattle.lv_edits.specs.Touch.{is_whole};
@@ -21,7 +21,7 @@ use lv_geometry::Refusal;
 use lv_reduce::Answer;
 
 impl<B: BoardBody> Board<B> {
-    // A part of a whole block's summary, where its version is that of the block's mark.
+    // A part of a full block's aggregate, if it has the version of the block's mark.
     fn load_part(&self, seat: &mut Seat<B>, b: u32, part: u32, mark: u32) -> Option<u32>
         requires here { IsAt self.now.table.shared.table_id self.now.terms seat.old }
         requires may { MayRead (terms_of B.folding self.now.terms) seat.old }
@@ -40,7 +40,7 @@ impl<B: BoardBody> Board<B> {
         }
     }
 
-    // The parts of a whole block's summary, where each has the version of the block's mark.
+    // The parts of a full block's aggregate, if each has the version of the block's mark.
     fn load_parts(&self, seat: &mut Seat<B>, b: u32, mark: u32) -> Option<[u32; 4]>
         requires here { IsAt self.now.table.shared.table_id self.now.terms seat.old }
         requires may { MayRead (terms_of B.folding self.now.terms) seat.old }
@@ -75,7 +75,7 @@ impl<B: BoardBody> Board<B> {
         }
     }
 
-    // Goes on by cells to an index.
+    // Proceeds by cells to an index.
     pub(crate) fn walk_cells(
         &self,
         seat: &mut Seat<B>,
@@ -106,7 +106,7 @@ impl<B: BoardBody> Board<B> {
         Ok(walk)
     }
 
-    // A walk with the block where it stands, of which these are the parts.
+    // A walk with the block at its position. These are the parts of the block's aggregate.
     fn with_block(&self, seat: &Seat<B>, walk: BoardWalk<B::S>, parts: [u32; 4]) -> BoardWalk<B::S>
         requires may { MayRead (terms_of B.folding self.now.terms) seat.now }
         requires sums { Sums (B.operations self.now.terms.body) (actor_of seat.now).seen walk }
@@ -125,7 +125,7 @@ impl<B: BoardBody> Board<B> {
         }
     }
 
-    // Goes on by the block that begins where the walk stands: from its parts where they are fresh, else by its cells.
+    // Proceeds by the block that begins at the walk's position: from its parts if these are valid, and otherwise from its cells.
     fn walk_block(
         &self,
         seat: &mut Seat<B>,
@@ -149,7 +149,7 @@ impl<B: BoardBody> Board<B> {
         }
     }
 
-    // Goes on by a whole block that begins where the walk stands, else by one cell.
+    // Proceeds by a full block that begins at the walk's position, or otherwise by one cell.
     fn walk_on(
         &self,
         seat: &mut Seat<B>,
@@ -170,7 +170,7 @@ impl<B: BoardBody> Board<B> {
         }
     }
 
-    // Goes through a range of the elements.
+    // Walks through a range of the elements.
     fn walk_range(&self, seat: &mut Seat<B>, lo: u32, hi: u32) -> Result<BoardWalk<B::S>, Refusal>
         requires here { IsAt self.now.table.shared.table_id self.now.terms seat.old }
         requires may { MayRead (terms_of B.folding self.now.terms) seat.old }
@@ -188,9 +188,10 @@ impl<B: BoardBody> Board<B> {
         Ok(walk)
     }
 
-    /// The fold of the elements from index `lo` up to `hi`, `hi` excluded, after the edit where this call looks: by the parts of
-    /// whole blocks where they are fresh, else by cells, with how many of each were read. Refused with `BadRange` before any step;
-    /// then with `OutOfRange`, or with `Overtaken` where a later edit wrote there since the look. The seat is one of this board's.
+    /// The fold of the elements from index `lo` up to `hi`, `hi` excluded, after the update at which this call looks. It is made from the parts
+    /// of full blocks if these are valid, and otherwise from cells, and is returned with how many of each were read. Refused with `BadRange`
+    /// before any step, then with `OutOfRange`, or with `Overtaken` if a later update has written there since the look. The seat is one of this
+    /// board's.
     pub fn reduce(&self, seat: &mut Seat<B>, lo: u32, hi: u32) -> Result<Answer<B::S>, Refusal>
         requires { IsAt self.now.table.shared.table_id self.now.terms seat.old }
         ensures stays { Stays seat.old seat.new }

@@ -1,4 +1,4 @@
-//! Refreshes: the parts of a whole block's summary, made from its cells.
+//! Refreshes: the parts of a full block's aggregate, made from its cells.
 ghost use Rattle.std.specs.Prelude.{◌≡◌, ◌+◌, ◌*◌, ◌<◌, ◌≤◌, length, true, IfOk};
 ghost use Rattle.lv_edits.specs.Touch.{is_whole};
 ghost use Rattle.lv_geometry.specs.Cells.{capacity_of};
@@ -19,7 +19,7 @@ use lv_geometry::Refusal;
 use lv_machine::Refreshed;
 
 impl<B: BoardBody> Board<B> {
-    // The fold of a whole block's elements, from its cells.
+    // The fold of a full block's elements, from its cells.
     fn sum_block(&self, seat: &mut Seat<B>, b: u32) -> Result<B::S, Refusal>
         requires here { IsAt self.now.table.shared.table_id self.now.terms seat.old }
         requires may { MayRead (terms_of B.folding self.now.terms) seat.old }
@@ -34,7 +34,7 @@ impl<B: BoardBody> Board<B> {
         }
     }
 
-    // Installs the parts of a whole block's summary, with the block's mark as their version.
+    // Installs the parts of a full block's aggregate, with the block's mark as their version.
     fn keep_parts(&self, seat: &mut Seat<B>, b: u32, mark: u32, parts: [u32; 4])
         requires here { IsAt self.now.table.shared.table_id self.now.terms seat.old }
         requires within { 8 * b < capacity_of self.now.terms.buckets }
@@ -49,9 +49,9 @@ impl<B: BoardBody> Board<B> {
         }
     }
 
-    /// Makes the parts of the block of that number from its cells, and tells the edit where this call looked and the last edit that
-    /// touched the block, which is the version of the parts. Refused with `OutOfRange` where the block isn't whole, or with
-    /// `Overtaken` where a later edit wrote there since the look. The seat is one of this board's.
+    /// Makes the parts of the block of that number from its cells. Returns the update at which this call looked and the last update that touched
+    /// the block, which is the version of the parts. Refused with `OutOfRange` if the block isn't full, or with `Overtaken` if a later update has
+    /// written there since the look. The seat is one of this board's.
     pub fn refresh(&self, seat: &mut Seat<B>, block: u32) -> Result<Refreshed, Refusal>
         requires { IsAt self.now.table.shared.table_id self.now.terms seat.old }
         ensures stays { Stays seat.old seat.new }

@@ -4,7 +4,7 @@ use lv_reduce::Values;
 /// The elements of a closed vector, in order. Contracts see a list.
 pub type Elements = Values<i64>;
 
-/// What a vector was when its board was closed: the number of its last edit, and its elements.
+/// The vector of a board that was closed: the number of its last update, and its elements.
 #[derive(Drop)]
 pub struct Closed {
     pub edit: u32,

@@ -1,4 +1,4 @@
-//! Tries that are made again where an edit of another seat stood in the way: so many at most, so that no call waits.
+//! Tries that are repeated when another seat was faster. Their number is limited, so that no call waits.
 ghost use Rattle.std.specs.Prelude.{◌≡◌, ◌≤◌, ◌↔◌, false, IsTrue, Err};
 ghost use Rattle.lv_geometry.specs.declared.refusals.Refusal.{Refusal};
 ghost use Rattle.lv_bodies.specs.Parts.{IsShort};
@@ -18,11 +18,11 @@ use lv_edits::{Edit, Receipt};
 use lv_geometry::Refusal;
 use std::hint;
 
-// A pause is at most 2 to this many turns of a loop that only waits. With 6, four seats that do nothing but edit are outrun about once an
-// edit; with 12 it is rare, and an edit takes a fifth of the time. With 13 little more is gained, and a seat waits longer.
+// A pause is at most 2 to this many turns of a loop that only waits. With 6, four seats that only make updates fail about once an update. With 12
+// that is rare, and an update takes a fifth of the time. With 13 little more is gained, and a seat waits longer.
 const LONGEST_PAUSE: u32 = 12;
 
-// Whether only an edit of another seat stood in the way.
+// Whether the try failed only because of another seat's update.
 #[inline(always)]
 fn is_outrun(answer: Result<Receipt, Refusal>) -> bool
     ensures { IsTrue result ↔ IsOutrun answer }
@@ -36,7 +36,7 @@ fn is_outrun(answer: Result<Receipt, Refusal>) -> bool
     )
 }
 
-// Whether an exchange found another descriptor, which is the look now.
+// Whether a compare-and-swap found another descriptor, which is the look now.
 #[inline(always)]
 fn has_found(answer: Result<Receipt, Refusal>) -> bool
     ensures { IsTrue result ↔ HasFound answer }
@@ -47,9 +47,9 @@ fn has_found(answer: Result<Receipt, Refusal>) -> bool
     matches!(refusal, Refusal::Contended { .. })
 }
 
-// A pause after each second try that was outrun, so that the seat that was first gets on. What an exchange found is old after a pause: so
-// the next try mostly finds another descriptor, and the one after that is made from it at once. A pause is 4 turns at first, then 16
-// times as long each time, up to 16 microseconds where a turn takes 4 ns, and to 200 on processors whose turns are long.
+// A pause after each second try that failed, so that the seat that was faster can proceed. After a pause the descriptor that was found is old. So
+// the next try mostly finds another descriptor, and the one after that is made from it at once. A pause has 4 turns at first, then 16 times as
+// many each time, up to 16 microseconds if a turn takes 4 ns, and to 200 on processors whose turns are long.
 fn pause(outrun: u32) {
     if outrun.is_multiple_of(2) {
         return;
@@ -60,7 +60,7 @@ fn pause(outrun: u32) {
 }
 
 impl<B: BoardBody> Board<B> {
-    // An edit as the seat looked. Where the kind of the edit is known, it is chosen when this is built.
+    // An update from the look that the seat has. If the kind of the update is known, it is chosen when this is compiled.
     #[inline(always)]
     fn edit_looked(&self, seat: &mut Seat<B>, edit: Edit) -> Result<Receipt, Refusal>
         requires here { IsAt self.now.table.shared.table_id self.now.terms seat.old }
@@ -76,7 +76,7 @@ impl<B: BoardBody> Board<B> {
         }
     }
 
-    // A look that loads the descriptor where it is told to; else the look that the seat has shows all that it knows.
+    // Loads the descriptor if `loads` is set. Otherwise the look that the seat has shows all that the seat knows.
     #[inline(always)]
     fn look_where(&self, seat: &mut Seat<B>, loads: bool)
         requires here { IsAt self.now.table.shared.table_id self.now.terms seat.old }
@@ -89,7 +89,7 @@ impl<B: BoardBody> Board<B> {
         }
     }
 
-    // One try, by such a look.
+    // One try, from such a look.
     #[inline(always)]
     fn try_edit(&self, seat: &mut Seat<B>, edit: Edit, loads: bool) -> Result<Receipt, Refusal>
         requires here { IsAt self.now.table.shared.table_id self.now.terms seat.old }
@@ -102,7 +102,8 @@ impl<B: BoardBody> Board<B> {
         self.edit_looked(seat, edit)
     }
 
-    // One try, and further ones while they are outrun. Only the first one loads the descriptor, and one after a word of a later edit.
+    // One try, and further ones while they fail because of other seats. The descriptor is loaded by the first one, and by one after a word of a
+    // later update.
     #[inline(always)]
     fn edit_within(&self, seat: &mut Seat<B>, edit: Edit, tries: u32) -> Result<Receipt, Refusal>
         requires here { IsAt self.now.table.shared.table_id self.now.terms seat.old }
@@ -123,8 +124,8 @@ impl<B: BoardBody> Board<B> {
         answer
     }
 
-    /// `try_push`, made again while it is refused with `Contended`, from the descriptor that was found then: at most `tries` times,
-    /// which is at least 1. The answer is that of the last try. The seat is one of this board's.
+    /// Does what `try_push` does, and tries again while it is refused with `Contended`, from the descriptor that was found then. There are at
+    /// most `tries` tries, and at least 1. The result is that of the last try. The seat is one of this board's.
     pub fn push_within(&self, seat: &mut Seat<B>, x: i64, tries: u32) -> Result<Receipt, Refusal>
         requires here { IsAt self.now.table.shared.table_id self.now.terms seat.old }
         requires some { 1 ≤ tries }
@@ -138,8 +139,9 @@ impl<B: BoardBody> Board<B> {
         self.edit_within(seat, Edit::Push(x), tries)
     }
 
-    /// `try_pop`, made again while it is refused with `Contended`, from the descriptor that was found then, or with `Overtaken`, after a
-    /// new look: at most `tries` times, which is at least 1. The answer is that of the last try. The seat is one of this board's.
+    /// Does what `try_pop` does, and tries again while it is refused with `Contended`, from the descriptor that was found then, or with
+    /// `Overtaken`, after a new look. There are at most `tries` tries, and at least 1. The result is that of the last try. The seat is one of
+    /// this board's.
     pub fn pop_within(&self, seat: &mut Seat<B>, tries: u32) -> Result<Receipt, Refusal>
         requires here { IsAt self.now.table.shared.table_id self.now.terms seat.old }
         requires some { 1 ≤ tries }
@@ -149,8 +151,9 @@ impl<B: BoardBody> Board<B> {
         self.edit_within(seat, Edit::Pop, tries)
     }
 
-    /// `try_write`, made again while it is refused with `Contended`, from the descriptor that was found then, or with `Overtaken`, after a
-    /// new look: at most `tries` times, which is at least 1. The answer is that of the last try. The seat is one of this board's.
+    /// Does what `try_write` does, and tries again while it is refused with `Contended`, from the descriptor that was found then, or with
+    /// `Overtaken`, after a new look. There are at most `tries` tries, and at least 1. The result is that of the last try. The seat is one of
+    /// this board's.
     pub fn write_within(
         &self,
         seat: &mut Seat<B>,

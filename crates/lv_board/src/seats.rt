@@ -1,4 +1,4 @@
-//! A seat: the descriptor that it saw last, and its token.
+//! A seat: the descriptor that it last saw, and its token.
 ghost use Rattle.std.specs.Prelude.{◌≡◌, [], ◌∷◌, length};
 ghost use Rattle.lv_machine.specs.History.{own};
 ghost use Rattle.lv_board.specs.TableRule.{IsSeat};
@@ -8,7 +8,7 @@ use crate::actors::{Basis, View};
 use crate::words::edit_in;
 use atomic_table::Seat as Token;
 
-/// A place at a board, for one thread: the descriptor that it saw last, and a token of the steps that it made.
+/// A place at a board, for one thread: the descriptor that it last saw, and a token of the steps that it made.
 #[derive(Drop)]
 pub struct Seat<B: Copy> {
     pub(crate) terms: Basis<B>,
@@ -23,7 +23,7 @@ pub struct Seat<B: Copy> {
 }
 
 impl<B: Copy> Seat<B> {
-    /// The number of the last edit where this seat looked; 0 at first.
+    /// The number of the last update at which this seat looked, or 0 at first.
     pub fn seen(&self) -> u32
         ensures { result ≡ length self.now.token.me.0.actor.seen }
     {

@@ -9,7 +9,7 @@ use crate::seats::Seat;
 use std::alloc::Global;
 use std::sync::Arc;
 
-/// A seat with its share of the board, and the board's stamp: who has one needs nothing else, in whatever thread.
+/// A seat with its share of the board, and the board's stamp. Whoever has one needs nothing else, in any thread.
 #[derive(Drop)]
 pub struct SeatWithBoard<B: BoardBody> {
     pub(crate) stamp: u64,

@@ -1,4 +1,4 @@
-//! Sessions: lines that a seat is asked by, one try a line.
+//! Sessions: lines that are answered with a seat, with one try a line.
 ghost use Rattle.std.specs.Prelude.{◌≡◌};
 ghost use Rattle.lv_lines.specs.Output.{HasRoom};
 ghost use Rattle.lv_lines.specs.Replies.{LinesServed};
@@ -22,10 +22,10 @@ use std::alloc::Global;
 use std::io::{Read, Write};
 use std::marker::PhantomData;
 
-/// Answers the lines of a session by a seat: pushes, pops, writes, reads, sizes, reductions by the board's kind and refreshes, one
-/// try each; every other line that says something is bad. The seat is one of this board's, and stays the caller's.
+/// Answers the lines of a session with a seat: pushes, pops, writes, reads, sizes, reductions by the board's kind and refreshes, with one try
+/// each. Every other line that isn't empty is bad. The seat is one of this board's, and stays the caller's.
 ///
-/// Ends with the faults of a script; edits accepted before a fault stay.
+/// Ends with the faults of a script. Updates that were accepted before a fault stay.
 pub fn run_board_session<B: BoardBody, R: Read, W: Write>(
     alloc: Global,
     board: &Board<B>,
@@ -37,7 +37,7 @@ pub fn run_board_session<B: BoardBody, R: Read, W: Write>(
     ensures stays { Stays seat.old seat.new }
     ensures lines_served { LinesServed (BoardStep (terms_of B.folding board.now.terms) (B.operations board.now.terms.body) B.the_kind (B.shown_as board.now.terms.body))
         (actor_of seat.old) (actor_of seat.new) (R.remaining reader.old) (R.remaining reader.new) (W.contents writer.old) (W.contents writer.new) result }
-    // Line by line, by lists alone: each call is answered after a beginning of one history.
+    // Line by line the replies are those of the reference model: each call is answered after an earlier state of one history.
     ensures plain { LinesServed (PlainBoardStep (limits_of board.now.terms) B.the_kind (B.plain board.now.terms.body))
         (sat_of (actor_of seat.old)) (sat_of (actor_of seat.new)) (R.remaining reader.old) (R.remaining reader.new) (W.contents writer.old) (W.contents writer.new) result }
 {
@@ -52,7 +52,7 @@ pub fn run_board_session<B: BoardBody, R: Read, W: Write>(
     hold::<Seat<B>, B, ByCall<_>, R, W>(alloc, kind, seat, &ByCall { call }, reader, writer)
 }
 
-// Holds a session of a seat of a body, whose lines an answerer answers.
+// Runs a session with a seat. An answerer answers its lines.
 fn hold<S, B: SeatedAs<S>, A: Answerer<S>, R: Read, W: Write>(
     alloc: Global,
     kind: Kind,
@@ -77,7 +77,7 @@ fn hold<S, B: SeatedAs<S>, A: Answerer<S>, R: Read, W: Write>(
     serve_lines(MOST_READ, alloc, &mut session, reader, writer)
 }
 
-// What answers the lines of a session.
+// The line handler of a session.
 #[derive(Drop)]
 struct Session<'s, 'a, S, B: SeatedAs<S>, A: Answerer<S>> {
     kind: Kind,

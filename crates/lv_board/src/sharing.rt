@@ -1,4 +1,4 @@
-//! A board that threads share without a scope: each has a seat with its share of the board, and gives it back when it goes.
+//! A board that threads share without a scope. Each thread has a seat with its share of the board, and gives it back when it ends.
 ghost use Rattle.std.specs.Prelude.{◌≡◌, ◌≢◌, ◌≤◌, [], length, nat_eq, IfOk, IfErr, OnOk};
 ghost use Rattle.std.specs.Arc.{arc_value};
 ghost use Rattle.lv_board.specs.Opening.{IsOpeningRefusal, MayOpen};
@@ -17,23 +17,23 @@ use lv_machine::{Call, Said};
 use std::alloc::Global;
 use std::sync::Arc;
 
-/// Why nobody sits down.
+/// Why no seat is given.
 #[derive(Clone, Copy, PartialEq, Eq)]
 pub enum Unseated {
-    /// No seat is there.
+    /// No seat is left.
     NoSeat,
-    /// One more share of the board was wanted, and there was none.
+    /// There was no memory for one more share of the board.
     NoMemory,
 }
 
 /// Why a shared board stays open.
 #[derive(Clone, Copy, PartialEq, Eq)]
 pub enum Unclosed {
-    /// Not all seats are there.
+    /// Some seats are missing.
     SeatsOut,
-    /// Memory for the elements was wanted, and there was none.
+    /// There was no memory for the elements.
     NoMemory,
-    /// All seats are there, and yet some thread has a share of the board. Each share goes with a seat, so this is never seen.
+    /// All seats are there, and yet some thread has a share of the board. Each share belongs to a seat, so this never occurs.
     Shared,
 }
 
@@ -59,8 +59,8 @@ fn share<B: BoardBody>(
 }
 
 impl<B: BoardBody> Opened<B> {
-    /// A board with no edits, to be shared, whose seats are all there: seat k is actor k. Who opens several boards gives each a stamp of
-    /// its own. Refused as `Board::new` is.
+    /// A board with no updates, to be shared, with all its seats. Seat k is actor k. A caller that opens several boards gives each a stamp of its
+    /// own. Refused as `Board::new` is.
     pub fn new(
         alloc: Global,
         limits: Limits,
@@ -77,7 +77,7 @@ impl<B: BoardBody> Opened<B> {
         }
     }
 
-    /// The seat that has been there for the longest; at first they are there in the order of their numbers.
+    /// Takes the seat that has been there for the longest time. At first the seats are in the order of their numbers.
     pub fn sit(&mut self) -> Result<SeatWithBoard<B>, Unseated>
         ensures ok { IfOk result (λ s. Sits (shared_of B.folding B.the_kind B.plain self.old) (sat_of B.folding B.the_kind B.plain s) (shared_of B.folding B.the_kind B.plain self.new)) }
         ensures out { IfOk result (λ s. IsOut self.new s) }
@@ -97,8 +97,8 @@ impl<B: BoardBody> Opened<B> {
         })
     }
 
-    /// Takes a seat back, with all that it knows: it may be taken again, and when all are there the board can be closed. A seat of a
-    /// board of another stamp comes back as it was. One of this stamp is this board's.
+    /// Takes a seat back, with all that it knows. It may be taken again, and when all seats are there, the board can be closed. A seat of a board
+    /// with another stamp is returned unchanged. A seat with this stamp must be one of this board's.
     pub fn take_back(&mut self, seat_with_board: SeatWithBoard<B>) -> Result<(), SeatWithBoard<B>>
         requires own { seat_with_board.stamp ≡ self.old.stamp → IsOut self.old seat_with_board }
         ensures ok { OnOk result (IsBack (shared_of B.folding B.the_kind B.plain self.old) (sat_of B.folding B.the_kind B.plain seat_with_board) (shared_of B.folding B.the_kind B.plain self.new)) }
@@ -124,8 +124,8 @@ impl<B: BoardBody> Opened<B> {
         self.seats.len() == self.board.seats() as usize
     }
 
-    /// The vector when all seats are there: the number of its last edit, and its elements. Refused with `SeatsOut` only if a seat isn't
-    /// there, and else with `NoMemory` or `Shared`; the board comes back as it was.
+    /// Returns the vector when all seats are there: the number of its last update, and its elements. Refused with `SeatsOut` only if a seat is
+    /// missing, and otherwise with `NoMemory` or `Shared`. The board is then returned unchanged.
     pub fn close(self, alloc: Global) -> Result<Closed, (Opened<B>, Unclosed)>
         ensures ok { IfOk result (λ closed. IsClosedShared (shared_of B.folding B.the_kind B.plain self) closed) }
         ensures err { IfErr result (λ r. ((shared_of B.folding B.the_kind B.plain r.0) ≡ (shared_of B.folding B.the_kind B.plain self)) × IsUnclosed (shared_of B.folding B.the_kind B.plain self) r.1) }
@@ -156,7 +156,7 @@ impl<B: BoardBody> Opened<B> {
 }
 
 impl<B: BoardBody> SeatWithBoard<B> {
-    /// Makes a call, and gives what it ends with, a fold as its plain value. An edit is tried so often at most, and once at least.
+    /// Makes a call, and returns how it ends, with a fold as its plain value. An update is tried at most this many times, and at least once.
     pub fn make(&mut self, call: Call, tries: u32) -> Said<Shown>
         ensures makes { Makes tries call (sat_of B.folding B.the_kind B.plain self.old) result (sat_of B.folding B.the_kind B.plain self.new) }
         ensures board { arc_value self.new.board ≡ arc_value self.old.board }

@@ -1,4 +1,4 @@
-//! The atomic steps of a seat, each on one word. `exchanges`, `installs` and `loads` have those that a table alone serves.
+//! The atomic steps of a seat, each on one word. `exchanges`, `installs` and `loads` have those that need only a table.
 ghost use Rattle.std.specs.Prelude.{◌<◌};
 ghost use Rattle.lv_machine.specs.Layout.{count_of};
 ghost use Rattle.lv_machine.specs.Words.{HasPending};
@@ -14,7 +14,7 @@ use crate::seats::Seat;
 use crate::words::{cell_place_of, edit_in, index_in, mark_place_of, pack_cell, value_in};
 
 impl<B: BoardBody> Board<B> {
-    // The descriptor: the seat's look becomes what is loaded.
+    // Loads the descriptor, which becomes the seat's look.
     pub(crate) fn load_descriptor(&self, seat: &mut Seat<B>)
         requires { IsAt self.now.table.shared.table_id self.now.terms seat.old }
         ensures { IsLoaded B.folding seat.old seat.new }
@@ -22,7 +22,7 @@ impl<B: BoardBody> Board<B> {
         load_descriptor(&self.table, seat);
     }
 
-    // Another word.
+    // Loads another word.
     pub(crate) fn load_word(&self, seat: &mut Seat<B>, at: usize) -> u64
         requires here { IsAt self.now.table.shared.table_id self.now.terms seat.old }
         requires within { at < count_of (limits_of self.now.terms) }
@@ -44,7 +44,7 @@ impl<B: BoardBody> Board<B> {
             .fetch_max::<HelpCell>(&mut seat.token, at, word);
     }
 
-    // Completes the mark of its block.
+    // Completes the mark of the block of that cell.
     fn help_mark(&self, seat: &mut Seat<B>)
         requires here { IsAt self.now.table.shared.table_id self.now.terms seat.old }
         requires pending { HasPending seat.old.look }

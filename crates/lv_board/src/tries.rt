@@ -1,4 +1,4 @@
-//! Tries to make an edit: each makes one exchange at most.
+//! Tries of an update. Each makes at most one compare-and-swap.
 ghost use Rattle.std.specs.Prelude.{◌≡◌, ◌∷◌, ◌<◌, ◌≤◌, ◌-◌, ℕ, length, None, Err, IfOk, IfErr};
 ghost use Rattle.lv_geometry.specs.declared.refusals.Refusal.{Refusal};
 ghost use Rattle.lv_bodies.specs.Parts.{IsShort};
@@ -24,7 +24,7 @@ use lv_edits::{Edit, Receipt};
 use lv_geometry::Refusal;
 
 impl<B: BoardBody> Board<B> {
-    // The exchange for an edit that nothing refuses at the look, whose pending write is complete. Gives the edit's number.
+    // The compare-and-swap for an update that nothing refuses at the look, whose pending write is complete. Returns the update's number.
     fn exchange_for(&self, seat: &mut Seat<B>, edit: Edit) -> Result<u32, Refusal>
         requires here { IsAt self.now.table.shared.table_id self.now.terms seat.old }
         requires ready { IsReady (actor_of seat.old) seat.old.look }
@@ -48,7 +48,7 @@ impl<B: BoardBody> Board<B> {
         }
     }
 
-    // Puts an element of 16 bits at the end, as the seat looked.
+    // Appends an element of 16 bits, from the look that the seat has.
     fn push_short(&self, seat: &mut Seat<B>, x: i64) -> Result<Receipt, Refusal>
         requires here { IsAt self.now.table.shared.table_id self.now.terms seat.old }
         requires short { IsShort x }
@@ -68,8 +68,8 @@ impl<B: BoardBody> Board<B> {
         }
     }
 
-    /// Puts `x` at the end, where no edit came since the seat looked. Refused with `TooWide`, `Worn`, `Full`, or with `Contended`
-    /// where an edit came first: then the seat has looked again. The seat is one of this board's.
+    /// Appends `x`, if no update came since the seat looked. Refused with `TooWide`, `Worn`, `Full`, or with `Contended` if an update came first,
+    /// in which case the seat has looked again. The seat is one of this board's.
     pub fn push_looked(&self, seat: &mut Seat<B>, x: i64) -> Result<Receipt, Refusal>
         requires { IsAt self.now.table.shared.table_id self.now.terms seat.old }
         ensures stays { Stays seat.old seat.new }
@@ -83,8 +83,8 @@ impl<B: BoardBody> Board<B> {
         self.push_short(seat, x)
     }
 
-    /// Looks, and puts `x` at the end. Refused with `TooWide`, `Worn`, `Full`, or with `Contended` where another edit came in
-    /// between. The seat is one of this board's.
+    /// Looks, and appends `x`. Refused with `TooWide`, `Worn`, `Full`, or with `Contended` if another update came in between. The seat is one of
+    /// this board's.
     pub fn try_push(&self, seat: &mut Seat<B>, x: i64) -> Result<Receipt, Refusal>
         requires { IsAt self.now.table.shared.table_id self.now.terms seat.old }
         ensures stays { Stays seat.old seat.new }
@@ -99,7 +99,7 @@ impl<B: BoardBody> Board<B> {
         self.push_short(seat, x)
     }
 
-    // Replaces or drops the element at an index that the edit names, and gives it and the edit's number.
+    // Replaces or drops the element at an index that the update names, and returns it and the update's number.
     fn take_for(&self, seat: &mut Seat<B>, edit: Edit, i: u32) -> Result<(u32, i64), Refusal>
         requires here { IsAt self.now.table.shared.table_id self.now.terms seat.old }
         requires short { IsShortEdit edit }
@@ -121,9 +121,8 @@ impl<B: BoardBody> Board<B> {
         }
     }
 
-    /// Drops the last element, where no edit came since the seat looked. Refused with `Worn`, `Empty`, with `Overtaken` where its
-    /// cell has a later edit, or with `Contended` where an edit came first: then the seat has looked again. The seat is one of this
-    /// board's.
+    /// Drops the last element, if no update came since the seat looked. Refused with `Worn`, `Empty`, with `Overtaken` if its cell has a later
+    /// update, or with `Contended` if an update came first, in which case the seat has looked again. The seat is one of this board's.
     pub fn pop_looked(&self, seat: &mut Seat<B>) -> Result<Receipt, Refusal>
         requires { IsAt self.now.table.shared.table_id self.now.terms seat.old }
         ensures stays { Stays seat.old seat.new }
@@ -140,8 +139,8 @@ impl<B: BoardBody> Board<B> {
         }
     }
 
-    /// Looks, and drops the last element. Refused with `Worn`, `Empty`, with `Overtaken` where its cell has a later edit, or with
-    /// `Contended` where another edit came in between. The seat is one of this board's.
+    /// Looks, and drops the last element. Refused with `Worn`, `Empty`, with `Overtaken` if its cell has a later update, or with `Contended` if
+    /// another update came in between. The seat is one of this board's.
     pub fn try_pop(&self, seat: &mut Seat<B>) -> Result<Receipt, Refusal>
         requires { IsAt self.now.table.shared.table_id self.now.terms seat.old }
         ensures stays { Stays seat.old seat.new }
@@ -152,7 +151,7 @@ impl<B: BoardBody> Board<B> {
         self.pop_looked(seat)
     }
 
-    // Overwrites the element at an index with one of 16 bits, as the seat looked.
+    // Overwrites the element at an index by one of 16 bits, from the look that the seat has.
     fn write_short(&self, seat: &mut Seat<B>, index: u32, value: i64) -> Result<Receipt, Refusal>
         requires here { IsAt self.now.table.shared.table_id self.now.terms seat.old }
         requires short { IsShort value }
@@ -170,9 +169,9 @@ impl<B: BoardBody> Board<B> {
         }
     }
 
-    /// Overwrites the element at `index`, where no edit came since the seat looked. Refused with `TooWide`, `Worn`, `OutOfRange`, with
-    /// `Overtaken` where its cell has a later edit, or with `Contended` where an edit came first: then the seat has looked again. The
-    /// seat is one of this board's.
+    /// Overwrites the element at `index`, if no update came since the seat looked. Refused with `TooWide`, `Worn`, `OutOfRange`, with `Overtaken`
+    /// if its cell has a later update, or with `Contended` if an update came first, in which case the seat has looked again. The seat is one of
+    /// this board's.
     pub fn write_looked(
         &self,
         seat: &mut Seat<B>,
@@ -191,8 +190,8 @@ impl<B: BoardBody> Board<B> {
         self.write_short(seat, index, value)
     }
 
-    /// Looks, and overwrites the element at `index`. Refused with `TooWide`, `Worn`, `OutOfRange`, with `Overtaken` where its cell
-    /// has a later edit, or with `Contended` where another edit came in between. The seat is one of this board's.
+    /// Looks, and overwrites the element at `index`. Refused with `TooWide`, `Worn`, `OutOfRange`, with `Overtaken` if its cell has a later
+    /// update, or with `Contended` if another update came in between. The seat is one of this board's.
     pub fn try_write(&self, seat: &mut Seat<B>, index: u32, value: i64) -> Result<Receipt, Refusal>
         requires { IsAt self.now.table.shared.table_id self.now.terms seat.old }
         ensures stays { Stays seat.old seat.new }

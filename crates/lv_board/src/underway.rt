@@ -1,7 +1,7 @@
-//! A reduction on its way.
+//! A reduction under way.
 use std::alloc::AllocError;
 
-// A reduction on its way: the fold of the elements from `lo` up to `at`, and how many cells and blocks were read for it.
+// A reduction under way: the fold of the elements from `lo` up to `at`, and how many cells and blocks were read for it.
 #[derive(Copy)]
 pub(crate) struct BoardWalk<S> {
     pub(crate) lo: u32,

@@ -1,4 +1,4 @@
-//! Why an edit is refused at a descriptor.
+//! Why an update is refused at a descriptor.
 ghost use Rattle.std.specs.Prelude.{◌≡◌};
 ghost use Rattle.lv_machine.specs.Moves.{verdict_at};
 ghost use Rattle.lv_board.specs.Stands.{IsBasis};
@@ -10,7 +10,7 @@ use lv_edits::Edit;
 use lv_geometry::{Refusal, capacity};
 use lv_machine::refused_by_size;
 
-/// The first refusal that applies to an edit at a descriptor, or none.
+/// The first refusal that applies to an update at a descriptor, or none.
 pub(crate) fn verdict<B: Copy>(terms: &Basis<B>, look: u64, edit: Edit) -> Option<Refusal>
     requires { IsBasis terms.now }
     ensures { result ≡ verdict_at (limits_of terms.now) look edit }

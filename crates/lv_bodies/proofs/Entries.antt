@@ -17,12 +17,12 @@ Any-cons P x xs h = (suc h.0, h.1, omega (arith, h.2), h.3, h.4)
 Any-weaker : {X : Type 0} (P Q : X → Type 0) → ((x : X) → P x → Q x) → (xs : List X) → Any P xs → Any Q xs
 Any-weaker P Q f xs h = (h.0, h.1, h.2, h.3, f h.1 h.4)
 
--- where not all elements pass a test, the first or some later one fails it
+-- if not all elements pass a test, the first or some later one fails it
 first_or_later : {X : Type 0} (p : X → Bool) (x : X) (xs : List X) (b c : Bool) → p x ≡ b → (c ≡ false → Any (λ y. p y ≡ false) xs) → (b && c) ≡ false → Any (λ y. p y ≡ false) (x ∷ xs)
 first_or_later p x xs true c d later e = Any-cons (λ y. p y ≡ false) x xs (later e)
 first_or_later p x xs false c d later e = Any-head (λ y. p y ≡ false) x xs d
 
--- where not all elements pass a test, some element fails it
+-- if not all elements pass a test, some element fails it
 some_fails : {X : Type 0} (p : X → Bool) (xs : List X) → list_all p xs ≡ false → Any (λ x. p x ≡ false) xs
 some_fails p [] e = absurd (cc)
 some_fails p (x ∷ xs) e = first_or_later p x xs (p x) (list_all p xs) refl (some_fails p xs) e
@@ -34,7 +34,7 @@ some_above table e =
     (λ row d. Any-weaker (λ q. nat_lt q 8 ≡ false) (λ q. 7 < q) (λ q h. ltb-false q 8 h) row (some_fails (λ q. nat_lt q 8) row d))
     table (some_fails (λ row. list_all (λ q. nat_lt q 8) row) table e)
 
--- no table has an entry above 7 where each is at most 7
+-- no table has an entry above 7 if each is at most 7
 pub none_above : (table : List (List ℕ)) → All (All (λ q. q ≤ 7)) table → Any (Any (λ q. 7 < q)) table → ⊥
 none_above table h a =
     let (q, s, within, is, above) = a.4 in

@@ -48,7 +48,7 @@ padded_by_copy name copied same =
 pub same_name : (name other : List ℕ) → (bytes_eq name other ≡ true → name ≡ other) × (name ≡ other → bytes_eq name other ≡ true)
 same_name name other = bytes_eq-Decides name other
 
--- where no zero stands, all 16 bytes are the name's
+-- if there is no zero, all 16 bytes are the name's
 pub kept_front : (bytes : List ℕ) (end : Option ℕ) → length bytes ≡ 16 → end ≡ cond (ltb (position_or_len (λ b. nat_eq b 0) bytes) (length bytes)) (Some (position_or_len (λ b. nat_eq b 0) bytes)) None → take (unwrap_or end 16) bytes ≡ kept_name bytes
 kept_front bytes end long at =
     let first = position_or_len (λ b. nat_eq b 0) bytes in

@@ -34,13 +34,13 @@ read_sum x y p q =
     let both : FitsSigned w128 (x +ℤ y) = omega (arith, ints) in
     simp to_z-of_z
 
--- a greater number that is read is that of the numbers, where they fit
+-- a greater number that is read is that of the numbers, if they fit
 greater_read : (x y a b m : ℤ) → FitsSigned w128 x → FitsSigned w128 y → a ≡ x → b ≡ y → m ≡ int_max a b → read_back m ≡ int_max x y
 greater_read x y a b m p q e f g =
     let is : m ≡ int_max x y = g ∙ ap (λ z. int_max z b) e ∙ ap (int_max x) f in
     ap read_back is ∙ to_z-of_z w128 (int_max x y) (omega (arith, ints, clamps))
 
--- a small number fits, and so does the sum of two
+-- a small number fits into 128 bits, and the sum of two small numbers does too
 fits : (x : ℤ) → IsSmall x → FitsSigned w128 x
 fits x h = omega (arith, ints)
 

@@ -19,7 +19,7 @@ use Rattle.lv_bodies.specs.declared.kinds.Kind.{Kind}
 use Rattle.lv_bodies.specs.declared.kinds.Kind.TheVariants.{Sum, Least, Greatest, Best, Affine, Automaton}
 use Rattle.lv_bodies.specs.declared.kinds.Shown.TheVariants as shown
 
--- a pair's fold, where that of the second side is known
+-- a pair's fold, if that of the second side is known
 pair_fold : {S T : Type 0} (o : Operations S) (p : Operations T) (xs : List ℤ) (t : T) → fold_of p xs ≡ t → fold_of (pair_operations o p) xs ≡ (fold_of o xs, t)
 pair_fold o p xs t e = fold_of-pair o p xs ∙ ap (λ u. (fold_of o xs, u)) e
 

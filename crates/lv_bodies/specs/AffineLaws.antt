@@ -20,11 +20,11 @@ pub same_lines : (p q : AffineMap) → p.a ≡ q.a → p.b ≡ q.b → p ≡ q
 same_lines p q e f = ap (λ x. record p { a = x }) e ∙ ap (λ x. record q { b = x }) f
 
 module _ (m : ℕ) where
-  -- the slope of three maps, where the first two or the last two are joined first
+  -- the slope of three maps, if the first two or the last two are joined first
   slope_assoc : (x y z : ℕ) → ((x * y) % m * z) % m ≡ (x * ((y * z) % m)) % m
   slope_assoc x y z = mul-mod_first (x * y) z m ∙ ap (λ w. w % m) (mul_assoc x y z) ∙ sym (mul-mod_second x (y * z) m)
 
-  -- where three maps take 0, where the first two or the last two are joined first
+  -- the number to which three maps take 0, if the first two or the last two are joined first
   start_assoc : (b y c z d : ℕ) → (z * ((y * b + c) % m) + d) % m ≡ ((y * z) % m * b + (z * c + d) % m) % m
   start_assoc b y c z d =
       sym (mod-add-mod (z * ((y * b + c) % m)) m d)
@@ -65,7 +65,7 @@ goes y xs h =
     ∙ start_assoc (2 ^ 32) y p.a p.b (remainder (over_256 x) (2 ^ 32)) (remainder x 256))
     y affine_operations.identity xs (omega arith)
 
--- a map is known from where it takes 0 and 1
+-- a map is known by the numbers to which it takes 0 and 1
 known_from : (a b at_one at_zero : ℕ) → a < 2 ^ 32 → b < 2 ^ 32 → at_one ≡ (a * 1 + b) % 2 ^ 32 → at_zero ≡ (a * 0 + b) % 2 ^ 32 → (a ≡ remainder (pos at_one -ℤ pos at_zero) (2 ^ 32)) × (b ≡ at_zero)
 known_from a b at_one at_zero h k e f =
     let start : b ≡ at_zero = omega arith in
@@ -74,7 +74,7 @@ known_from a b at_one at_zero h k e f =
     remainder_by (pos at_one -ℤ pos at_zero) (2 ^ 32) 1 (at_one + 2 ^ 32 - at_zero) (omega arith) moved in
     (omega arith ∙ sym slope, start)
 
--- the fold's map is the one that is known from where 0 and 1 go
+-- the map of the fold is the one that is known by the numbers to which 0 and 1 are taken
 pub fold_of-affine : (xs : List ℤ) → CanFold xs → let p = fold_of affine_operations xs in (p.a ≡ (plain_affine xs).0) × (p.b ≡ (plain_affine xs).1)
 fold_of-affine xs can =
     let p = fold_of affine_operations xs in

@@ -4,7 +4,7 @@ use Rattle.lv_bodies.specs.Body.{Operations}
 use Rattle.lv_bodies.specs.Plain.{remainder, over_256}
 use Rattle.lv_bodies.specs.declared.affine.AffineMap.{AffineMap}
 
--- an element x is the map from y to a * y + b, where a is x / 256 rounded down, and b the rest
+-- the map that an element x is: from y to a * y + b, for a of x / 256 rounded down, modulo 2 ^ 32, and b the rest
 abbrev pub map_of : ℤ → AffineMap
 map_of x = record { a = remainder (over_256 x) (2 ^ 32); b = remainder x 256 }
 

@@ -19,7 +19,7 @@ module _ {T : Type 0} (lift : ℤ → T) (join : T → T → T) where
   inside_along s [] = refl
   inside_along s (x ∷ xs) = inside_along (join s (lift x)) xs
 
-  -- where there are elements, a fold from an identity is what is inside the fold from none
+  -- if there are elements, a fold from an identity is what is inside the fold from none
   pub fold_of-inside : (identity : T) (xs : List ℤ) → 0 < length xs → All IsElement xs → ((x : ℤ) → IsElement x → join identity (lift x) ≡ lift x)
       → Some (fold_of record { identity = identity; lift = lift; join = join } xs) ≡ fold_of (optional_operations lift join) xs
   fold_of-inside identity [] some elements neutral = absurd (omega arith)

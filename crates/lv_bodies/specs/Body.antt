@@ -49,6 +49,6 @@ pub record CanFold (xs : List ℤ) : Type 0 where
 abbrev pub JoinsEndToEnd : {S : Type 0} → Operations S → Type 0
 JoinsEndToEnd o = (xs ys : List ℤ) → CanFold (xs ++ ys) → fold_of o (xs ++ ys) ≡ o.join (fold_of o xs) (fold_of o ys)
 
--- a test of two summaries is exact: true where they are equal, and only there
+-- a test of two summaries is exact: it is true if and only if they are equal
 abbrev pub IsExact : {T : Type 0} → (T → T → Bool) → Type 0
 IsExact {T} E = (x y : T) → IsTrue (E x y) ↔ (x ≡ y)

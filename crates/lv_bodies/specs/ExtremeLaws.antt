@@ -61,7 +61,7 @@ module _ (first : ℤ → ℤ → ℤ) (last : ℤ) (order : OrderLaws first las
     associative = order.associative;
   }
 
-  -- and so does its bare form
+  -- the bare form of the first of all meets the laws of a body too
   pub bare_laws : BodyLaws (bare_operations first last) IsBareExtreme
   bare_laws = record {
     identity_within = order.last_element;

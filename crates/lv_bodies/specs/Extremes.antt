@@ -17,11 +17,11 @@ pub record OrderLaws (first : ℤ → ℤ → ℤ) (last : ℤ) : Type 0 where
 abbrev pub extreme_operations : (ℤ → ℤ → ℤ) → Operations (Option ℤ)
 extreme_operations first = optional_operations (λ x. x) first
 
--- of two the smaller is kept
+-- least: the smaller of two is kept
 abbrev pub least_operations : Operations (Option ℤ)
 least_operations = extreme_operations int_min
 
--- of two the greater is kept
+-- greatest: the greater of two is kept
 abbrev pub greatest_operations : Operations (Option ℤ)
 greatest_operations = extreme_operations int_max
 

@@ -1,10 +1,10 @@
--- The laws of a body for up to 2 ^ 62 elements, where those of `Body` go up to 2 ^ 20.
+-- The laws of a body for up to 2 ^ 62 elements, while those of `Body` go up to 2 ^ 20.
 use Rattle.std.specs.Prelude.{◌≡◌, ℕ, ℤ, ◌+◌, ◌^◌, ◌≤◌, List, ◌++◌, length, All}
 use Rattle.lv_geometry.specs.Elements.{IsElement}
 use Rattle.lv_bodies.specs.Body.{Operations, fold_of}
 
--- what is asked of a body beside its own laws, for summaries that keep its bound, of at most 2 ^ 62 elements together: each join
--- keeps the bound too and is associative, and the identity is neutral on both sides
+-- what is asked of a body in addition to its own laws, for summaries that keep its bound, of at most 2 ^ 62 elements together: each join keeps
+-- the bound too and is associative, and the identity is neutral on both sides
 pub record LongLaws {S : Type 0} (o : Operations S) (within : S → ℕ → Type 0) : Type 0 where
   pub identity_within : within o.identity 0
   pub lift_within : (x : ℤ) → IsElement x → within (o.lift x) 1

@@ -165,7 +165,7 @@ best_long = record {
 
 -- two bodies side by side
 module _ {S T : Type 0} (o : Operations S) (within_first : S → ℕ → Type 0) (p : Operations T) (within_second : T → ℕ → Type 0) (first : LongLaws o within_first) (second : LongLaws p within_second) where
-  -- they meet the laws where each does
+  -- they meet the laws if each does
   pub pair_long : LongLaws (pair_operations o p) (IsPairWithin within_first within_second)
   pair_long = record {
     identity_within = (first.identity_within, second.identity_within);

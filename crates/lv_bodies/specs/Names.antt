@@ -14,7 +14,7 @@ is_name bytes = nat_le 1 (length bytes) && nat_le (length bytes) 16 && list_all 
 abbrev pub IsName : List ℕ → Type 0
 IsName bytes = IsTrue (is_name bytes)
 
--- the 16 bytes that a name is kept as: zeros stand after it
+-- the 16 bytes in which a name is stored: the name, then zeros
 abbrev pub padded : List ℕ → List ℕ
 padded name = name ++ replicate (16 - length name) 0
 

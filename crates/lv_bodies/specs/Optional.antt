@@ -1,15 +1,15 @@
--- Summaries that are missing where there are no elements.
+-- Summaries that are missing if there are no elements.
 use Rattle.std.specs.Prelude.{◌≡◌, ℕ, ℤ, ◌+◌, ◌^◌, ◌≤◌, Option, Some, None, IfSome}
 use Rattle.lv_geometry.specs.Elements.{IsElement}
 use Rattle.lv_bodies.specs.Body.{Operations}
 
--- what is there of two, joined where both are
+-- the join of two summaries if both are there; else the one that is there, if any
 abbrev pub join_of_both : {T : Type 0} → (T → T → T) → Option T → Option T → Option T
 join_of_both join None t = t
 join_of_both join (Some s) None = Some s
 join_of_both join (Some s) (Some t) = Some (join s t)
 
--- the operations on summaries that are missing where there are no elements
+-- the operations on summaries that are missing if there are no elements
 abbrev pub optional_operations : {T : Type 0} → (ℤ → T) → (T → T → T) → Operations (Option T)
 optional_operations lift join = record {
   identity = None;

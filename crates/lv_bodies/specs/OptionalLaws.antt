@@ -1,4 +1,4 @@
--- The laws of summaries that are missing where there are no elements.
+-- The laws of summaries that are missing if there are no elements.
 use Rattle.std.specs.Prelude.{◌≡◌, ℕ, ℤ, ◌+◌, ◌^◌, ◌≤◌, Option, Some, None, refl}
 use Rattle.std.proofs.Common.{arith, ap}
 use Rattle.lv_bodies.specs.Body.{BodyLaws}

@@ -22,7 +22,7 @@ module _ {S T : Type 0} (o : Operations S) (within_first : S → ℕ → Type 0)
         same_pairs _ _ (first.associative s.0 t.0 u.0 n m k h.0 i.0 j.0 few) (second.associative s.1 t.1 u.1 n m k h.1 i.1 j.1 few);
   }
 
--- a test of both sides is exact where those of the sides are
+-- a test of both sides is exact if those of the sides are
 pub exact_pair : {S T : Type 0} (E : S → S → Bool) (F : T → T → Bool) → IsExact E → IsExact F → IsExact (λ (p q : S × T). E p.0 q.0 && F p.1 q.1)
 exact_pair E F exact_first exact_second p q = (
   λ h. let both = both_true (E p.0 q.0) (F p.1 q.1) h in same_pairs p q ((exact_first _ _).0 both.0) ((exact_second _ _).0 both.1),

@@ -38,7 +38,7 @@ sum_parts s = s % 2 ^ 32 ∷ 0 ∷ 0 ∷ 0 ∷ []
 abbrev pub sum_of_parts : List ℕ → ℕ
 sum_of_parts parts = remainder (widened (slice_index parts 0)) (2 ^ 64)
 
--- least, greatest: the low 32 bits of the element, or 0 where there is none
+-- least, greatest: the low 32 bits of the element, or 0 if there is none
 abbrev pub extreme_parts : Option ℤ → List ℕ
 extreme_parts s = low_32 (unwrap_or s (pos 0)) ∷ 0 ∷ 0 ∷ 0 ∷ []
 
@@ -46,7 +46,7 @@ extreme_parts s = low_32 (unwrap_or s (pos 0)) ∷ 0 ∷ 0 ∷ 0 ∷ []
 abbrev pub extreme_of_parts : List ℕ → Option ℤ
 extreme_of_parts parts = Some (widened (slice_index parts 0))
 
--- best: the low 32 bits of its four totals in turn, or 0 where there are none
+-- best: the low 32 bits of its four totals in turn, or 0 if there are none
 abbrev pub best_parts : Option RunTotals → List ℕ
 best_parts None = 0 ∷ 0 ∷ 0 ∷ 0 ∷ []
 best_parts (Some run) = low_32 run.total ∷ low_32 run.prefix ∷ low_32 run.suffix ∷ low_32 run.best ∷ []

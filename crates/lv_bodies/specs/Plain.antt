@@ -27,13 +27,13 @@ plain_least xs = reduce int_min xs
 abbrev pub plain_greatest : List ℤ → Option ℤ
 plain_greatest xs = reduce int_max xs
 
--- what the least of a list is: none exactly where the list is empty, else an element that no element is below
+-- the least of a list: none if and only if the list is empty, else an element that no element is below
 pub record IsPlainLeast (xs : List ℤ) (r : Option ℤ) : Type 0 where
   pub none : IsNone r ↔ (xs ≡ [])
   pub reached : IfSome r (Contains xs)
   pub bound : IfSome r (λ least. All (λ x. least ≤ℤ x) xs)
 
--- what the greatest of a list is: none exactly where the list is empty, else an element that is below no element
+-- the greatest of a list: none if and only if the list is empty, else an element that is below no element
 pub record IsPlainGreatest (xs : List ℤ) (r : Option ℤ) : Type 0 where
   pub none : IsNone r ↔ (xs ≡ [])
   pub reached : IfSome r (Contains xs)
@@ -43,11 +43,11 @@ pub record IsPlainGreatest (xs : List ℤ) (r : Option ℤ) : Type 0 where
 abbrev pub runs_at : List ℤ → ℕ → List (List ℤ)
 runs_at xs i = map (λ n. take (n + 1) (drop i xs)) (range_with_len 0 (length (drop i xs)))
 
--- the runs of a list: one or more elements that stand side by side
+-- the runs of a list: one or more elements side by side
 abbrev pub runs_of : List ℤ → List (List ℤ)
 runs_of xs = flat_map (runs_at xs) (range_with_len 0 (length xs))
 
--- a run is what stands from some place up to a later one
+-- a run is the elements from some place up to a later one
 pub record IsRunIn (xs run : List ℤ) : Type 0 where
   pub from : ℕ
   pub to : ℕ
@@ -63,7 +63,7 @@ HasTotal xs best = (i : ℕ) × (j : ℕ) × (i < j) × (j ≤ length xs) × (to
 abbrev pub plain_best : List ℤ → Option ℤ
 plain_best xs = plain_greatest (map total (runs_of xs))
 
--- what the best total of a list is: none exactly where the list is empty, else the greatest total from some place up to a later one
+-- the best total of a list: none if and only if the list is empty, else the greatest total from some place up to a later one
 pub record IsPlainBest (xs : List ℤ) (r : Option ℤ) : Type 0 where
   pub none : IsNone r ↔ (xs ≡ [])
   pub reached : IfSome r (HasTotal xs)
@@ -73,7 +73,7 @@ pub record IsPlainBest (xs : List ℤ) (r : Option ℤ) : Type 0 where
 abbrev pub over_256 : ℤ → ℤ
 over_256 x = int_div_euclid x (pos 256)
 
--- where y is after each element x in turn takes it to a * y + b, for a of x / 256 and b of the rest, modulo 2 ^ 32
+-- the number that y becomes if each element x in turn takes it to a * y + b, for a of x / 256 and b of the rest, modulo 2 ^ 32
 abbrev pub affine_from : ℕ → List ℤ → ℕ
 affine_from y xs = fold (λ y x. (remainder (over_256 x) (2 ^ 32) * y + remainder x 256) % 2 ^ 32) y xs
 

@@ -66,7 +66,7 @@ totals_are_had xs =
 each_total : (xs : List ℤ) (i j : ℕ) → i < j → j ≤ length xs → Contains (map total (runs_of xs)) (total (slice_range xs i j))
 each_total xs i j p q = Contains-map total (runs_of xs) (slice_range xs i j) (each_run xs i j p q)
 
--- there is no total exactly where there is no element
+-- there is no total if and only if there is no element
 no_totals : (xs : List ℤ) → (map total (runs_of xs) ≡ []) ↔ (xs ≡ [])
 no_totals [] = (λ _. refl, λ _. refl)
 no_totals (x ∷ xs) =

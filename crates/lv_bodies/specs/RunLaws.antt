@@ -19,7 +19,7 @@ later n m x h = record { low = h.low; high = omega (arith, ints, h.high) }
 later_left : (n m : ℕ) (x : ℤ) → IsRunTotalOf m x → IsRunTotalOf (n + m) x
 later_left n m x h = record { low = h.low; high = omega (arith, ints, h.high) }
 
--- the greater of a total and of another one with elements beside it
+-- the greater of a run's total and of a number that is no higher than such totals can be is within their bounds too
 longer : (k : ℕ) (x y : ℤ) → IsRunTotalOf k x → y ≤ℤ pos (k * 2 ^ 63) → IsRunTotalOf k (int_max x y)
 longer k x y h p = record { low = omega (arith, ints, clamps, h.low); high = omega (arith, ints, clamps, h.high, p) }
 
@@ -27,7 +27,7 @@ longer k x y h p = record { low = omega (arith, ints, clamps, h.low); high = ome
 reaches : (n m : ℕ) (x y : ℤ) → x ≤ℤ pos (n * 2 ^ 63) → y ≤ℤ pos (m * 2 ^ 63) → (x +ℤ y) ≤ℤ pos ((n + m) * 2 ^ 63)
 reaches n m x y p q = omega (arith, ints)
 
--- and so it is the other way round
+-- a total of m elements, or of no run, and one of n add up to no more than one of n + m
 reaches_back : (n m : ℕ) (x y : ℤ) → x ≤ℤ pos (m * 2 ^ 63) → y ≤ℤ pos (n * 2 ^ 63) → (x +ℤ y) ≤ℤ pos ((n + m) * 2 ^ 63)
 reaches_back n m x y p q = omega (arith, ints)
 
@@ -35,7 +35,7 @@ reaches_back n m x y p q = omega (arith, ints)
 at_most : (n : ℕ) (x : ℤ) → IsTotalOf n x → x ≤ℤ pos (n * 2 ^ 63)
 at_most n x h = omega (arith, ints)
 
--- of numbers that count beside others, so do their greater ones
+-- the prefix, and the suffix, of a join are not below its total with `no_run` added
 prefix_joined : (t u p q : ℤ) → CountsBeside u q → CountsBeside (t +ℤ u) (int_max p (t +ℤ q))
 prefix_joined t u p q h = omega (arith, ints, clamps)
 
@@ -99,7 +99,7 @@ none_is_run =
       best_of_suffix = omega (arith, ints);
     }
 
--- beside a total that is there no run doesn't count
+-- compared with the total of a run, `no_run` and a sum with it never win
 none_first : (x y : ℤ) → no_run ≤ℤ x → CountsBeside y x → int_max x (y +ℤ no_run) ≡ x
 none_first x y h k = omega (arith, ints, clamps)
 
@@ -150,7 +150,7 @@ runs_long = record {
 small_total : (n : ℕ) (x : ℤ) → n ≤ 2 ^ 62 → IsTotalOf n x → unsigned_abs x < 2 ^ 126
 small_total n x few h = omega (arith, ints)
 
--- and so is one that may be of no run
+-- a total of few enough elements that may be that of no run is small
 small_run : (n : ℕ) (x : ℤ) → n ≤ 2 ^ 62 → IsRunTotalOf n x → unsigned_abs x < 2 ^ 126
 small_run n x few h = let low = h.low in let high = h.high in omega (arith, ints)
 
@@ -163,6 +163,6 @@ small_totals r n few h = record {
   best = small_total n r.best few h.best;
 }
 
--- and so are those that may be of no run
+-- the totals of few enough elements that may be those of no run are small
 pub small_runs : (r : RunTotals) (n : ℕ) → n ≤ 2 ^ 62 → AreRuns r n → AreSmall r
 small_runs r n few h = record { total = small_total n r.total few h.total; prefix = small_run n r.prefix few h.prefix; suffix = small_run n r.suffix few h.suffix; best = small_run n r.best few h.best }

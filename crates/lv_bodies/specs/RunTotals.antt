@@ -6,11 +6,11 @@ use Rattle.lv_bodies.specs.Body.{Operations}
 use Rattle.lv_bodies.specs.Optional.{optional_operations, IsWithinIfSome}
 use Rattle.lv_bodies.specs.declared.best.RunTotals.{RunTotals}
 
--- of one element the only run is itself
+-- one element has one run, itself
 abbrev pub totals_of : ℤ → RunTotals
 totals_of x = record { total = x; prefix = x; suffix = x; best = x }
 
--- of some neighbours and the next ones: a run begins on the left, or in both, or ends on the right, or meets the seam
+-- the totals of some neighbours and of the next ones, joined: a run begins on the left, or in both, or ends on the right, or meets the seam
 abbrev pub join_totals : RunTotals → RunTotals → RunTotals
 join_totals a b = record {
   total = a.total +ℤ b.total;
@@ -38,7 +38,7 @@ pub record AreTotalsOf (r : RunTotals) (n : ℕ) : Type 0 where
 abbrev pub IsBest : Option RunTotals → ℕ → Type 0
 IsBest = IsWithinIfSome AreTotalsOf
 
--- the total of a run of no elements, where a total has to be there: lower than any of elements can be, by so much that it never counts
+-- the total of a run of no elements, for places that must have a total: lower than any of elements can be, by so much that it never counts
 abbrev pub no_run : ℤ
 no_run = negsuc (2 ^ 120 - 1)
 
@@ -55,11 +55,11 @@ pub record IsRunTotalOf (n : ℕ) (x : ℤ) : Type 0 where
   pub low : no_run ≤ℤ x
   pub high : x ≤ℤ pos (n * 2 ^ 63)
 
--- y is not so far below x that no run would count beside it
+-- x with `no_run` added is not above y, so that this sum never wins when it is compared with y
 abbrev pub CountsBeside : ℤ → ℤ → Type 0
 CountsBeside x y = (x +ℤ no_run) ≤ℤ y
 
--- all four are within those of n elements, and no run beside them would count
+-- all four are within the bounds for n elements, and so high that a sum with `no_run` never wins when it is compared with them
 pub record AreRuns (r : RunTotals) (n : ℕ) : Type 0 where
   pub total : IsTotalOf n r.total
   pub prefix : IsRunTotalOf n r.prefix

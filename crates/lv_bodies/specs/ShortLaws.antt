@@ -87,7 +87,7 @@ pub record AreNear (run : RunTotals) (n : ℕ) : Type 0 where
   pub suffix : IsNear run.suffix n
   pub best : IsNear run.best n
 
--- those of one short element
+-- the totals of one short element are near 0
 pub near_of_one : (x : ℤ) → IsShort x → AreNear (totals_of x) 1
 near_of_one x short =
     let near : IsNear x 1 = omega (arith, ints) in
@@ -97,7 +97,7 @@ near_of_one x short =
 near_max : (x y : ℤ) (n : ℕ) → IsNear x n → IsNear y n → IsNear (int_max x y) n
 near_max x y n p q = omega (arith, ints, clamps)
 
--- those of one short element more
+-- the totals are near 0 with one short element more
 pub near_with_more : (run : RunTotals) (n : ℕ) (x : ℤ) → AreNear run n → IsShort x → AreNear (join_totals run (totals_of x)) (n + 1)
 near_with_more run n x h short =
     let later : (y : ℤ) → IsNear y n → IsNear y (n + 1) = λ y near. omega arith in

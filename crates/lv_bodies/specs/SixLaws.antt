@@ -20,7 +20,7 @@ use Rattle.lv_bodies.specs.TotalsLaws.{best_laws, exact_totals}
 pub six_laws_by : (table : List (List ℕ)) → IsTrue (is_table table) → BodyLaws (six_operations_by table) six_within
 six_laws_by table valid = pair_laws _ _ _ _ sum_laws (pair_laws _ _ _ _ least_laws (pair_laws _ _ _ _ greatest_laws (pair_laws _ _ _ _ best_laws (pair_laws _ _ _ _ affine_laws (automaton_laws table valid)))))
 
--- so they do with the program's automaton
+-- all six meet the laws with the program's automaton
 pub six_laws : BodyLaws six_operations six_within
 six_laws = six_laws_by program_table refl
 

@@ -1,4 +1,4 @@
--- The operations of an automaton of eight states: rows that tell the state reached from each, by its table.
+-- The operations of an automaton of eight states, by its table: a row has the state that is reached from each of the eight.
 use Rattle.std.specs.Prelude.{◌≡◌, ℕ, ℤ, ◌<◌, Bool, ◌&&◌, nat_eq, nat_lt, List, length, map, All, slice_index}
 use Rattle.std.specs.List.{list_all, range_with_len}
 use Rattle.lv_bodies.specs.Body.{Operations}

@@ -59,7 +59,7 @@ max_comm x y = omega (arith, ints, clamps)
 
 -- what six values make by a choice that may be grouped and turned at will
 module _ (op : ℤ → ℤ → ℤ) (assoc : (x y z : ℤ) → op (op x y) z ≡ op x (op y z)) (comm : (x y : ℤ) → op x y ≡ op y x) where
-  -- two that stand first may be turned
+  -- the first two of three operands may change places
   left_comm : (x y z : ℤ) → op x (op y z) ≡ op y (op x z)
   left_comm x y z = sym (assoc x y z) ∙ ap (λ w. op w z) (comm x y) ∙ assoc y x z
 
@@ -67,7 +67,7 @@ module _ (op : ℤ → ℤ → ℤ) (assoc : (x y z : ℤ) → op (op x y) z ≡
   six_reordered : (a b p c q v : ℤ) → op (op (op (op a b) p) c) (op q v) ≡ op (op a (op (op b c) q)) (op p v)
   six_reordered a b p c q v = simp (assoc, left_comm)
 
--- the best run of three parts, where the first two or the last two are joined first
+-- the best run of three parts, if the first two or the last two are joined first
 best_assoc : (a b c x y z u v : ℤ) → int_max (int_max (int_max (int_max a b) (x +ℤ y)) c) (int_max z (u +ℤ x) +ℤ v) ≡ int_max (int_max a (int_max (int_max b c) (z +ℤ v))) (x +ℤ int_max y (u +ℤ v))
 best_assoc a b c x y z u v =
     ap (int_max (int_max (int_max (int_max a b) (x +ℤ y)) c)) (max-add z (u +ℤ x) v)

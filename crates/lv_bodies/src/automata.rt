@@ -1,4 +1,4 @@
-//! The automaton: where eight states lead by the elements in turn.
+//! The automaton: the states to which the elements in turn lead from each of eight states.
 ghost use Rattle.std.specs.Prelude.{◌≡◌, ◌↔◌, ℕ, ◌+◌, ◌*◌, ◌%◌, ◌<◌, ◌≤◌, IsTrue, IsOk, IfOk, IsErrOf, nat_lt, List, length, map, slice_index, All, Any};
 ghost use Rattle.std.specs.List.{list_all};
 ghost use Rattle.lv_bodies.specs.Tables.{is_table, has_states, join_state_maps};
@@ -39,7 +39,7 @@ impl Automaton {
     /// The automaton of a table.
     ///
     /// # Errors
-    /// `BadTable` where an entry is above 7.
+    /// `BadTable` if an entry is above 7.
     pub fn new(table: [[u8; 4]; 8]) -> Result<Automaton, Refusal>
         ensures taken { IsOk result ↔ All (All (λ q. q ≤ 7)) table }
         ensures refused { IsErrOf result Refusal.BadTable ↔ Any (Any (λ q. 7 < q)) table }

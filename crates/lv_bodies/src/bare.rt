@@ -5,23 +5,23 @@ use crate::long::LongBody;
 use crate::orders::{Downward, Order, Upward};
 use std::alloc::AllocError;
 
-/// The element that comes first by an order, or the last that there can be where there are no elements.
+/// The element that comes first by an order, or the last that there can be if there are no elements.
 #[derive(PartialEq, Eq)]
 pub struct BareExtreme<O> {
     order: O,
 }
 
-/// The least element, or 2^63 - 1 where there are no elements.
+/// The least element, or 2^63 - 1 if there are no elements.
 pub type Lowest = BareExtreme<Upward>;
 
-/// The greatest element, or -2^63 where there are no elements.
+/// The greatest element, or -2^63 if there are no elements.
 pub type Highest = BareExtreme<Downward>;
 
-/// The least element, or 2^63 - 1 where there are no elements.
+/// The least element, or 2^63 - 1 if there are no elements.
 #[allow(non_upper_case_globals)]
 pub const Lowest: Lowest = BareExtreme { order: Upward };
 
-/// The greatest element, or -2^63 where there are no elements.
+/// The greatest element, or -2^63 if there are no elements.
 #[allow(non_upper_case_globals)]
 pub const Highest: Highest = BareExtreme { order: Downward };
 

@@ -1,4 +1,4 @@
-//! The best run: the greatest total of neighbours, of which there is at least one.
+//! The best run: the greatest total of one or more neighbours.
 ghost use Rattle.std.specs.Prelude.{◌≡◌};
 
 use crate::bodies::Body;
@@ -6,7 +6,7 @@ use crate::kinds::{Kind, Shown};
 use crate::parts::{Parted, low_bits, with_sign};
 use crate::singles::Single;
 
-/// What is kept of some neighbours, of which there is at least one.
+/// The totals that are kept of one or more neighbours.
 #[derive(Clone, Copy, PartialEq, Eq)]
 pub struct RunTotals {
     /// All of them added up.
@@ -72,7 +72,7 @@ impl RunTotals {
     {
         let x = i128::from(x);
         let total = self.total + x;
-        // A run that ends here goes on from what was there before, or begins anew where that was below 0.
+        // A run that ends here continues the one before, or begins anew if that was below 0.
         let suffix = self.suffix.max(0) + x;
         RunTotals {
             total,

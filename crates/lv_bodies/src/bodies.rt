@@ -7,7 +7,7 @@ ghost use Rattle.lv_bodies.specs.FoldLaws.{fold_of-append};
 /// identity, from left to right. oneTBB asks associativity of a reduction; the two-sided identity and the bound of 2^20
 /// elements are this project's.
 pub trait Body: Copy + Send + Sync {
-    /// A summary of some elements: plain data, equal where its meaning is.
+    /// A summary of some elements: plain data. Two are equal if and only if their meanings are.
     type S: Copy + Eq + Send + Sync;
 
     ghost operations: { Self → Operations Self.S };

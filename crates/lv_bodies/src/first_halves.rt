@@ -1,4 +1,4 @@
-//! The first of eight elements by an order, by halves: only three choices wait for one another, where in turn all would.
+//! The first of eight elements by an order, by halves: only three choices wait for one another, while in turn all would.
 ghost use Rattle.std.specs.Prelude.{◌≡◌, Some, length, All};
 ghost use Rattle.lv_geometry.specs.Elements.{IsElement};
 ghost use Rattle.lv_bodies.specs.Body.{fold_of};

@@ -17,7 +17,7 @@ pub fn fold_more<B: Body>(body: &B, sum: B::S, x: i64) -> B::S
     body.combine(sum, body.lift(x))
 }
 
-/// The left fold of a slice, where it lies.
+/// The left fold of a slice, without a copy of it.
 pub fn fold_slice<B: Body>(body: &B, xs: &[i64]) -> B::S
     requires { length xs.now ≤ 2 ^ 20 }
     ensures fold { result ≡ fold_of (B.operations body.now) xs.now }

@@ -1,4 +1,4 @@
-//! The fold of eight elements by halves: only three joins wait for one another, where in turn all would.
+//! The fold of eight elements by halves: only three joins wait for one another, while in turn all would.
 ghost use Rattle.std.specs.Prelude.{◌≡◌, length, All};
 ghost use Rattle.lv_geometry.specs.Elements.{IsElement};
 ghost use Rattle.lv_bodies.specs.Body.{fold_of};

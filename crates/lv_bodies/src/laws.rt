@@ -11,15 +11,14 @@ use crate::bodies::Body;
 use crate::pairs::Pair;
 use crate::parts::Parted;
 
-/// The plain least and greatest are reached bounds: there is none exactly where there are no elements, and else it is
-/// an element that no element goes below, or above.
+/// The plain least and greatest are bounds that are reached: there is none if and only if there are no elements, and else it is an element that
+/// no element goes below, or above.
 pub fn extremes_are_reached_bounds()
     ensures least { (xs : List ℤ) → IsPlainLeast xs (plain_least xs) }
     ensures greatest { (xs : List ℤ) → IsPlainGreatest xs (plain_greatest xs) }
 {}
 
-/// The plain best is the greatest total from some place up to a later one, and there is none exactly where there are
-/// no elements.
+/// The plain best is the greatest total from some place up to a later one. There is none if and only if there are no elements.
 pub fn best_is_the_best_run()
     ensures { (xs : List ℤ) → IsPlainBest xs (plain_best xs) }
 {}
@@ -35,7 +34,7 @@ pub fn eight_come_back_from_parts<B: Parted>()
     ensures { (b : B) → HasParts B.parts_of B.whole_of (B.operations b) }
 {}
 
-/// Where there are elements, the folds of the bare bodies are what is inside the folds that may be missing.
+/// If there are elements, the folds of the bare bodies are the values inside the folds that may be missing.
 pub fn bare_folds_are_inside()
     ensures lowest { (xs : List ℤ) → 0 < length xs → CanFoldLong xs → Some (fold_of lowest_operations xs) ≡ fold_of least_operations xs }
     ensures highest { (xs : List ℤ) → 0 < length xs → CanFoldLong xs → Some (fold_of highest_operations xs) ≡ fold_of greatest_operations xs }

@@ -13,7 +13,7 @@ use crate::pairs::Pair;
 use crate::sixes::{Six, SixByTable, SixSummary, by_program};
 use crate::sums::Sum;
 
-/// A body whose summaries may be those of up to 2^62 elements, where `combine` goes up to 2^20.
+/// A body whose summaries may be those of up to 2^62 elements, while `combine` goes up to 2^20.
 pub trait LongBody: Body {
     /// The summary of the elements of `a`, then those of `b`: at most 2^62 together.
     fn combine_long(&self, a: Self::S, b: Self::S) -> Self::S
@@ -43,7 +43,7 @@ pub trait LongBody: Body {
         sum
     }
 
-    /// Whether two summaries are surely equal. Where it says no, they may be equal too.
+    /// Whether two summaries are surely equal. If it says no, they may be equal too.
     #[inline(always)]
     fn is_surely(a: Self::S, b: Self::S) -> bool
         ensures { result ≡ true → a ≡ b }

@@ -10,7 +10,7 @@ pub trait Order: Copy {
     ghost use Rattle.lv_bodies.specs.declared.kinds.Kind.{Kind};
     ghost use Rattle.lv_bodies.specs.declared.kinds.Shown.{Shown};
 
-    // Of two, the one that comes first.
+    // The one of two that comes first.
     ghost first: { ℤ → ℤ → ℤ };
 
     // The element after which none comes.
@@ -22,7 +22,7 @@ pub trait Order: Copy {
 
     ghost first_shown: { Option ℤ → Shown };
 
-    /// Of two elements, the one that comes first.
+    /// The one of two elements that comes first.
     fn first_of(a: i64, b: i64) -> i64
         ensures { result ≡ first a b };
 

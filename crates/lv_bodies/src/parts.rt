@@ -4,8 +4,8 @@ ghost use Rattle.lv_bodies.specs.Parts.{AreParts, HasParts, low_32, widened};
 
 use crate::singles::Single;
 
-/// A body of one kind, whose summary of eight elements of 16 bits (-32768 to 32767) fits one to four numbers of 32 bits,
-/// its parts. Of other summaries the parts may tell less.
+/// A body of one kind, whose summary of eight elements of 16 bits (-32768 to 32767) fits one to four numbers of 32 bits, its parts. The parts of
+/// another summary may say less than it does.
 pub trait Parted: Single {
     ghost PARTS: { ℕ };
 
@@ -18,14 +18,14 @@ pub trait Parted: Single {
 
     ghost whole_of: { List ℕ → Self.S };
 
-    // Four numbers of 32 bits, of which those from `PARTS` on are 0.
+    // Four numbers of 32 bits; those from `PARTS` on are 0.
     ghost are_parts: { AreParts PARTS parts_of };
 
-    /// The parts of a summary, of which there are `PARTS`; the rest are 0.
+    /// The `PARTS` parts of a summary; the rest are 0.
     fn to_parts(s: Self::S) -> [u32; 4]
         ensures { result ≡ parts_of s };
 
-    /// The summary that has these parts, where they are those of eight elements of 16 bits.
+    /// The summary that has these parts, if they are those of eight elements of 16 bits.
     fn of_parts(parts: [u32; 4]) -> Self::S
         ensures { result ≡ whole_of parts };
 

@@ -3,7 +3,7 @@ use crate::best::RunTotals;
 use crate::bodies::Body;
 use crate::long::LongBody;
 
-/// The totals of the best run, where no elements have a total of 0 and a run so low that it never counts.
+/// The totals of the best run. No elements have a total of 0, and a run so low that it never counts.
 #[derive(Clone, Copy, PartialEq, Eq)]
 pub struct Runs;
 

@@ -191,9 +191,9 @@ pub(crate) fn by_program() -> SixByTable
 /// Shows the summary of one kind.
 pub fn face(kind: Kind, s: SixSummary) -> Shown
     ensures shown { result ≡ face_of kind s }
-    // Of a fold, the plain value is shown.
+    // If the summary is a fold, the plain value is shown.
     ensures plain { (xs : List ℤ) → CanFold xs → s ≡ fold_of six_operations xs → result ≡ plain_value kind xs }
-    // So it is by any table.
+    // This holds by any table too.
     ensures by_table { (table : List (List ℕ)) (xs : List ℤ) → CanFold xs
         → s ≡ fold_of (six_operations_by table) xs → result ≡ plain_value_with table kind xs }
 {

@@ -1,4 +1,4 @@
--- Many edits, one after another: what is left of them behind the first ones, and which of some writes is refused first.
+-- Many edits, one after another: the edits behind the first ones, and which of some writes is rejected first.
 use Rattle.std.proofs.Common.{◌≡◌, ◌≢◌, ℕ, ℤ, zero, suc, ◌+◌, ◌-◌, ◌<◌, ◌≤◌, Some, None, Option, List, [], ◌∷◌, ◌++◌, length, length-drop, drop, get_or, nat_lt, if◌then◌else◌, refl, sym, ap, ◌∙◌, inl, inr, arith}
 use Rattle.std.proofs.lemmas.Bool.{cases_lt, cond-false, cond-true, eq-eqb, le-ltb, lt-ltb, ne_eqb}
 use Rattle.std.proofs.lemmas.List.{drop_all, drop_more, length_push, length-set}
@@ -33,22 +33,22 @@ pub limits-edits : (h : History) (es : List Edit) → (with_edits h es).limits �
 limits-edits h [] = refl
 limits-edits h (e ∷ es) = limits-edits (with_edit h e) es
 
--- where nothing refuses edits, nothing refuses the first of them, and nothing those behind it after it
+-- if no error applies to a list of edits, none applies to the first of them, and none to the others after it
 pub free_parts : (h : History) (e : Edit) (es : List Edit) → verdict_of_edits h (e ∷ es) ≡ None → (verdict_of h.limits h.journal e ≡ None) × (verdict_of_edits (with_edit h e) es ≡ None)
 free_parts h e es free = neither (verdict_of h.limits h.journal e) (verdict_of_edits (with_edit h e) es) free
 
--- the refusal of the first write that is refused, where so many edits are left and there are so many elements
+-- the error of the first write that is rejected, given how many edits are left and how many elements there are
 abbrev pub verdict_by : ℕ → ℕ → List ℕ → Option Refusal
 verdict_by left size [] = None
 verdict_by zero size (i ∷ is) = Some Worn
 verdict_by (suc left) size (i ∷ is) = if nat_lt i size then verdict_by left size is else Some (OutOfRange size)
 
--- where no edit is left, the first write is refused
+-- if no edit is left, the first write is rejected with `Worn`
 pub verdict_by-worn : (size : ℕ) (is : List ℕ) → 0 < length is → verdict_by 0 size is ≡ Some Worn
 verdict_by-worn size [] some = absurd (omega (arith, some))
 verdict_by-worn size (i ∷ is) some = refl
 
--- where one is left, it is refused for its index, or those behind it are judged
+-- if an edit is left, the first write is rejected for its index, or the writes behind it are judged
 pub verdict_by-out : (left size i : ℕ) (is : List ℕ) → 0 < left → size ≤ i → verdict_by left size (i ∷ is) ≡ Some (OutOfRange size)
 verdict_by-out zero size i is some out = absurd (omega (arith, some))
 verdict_by-out (suc left) size i is some out = cond-false _ _ _ (le-ltb i size out)
@@ -105,13 +105,13 @@ verdict_by-in_at left size place is some within inside =
     ap (verdict_by (left - place) size) (drop_more is place 0 within)
     ∙ verdict_by-in (left - place) (left - (place + 1)) size (get_or is place 0) (drop (place + 1) is) (omega arith) inside
 
--- where nothing refuses the writes from a place on, nothing refuses the one there, and nothing those behind it
+-- if no error applies to the writes from a place on, none applies to the write there, and none to those behind it
 pub free_next : (h : History) (is : List ℕ) (xs : List ℤ) (k i : ℕ) (x : ℤ) → k < length is → k < length xs → verdict_of_edits h (writes_at (drop k is) (drop k xs)) ≡ None
     → (verdict_of h.limits h.journal (Write (get_or is k i) (get_or xs k x)) ≡ None) × (verdict_of_edits (with_edit h (Write (get_or is k i) (get_or xs k x))) (writes_at (drop (k + 1) is) (drop (k + 1) xs)) ≡ None)
 free_next h is xs k i x within beside free =
     free_parts h (Write (get_or is k i) (get_or xs k x)) (writes_at (drop (k + 1) is) (drop (k + 1) xs)) (sym (ap (verdict_of_edits h) (writes_more is xs k i x within beside)) ∙ free)
 
--- once the one there is made, the writes that are left lead where they did
+-- the write at a place and then the writes behind it lead to the same history as the writes from that place on
 pub left_next : (h : History) (is : List ℕ) (xs : List ℤ) (k i : ℕ) (x : ℤ) → k < length is → k < length xs → with_edits (with_edit h (Write (get_or is k i) (get_or xs k x))) (writes_at (drop (k + 1) is) (drop (k + 1) xs)) ≡ with_edits h (writes_at (drop k is) (drop k xs))
 left_next h is xs k i x within beside = sym (ap (with_edits h) (writes_more is xs k i x within beside))
 
@@ -119,6 +119,6 @@ left_next h is xs k i x within beside = sym (ap (with_edits h) (writes_more is x
 pub left_none : (h : History) (is : List ℕ) (xs : List ℤ) (k : ℕ) → length is ≤ k → with_edits h (writes_at (drop k is) (drop k xs)) ≡ h
 left_none h is xs k past = ap (λ js. with_edits h (writes_at js (drop k xs))) (drop_all k is past)
 
--- behind the last place nothing is refused
+-- behind the last place no write is rejected
 pub verdict_by-end : (left size place : ℕ) (is : List ℕ) → length is ≤ place → verdict_by (left - place) size (drop place is) ≡ None
 verdict_by-end left size place is past = ap (verdict_by (left - place) size) (drop_all place is past)

@@ -1,4 +1,4 @@
--- That the least capacity that ever sufficed is the one that the definition names, and what one more edit makes of it.
+-- The least capacity that ever sufficed is the one that the definition names; and the capacity after one more edit.
 use Rattle.std.proofs.Common.{◌≡◌, ℕ, ℤ, zero, suc, ◌+◌, ◌<◌, ◌≤◌, max, nat_le, false, Some, None, unwrap_or, List, [], ◌∷◌, ◌++◌, length, take, map, fold, All, refl, sym, ap, subst, ◌∙◌, inl, inr, arith}
 use Rattle.std.specs.List.{find, range_with_len}
 use Rattle.std.proofs.lemmas.Bool.{cases_lt, le-leb, lt-leb}
@@ -32,7 +32,7 @@ least_capacity_is n k fewest few =
     let first : find (λ c. nat_le n c) (map capacity_of (range_with_len 0 18)) ≡ Some (capacity_of k) = find_first (λ c. nat_le n c) capacity_of 0 18 k (omega arith) (omega arith) (le-leb _ _ fewest.enough) (λ j above below. fewer_fail n k j fewest below) in
     ap (λ o. unwrap_or o 0) first
 
--- where k buckets hold n, there are fewest that do
+-- if k buckets hold n cells, there is a least number of buckets that does
 pub fewest_within : (n k : ℕ) → n ≤ capacity_of k → (j : ℕ) × (j ≤ k) × AreFewest n j
 fewest_within n zero enough = (0, omega arith, record { enough = enough; fewest = λ fewer h. omega arith })
 fewest_within n (suc k) enough =
@@ -54,7 +54,7 @@ fewest_of_max n m k j one other =
           omega arith;
     }
 
--- the greatest value at any element is below what all are below
+-- the greatest value at any element is at most a bound of all values
 fold_max_least : {X : Type 0} (f : X → ℕ) (a : ℕ) (xs : List X) (c : ℕ) → a ≤ c → All (λ x. f x ≤ c) xs → fold (λ most x. max most (f x)) a xs ≤ c
 fold_max_least f a [] c first all = first
 fold_max_least f a (x ∷ xs) c first all =
@@ -83,7 +83,7 @@ longest_is : (es : List Edit) → longest es ≡ greatest (length_at es) 0 (leng
 unfolding longest greatest length_at
 longest_is es = refl
 
--- a beginning of the edits before one more is as long as it was
+-- the list after a prefix of some edits is as long as before if one more edit is appended behind the prefix
 length_at_before : (es : List Edit) (e : Edit) (j : ℕ) → j < length es + 1 → length_at (es ++ e ∷ []) j ≡ length_at es j
 unfolding length_at
 length_at_before es e j within = ap (λ l. length (list_of l)) (take-append-le j es (e ∷ []) (omega arith))
@@ -101,7 +101,7 @@ longest-snoc es e =
     let last : 0 + length more ≡ length more = omega arith in
     longest_is more ∙ greatest-next (length_at more) 0 (length more) ∙ rw (last, before, length_at_end more)
 
--- what is not below all that is needed suffices
+-- a capacity that isn't below the greatest need suffices
 pub suffices_above : (es : List Edit) (c : ℕ) → max (longest es) (most_reserved es) ≤ c → Suffices es c
 unfolding most_reserved length_at
 suffices_above es c above = record {
@@ -109,7 +109,7 @@ suffices_above es c above = record {
   reserves = (fold_max_above reserved_by 0 es c (omega arith)).1;
 }
 
--- what suffices is not below all that is needed
+-- a capacity that suffices isn't below the greatest need
 pub needed_within : (es : List Edit) (c : ℕ) → Suffices es c → max (longest es) (most_reserved es) ≤ c
 unfolding most_reserved length_at
 needed_within es c enough =
@@ -129,11 +129,11 @@ IsCapacityAfter-needed es k needed = record {
   least = λ j enough. capacity_of_mono k j (needed.fewest j (needed_within es (capacity_of j) enough));
 }
 
--- some number of buckets up to 17 is needed where 17 suffice
+-- if 17 buckets suffice, the number of buckets that is needed is at most 17
 pub needed_buckets : (es : List Edit) → Suffices es (capacity_of 17) → (k : ℕ) × (k ≤ 17) × AreNeeded es k
 needed_buckets es enough = fewest_within (max (longest es) (most_reserved es)) 17 (needed_within es (capacity_of 17) enough)
 
--- where 17 buckets suffice, the capacity that the definition names is the least that ever sufficed
+-- if 17 buckets suffice, the capacity that the definition names is the least that ever sufficed
 pub capacity_after_is : (es : List Edit) → Suffices es (capacity_of 17) → IsCapacityAfter es (capacity_after es)
 capacity_after_is es enough =
     let some = needed_buckets es enough in
@@ -160,7 +160,7 @@ AreNeeded-empty = record { enough = omega (arith, longest-nil); fewest = λ fewe
 pub fewest_of_none : AreFewest 0 0
 fewest_of_none = record { enough = omega arith; fewest = λ fewer enough. omega arith }
 
--- the buckets that are needed after one more edit, where m stands for what it needs beyond the capacity before it
+-- the buckets that are needed after one more edit, if m is the number of cells that it needs beyond the capacity before it
 pub AreNeeded-snoc : (es : List Edit) (e : Edit) (k j m : ℕ) → AreNeeded es k → AreFewest m j → m ≤ max (length (list_of (es ++ e ∷ []))) (reserved_by e) → max (length (list_of (es ++ e ∷ []))) (reserved_by e) ≤ max m (capacity_of k) → AreNeeded (es ++ e ∷ []) (max k j)
 AreNeeded-snoc es e k j m needed more no_more no_less =
     let list = longest-snoc es e in
@@ -195,7 +195,7 @@ capacity_after-beyond es e k enough few more above =
     let all : max some.0 k ≡ k = omega arith in
     capacity_after_needed (es ++ e ∷ []) k (subst (AreNeeded (es ++ e ∷ [])) all needed) few
 
--- what suffices goes on to suffice for one more edit that it holds
+-- a capacity that suffices still does after one more edit that fits into it
 pub Suffices-snoc : (es : List Edit) (e : Edit) (c : ℕ) → Suffices es c → length (list_of (es ++ e ∷ [])) ≤ c → reserved_by e ≤ c → Suffices (es ++ e ∷ []) c
 Suffices-snoc es e c enough list reserved =
     suffices_above (es ++ e ∷ []) c (omega (arith, needed_within es c enough, longest-snoc es e, most_reserved-snoc es e))

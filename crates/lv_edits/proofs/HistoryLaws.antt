@@ -1,4 +1,4 @@
--- What one more edit does to the list, and what is so of every legal journal.
+-- The list after one more edit, and properties of every legal journal.
 use Rattle.std.proofs.Common.{◌≡◌, ◌≢◌, ℕ, ℤ, pos, ◌-◌, ◌<◌, ◌≤◌, ◌⊎◌, Option, Some, None, IsSome, option_and_then, unwrap_or, List, [], ◌∷◌, ◌++◌, length, All, take, Bool, true, false, cond, get_or, nat_eq, slice_set, refl, sym, ap, ◌∙◌, inl, inr, arith}
 use Rattle.std.specs.List.{swap}
 use Rattle.std.proofs.lemmas.Bool.{and_from, and_parts, cases_Bool, cases_lt, cond-false, cond-true, eqb-false, false≢true, le-leb, lt-ltb, ltb-false, ltb-true}
@@ -18,17 +18,17 @@ use Rattle.lv_edits.specs.Kept.{CarriesElement, IsLegalInLimits}
 use Rattle.lv_geometry.proofs.Capacities.{capacity_of_most}
 use Rattle.lv_edits.specs.Verdict.{refused_on, verdict_of}
 
--- one more edit is applied to what the edits before it made
+-- one more edit is applied to the list after the edits before it
 pub replayed-snoc : (es : List Edit) (e : Edit) → replayed (es ++ e ∷ []) ≡ option_and_then (λ xs. applied xs e) (replayed es)
 unfolding replayed
 replayed-snoc es e = fold_push _ _ es e
 
--- what edits make is their list
+-- the list after some edits is what replaying them gives
 pub list_of_replayed : (es : List Edit) (xs : List ℤ) → replayed es ≡ Some xs → list_of es ≡ xs
 unfolding list_of
 list_of_replayed es xs made = ap (λ r. unwrap_or r []) made
 
--- what is there of an option that there is
+-- an option that has a value is `Some` of it
 there_is_one : (o : Option (List ℤ)) → IsSome o → (xs : List ℤ) × (o ≡ Some xs)
 there_is_one (Some xs) some = (xs, refl)
 there_is_one None some = absurd (false≢true some)
@@ -67,19 +67,19 @@ legal_before es e legal =
     let same = list_of_replayed es xs made in
     (made ∙ ap Some (sym same), ap (λ l. applied l e) same ∙ possible))
 
--- what holds of a front, and goes over to one more element, holds of the whole
+-- a property of a prefix that is kept by one more element holds of the whole list
 from_front : {X : Type 0} (P : List X → Type 0) → ((xs : List X) (x : X) → P xs → P (xs ++ x ∷ [])) → (front rest : List X) → P front → P (front ++ rest)
 from_front P more front [] h = rw append-nil h
 from_front P more front (x ∷ rest) h = rw append_assoc at (from_front P more (front ++ x ∷ []) rest (more front x h))
 
--- what holds of no edits, and goes over to one more edit that is possible, holds of every legal journal
+-- a property of the empty journal that is kept by one more possible edit holds of every legal journal
 pub by_last_edit : (P : List Edit → Type 0) → P [] → ((es : List Edit) (e : Edit) (ys : List ℤ) → replayed es ≡ Some (list_of es) → applied (list_of es) e ≡ Some ys → P es → P (es ++ e ∷ [])) → (es : List Edit) → replayed es ≡ Some (list_of es) → P es
 by_last_edit P none more es legal =
     from_front (λ es. replayed es ≡ Some (list_of es) → P es) (λ es e before legal.
     let was = legal_before es e legal in
     more es e _ was.0 was.1 (before was.0)) [] es (λ _. none) legal
 
--- a beginning of a legal journal with one more edit is one of the journal, or the whole
+-- a prefix of a journal with one more edit is a prefix of the journal, or all of it
 beginning_or_all : (es : List Edit) (e : Edit) (j : ℕ) → (take j (es ++ e ∷ []) ≡ take j es) ⊎ (take j (es ++ e ∷ []) ≡ es ++ e ∷ [])
 beginning_or_all es e j =
     elim (cases_lt (length es) j) [
@@ -106,12 +106,12 @@ not_refused limits es e free =
       | inr left ↦ (eqb-false _ _ left, sym (cond-false _ _ _ left) ∙ free)
     ]
 
--- a refusal that does not come where a test passes tells that the test fails
+-- if a passed test gives an error, and there is none, the test fails
 none_at_false : {A : Type 0} (b : Bool) (x : A) → cond b (Some x) None ≡ None → b ≡ false
 none_at_false true x none = absurd (none-some x (sym none))
 none_at_false false x none = refl
 
--- and one that does not come where a test fails, that it passes
+-- if a failed test gives an error, and there is none, the test passes
 none_at_true : {A : Type 0} (b : Bool) (x : A) → cond b None (Some x) ≡ None → b ≡ true
 none_at_true true x none = refl
 none_at_true false x none = absurd (none-some x (sym none))
@@ -214,7 +214,7 @@ length_after limits xs ys (Swap i j) free made fits =
 length_after limits xs ys (Truncate n) free made fits =
     omega (arith, ap length (cond_some _ _ _ made).1, length-take n xs)
 
--- a history is within its limits where its edits make a list that is
+-- a history is within its limits if its edits make a list that is
 pub IsLegalInLimits-by : (limits : Bounds) (es : List Edit) (xs : List ℤ) → AreAllowed limits.buckets limits.edits → replayed es ≡ Some xs → length es ≤ limits.edits → length xs ≤ capacity_of limits.buckets → All IsElement xs → IsLegalInLimits record { limits = limits; journal = es }
 IsLegalInLimits-by limits es xs allowed made edits size elements =
     let same : list_of es ≡ xs = list_of_replayed es xs made in

@@ -1,4 +1,4 @@
--- A store that holds what a journal leaves: what it tells of the history, and that it goes on to hold it through each kind of edit.
+-- A store that has the contents which a journal leaves (`HoldsReplay`): what follows of the history, and that each kind of edit keeps it so.
 use Rattle.std.proofs.Common.{◌≡◌, ℕ, ℤ, pos, ◌+◌, ◌-◌, ◌<◌, ◌≤◌, max, All, Some, None, Option, Result, List, [], ◌∷◌, ◌++◌, length, take, slice_set, get_or, inl, inr, Bool, true, false, nat_eq, if◌then◌else◌, refl, sym, ap, subst, ◌∙◌, arith, lit≤, true≢false}
 use Rattle.std.specs.Prelude.{◌≢◌, IfSome, IsErrAnd, IsSomeAnd}
 use Rattle.std.specs.List.{Contains, swap}
@@ -37,7 +37,7 @@ pub capacity_held : (s : StoreState) (journal : List Edit) → HoldsReplay s jou
 capacity_held s journal held =
     sym (capacity_after_needed journal s.buckets held.needed (omega (arith, held.sound.few, held.kept.allowed.few_buckets)))
 
--- what the store reads at an index of the list is the list's element
+-- the store reads the list's element at an index of the list
 pub read_held : (s : StoreState) (journal : List Edit) (i : ℕ) (d : ℤ) → HoldsReplay s journal → i < s.descriptor.size → value_in s i ≡ get_or (list_of journal) i d
 read_held s journal i d held inside =
     sym (ap (λ xs. get_or xs i d) (sym held.items) ∙ get_or-elements s i d inside)
@@ -47,11 +47,11 @@ pub fits_held : (s : StoreState) (journal : List Edit) (i : ℕ) → HoldsReplay
 fits_held s journal i held inside =
     subst IsElement (get_or-elements s i (pos 0) inside) (All-get_or IsElement (elements_of s) i (pos 0) (omega (arith, length-elements s)) (subst (All IsElement) (sym held.items) held.kept.elements))
 
--- nothing is pending at an index where nothing is pending
+-- if nothing is pending, nothing is pending at an index
 pub none_pending : (s : StoreState) (journal : List Edit) → s.descriptor.pending ≡ None → (i : ℕ) → are_at i s.descriptor.pending ≡ true → LastWroteAt journal i
 none_pending s journal settled i there = absurd (true≢false (sym there ∙ ap (are_at i) settled))
 
--- where a write is pending, the last edit wrote
+-- the last edit wrote at an index at which a write is pending
 pub wrote_last : (s : StoreState) (journal : List Edit) (h : History) (i : ℕ) → HoldsReplay s journal → history_of s journal ≡ h → are_at i s.descriptor.pending ≡ true → LastWroteAt h.journal i
 wrote_last s journal h i held is there = rw (← is) (held.pending i there)
 
@@ -77,7 +77,7 @@ HoldsReplay-alike s t journal held alike buckets settled sound = record {
   pending = none_pending t journal settled;
 }
 
--- and tells the same of the history
+-- a store that reads the same represents a history within its limits too
 pub IsLegalInLimits-alike : (s t : StoreState) (journal : List Edit) → HoldsReplay s journal → AreAlike s t → IsLegalInLimits record { limits = t.limits; journal = journal }
 IsLegalInLimits-alike s t journal held alike = rw alike.limits held.kept
 
@@ -92,38 +92,38 @@ edits_left s m journal e held free alike =
     let within : length journal ≤ s.limits.edits = held.kept.edits in
     rw (alike.edit, alike.limits, held.edit) (omega (arith, left, within))
 
--- what is refused for want of memory alone leaves the history as it was, where the store reads alike
+-- a call whose only error is `NoMemory` leaves the history as it was on that error, if the store reads the same
 pub Answers-no_memory : (s m : StoreState) (journal : List Edit) (e : Edit) (r : Result Receipt Refusal) (why : Refusal) → verdict_of s.limits journal e ≡ None → AreAlike s m → why ≡ NoMemory → IsErrAnd r (λ refusal. refusal ≡ why) → Answers record { limits = s.limits; journal = journal } e r record { limits = m.limits; journal = journal }
 Answers-no_memory s m journal e r why free alike is failed =
     let (refusal, refused, given) = err_from_is_err_and r failed in
     rw refused record { verdict = inr (free, given ∙ is); same = rw alike.limits refl }
 
--- what an accepted edit makes of the elements is the list after it
+-- the elements after an accepted edit are the list after it
 list_held : (s : StoreState) (journal : List Edit) (e : Edit) (ys : List ℤ) → HoldsReplay s journal → applied (elements_of s) e ≡ Some ys → list_of (journal ++ e ∷ []) ≡ ys
 list_held s journal e ys held made = (list_of-snoc journal e ys held.kept.legal (ap (λ xs. applied xs e) (sym held.items) ∙ made)).1
 
--- what an accepted edit asks of the cells: n of them are enough for it beyond the open ones, it needs no more, and the limits allow them
+-- the cells that an accepted edit needs: n cells are enough for it beyond the open ones, it needs no more, and the limits allow them
 record Asks (s : StoreState) (e : Edit) (ys : List ℤ) (n : ℕ) : Type 0 where
   no_more : n ≤ max (length ys) (reserved_by e)
   no_less : max (length ys) (reserved_by e) ≤ max n (capacity_of s.buckets)
   within : n ≤ capacity_of s.limits.buckets
 
--- the buckets that are needed after it are those for n cells, where these are more
+-- the buckets that are needed after it are those for n cells, if these are more
 needed_held : (s : StoreState) (journal : List Edit) (e : Edit) (ys : List ℤ) (n more : ℕ) → HoldsReplay s journal → applied (elements_of s) e ≡ Some ys → Asks s e ys n → ((k : ℕ) → AreFewest n k → more ≡ max s.buckets k) → AreNeeded (journal ++ e ∷ []) more
 needed_held s journal e ys n more held made asks opens =
     let long : length (list_of (journal ++ e ∷ [])) ≡ length ys = ap length (list_held s journal e ys held made) in
     let fewest = fewest_within n s.limits.buckets asks.within in
     subst (AreNeeded (journal ++ e ∷ [])) (sym (opens fewest.0 fewest.2)) (AreNeeded-snoc journal e s.buckets fewest.0 n held.needed fewest.2 (omega (arith, asks.no_more)) (omega (arith, asks.no_less)))
 
--- where an edit announces no write, none is at an index
+-- if an edit announces no write, none is at an index
 wrote_none : (indices : List ℕ) (k : ℕ) → are_at k (writes_of None None) ≡ true → Contains indices k
 wrote_none indices k there = absurd (true≢false (sym there))
 
--- where it announces one, that is at its index
+-- if an edit announces one write, that is at its index
 wrote_one : (i at : ℕ) (x : ℤ) → i ≡ at → (k : ℕ) → are_at k (writes_of (Some (i, x)) None) ≡ true → Contains (at ∷ []) k
 wrote_one i at x is k there = (0, lit≤ tt, sym is ∙ eqb-true i k there)
 
--- where a swap announces one or two, they are at its indices
+-- the one or two writes that a swap announces are at its indices
 wrote_both : (i j k : ℕ) (x y : ℤ) (one : Bool) → are_at k (writes_of (Some (i, y)) (if one then None else Some (j, x))) ≡ true → Contains (i ∷ j ∷ []) k
 wrote_both i j k x y true there = (0, lit≤ tt, eqb-true i k there)
 wrote_both i j k x y false there =
@@ -163,7 +163,7 @@ push_held s m journal x i at held free fits alike settled opens sound =
       within = omega (arith, push_fits s journal x held free);
     } alike opens sound elements (wrote_one i (length (list_of journal)) x (at ∙ size_held s journal held))
 
--- there is an element where a pop is accepted
+-- there is an element if a pop is accepted
 pub pop_fits : (s : StoreState) (journal : List Edit) → HoldsReplay s journal → verdict_of s.limits journal Pop ≡ None → 1 ≤ s.descriptor.size
 pop_fits s journal held free =
     omega (arith, unrefused_pop s.limits (elements_of s) (unrefused_held s journal Pop held free), length-elements s)
@@ -196,7 +196,7 @@ write_held s m journal i x size at held free fits alike settled opens sound =
       within = omega arith;
     } alike opens sound elements (wrote_one i i x refl)
 
--- what an accepted reserve asks for is within the limits
+-- an accepted reserve asks for no more than the limits allow
 pub reserve_fits : (s : StoreState) (journal : List Edit) (n : ℕ) → HoldsReplay s journal → verdict_of s.limits journal (Reserve n) ≡ None → n ≤ capacity_of s.limits.buckets
 reserve_fits s journal n held free =
     unrefused_reserve s.limits (elements_of s) n (unrefused_held s journal (Reserve n) held free)
@@ -217,7 +217,7 @@ swap_fits s journal i j held free =
     let both = unrefused_swap s.limits (elements_of s) i j (unrefused_held s journal (Swap i j) held free) in
     (omega (arith, both.0, length-elements s), omega (arith, both.1, length-elements s))
 
--- the second of its writes, where it has two, is at another index than the first
+-- the second of its writes, if it has two, is at another index than the first
 pub second_apart : (i j cells : ℕ) (x y : ℤ) → j < cells → IfSome (write_at_second i j x) (λ write. (write.0 < cells) × IsSomeAnd {T = ℕ × ℤ} (Some (i, y)) (λ other. write.0 ≢ other.0))
 second_apart i j cells x y inside = by_test (nat_eq i j) (λ other same. eqb-false i j other (sym same))
   where
@@ -225,7 +225,7 @@ second_apart i j cells x y inside = by_test (nat_eq i j) (λ other same. eqb-fal
     by_test true apart = tt
     by_test false apart = (inside, apart refl)
 
--- what a swap announces, where both indices are one, is one write, and else two
+-- a swap announces one write if its indices are equal, and otherwise two
 elements-both : (s : StoreState) (i j : ℕ) (x y : ℤ) → s.descriptor.pending ≡ None → i < s.descriptor.size → j < s.descriptor.size → x ≡ value_in s i → y ≡ value_in s j
     → elements_of (announced s (Some (i, y)) (write_at_second i j x) s.descriptor.size) ≡ slice_set (slice_set (elements_of s) i y) j x
 elements-both s i j x y none first second before after =

@@ -21,7 +21,7 @@ use Rattle.lv_edits.proofs.CapacityLaws.{fewest_within}
 use Rattle.lv_edits.proofs.HoldsLaws.{none_pending, size_held}
 use Rattle.lv_edits.proofs.PushLaws.{AreNeeded-pushes, IsLegalInLimits-pushes, MadeByPushes, keeps_limits, made_by_pushes}
 
--- what is refused for want of memory alone leaves the history as it was, where the store reads alike
+-- pushes whose only error is `NoMemory` leave the history as it was on that error, if the store reads the same
 pub AnswersAll-no_memory : (s m : StoreState) (journal : List Edit) (xs : List ℤ) (r : Result ℕ Refusal) (why : Refusal) → verdict_of_pushes (history_of s journal) xs ≡ None → AreAlike s m → why ≡ NoMemory → IsErrAnd r (λ refusal. refusal ≡ why) → AnswersAll (history_of s journal) xs r (history_of m journal)
 AnswersAll-no_memory s m journal xs r why free alike is failed =
     let (refusal, refused, given) = err_from_is_err_and r failed in
@@ -62,6 +62,6 @@ pushes_held s m journal xs held free fits alike settled opens sound room =
       pending = none_pending t _ (ap (λ u. u.descriptor.pending) is);
     }
 
--- a history is told by its fields
+-- a history equals the record of its fields
 pub history_is : (h : History) (limits : Bounds) (journal : List Edit) → limits ≡ h.limits → journal ≡ h.journal → record { limits = limits; journal = journal } ≡ h
 history_is h limits journal of here = rw (of, here) refl

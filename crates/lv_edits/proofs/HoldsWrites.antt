@@ -17,7 +17,7 @@ use Rattle.lv_edits.specs.Inner.{HoldsReplay, history_of}
 use Rattle.lv_edits.specs.Verdict.{verdict_of}
 use Rattle.lv_edits.proofs.HoldsLaws.{HoldsReplay-alike, edits_left, write_fits, write_held}
 
--- what is refused for want of memory alone leaves the history as it was, where the store reads alike
+-- edits whose only error is `NoMemory` leave the history as it was on that error, if the store reads the same
 pub AnswersEdits-no_memory : (s m : StoreState) (journal es : List Edit) (r : Result ℕ Refusal) (why : Refusal) → verdict_of_edits (history_of s journal) es ≡ None → AreAlike s m → why ≡ NoMemory → IsErrAnd r (λ refusal. refusal ≡ why) → AnswersEdits (history_of s journal) es r (history_of m journal)
 AnswersEdits-no_memory s m journal es r why free alike is failed =
     let (refusal, refused, given) = err_from_is_err_and r failed in

@@ -8,7 +8,7 @@ use denote.RattleType.{RattleType, Valss}
 use denote.Steps.{nothing}
 use denote.Struct.Struct.{Struct, within}
 
--- a struct by its fields alone: what it owns does not read its name
+-- a struct that is given by its fields only: what it owns does not depend on its name
 abbrev pub plainly : List RattleType → RattleType
 plainly fields = Struct (record { name = []; args = []; types = []; fields = fields })
 

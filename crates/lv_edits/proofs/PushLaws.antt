@@ -1,4 +1,4 @@
--- Many pushes, one after another: which refusal comes first, and what they make of a history.
+-- Many pushes, one after another: which error comes first, and the history after them.
 use Rattle.std.proofs.Common.{◌≡◌, ◌≢◌, ℕ, ℤ, ◌+◌, ◌-◌, ◌<◌, ◌≤◌, max, All, Some, None, Option, List, [], ◌∷◌, ◌++◌, length, map, refl, sym, ap, subst, ◌∙◌, inl, inr, arith}
 use Rattle.std.proofs.lemmas.Bool.{cases_eq, cond-false, cond-true, eq-eqb, ne_eqb}
 use Rattle.std.proofs.lemmas.List.{append-nil, append_assoc, length_push, take_all}
@@ -24,7 +24,7 @@ pub record KeepsLimits (h : History) : Type 0 where
   pub edits : length h.journal ≤ h.limits.edits
   pub size : length (list_of h.journal) ≤ capacity_of h.limits.buckets
 
--- so does each history that is within its limits
+-- a legal history within its limits satisfies `KeepsLimits`
 pub keeps_limits : (h : History) → IsLegalInLimits h → KeepsLimits h
 keeps_limits h kept = record { legal = kept.legal; edits = kept.edits; size = kept.size }
 
@@ -36,7 +36,7 @@ list_pushed h x legal = (list_of-snoc h.journal (Push x) _ legal refl).1
 pub size_pushed : (h : History) (x : ℤ) → replayed h.journal ≡ Some (list_of h.journal) → length (list_of (h.journal ++ Push x ∷ [])) ≡ length (list_of h.journal) + 1
 size_pushed h x legal = ap length (list_pushed h x legal) ∙ length_push (list_of h.journal) x
 
--- a push is accepted where the limits are not reached
+-- a push is accepted if no limit is reached
 accepted_push : (h : History) (x : ℤ) → length h.journal ≢ h.limits.edits → length (list_of h.journal) ≢ capacity_of h.limits.buckets → verdict_of h.limits h.journal (Push x) ≡ None
 accepted_push h x edits cells = cond-false _ _ _ (ne_eqb _ _ edits) ∙ cond-false _ _ _ (ne_eqb _ _ cells)
 
@@ -48,7 +48,7 @@ keeps_limits-push h x kept edits cells = record {
   size = omega (arith, kept.size, cells, size_pushed h x kept.legal);
 }
 
--- no push is refused where the limits allow as many
+-- no push is rejected if the limits allow so many
 pub none_refused : (h : History) (xs : List ℤ) → KeepsLimits h → length h.journal + length xs ≤ h.limits.edits → length (list_of h.journal) + length xs ≤ capacity_of h.limits.buckets → verdict_of_pushes h xs ≡ None
 none_refused h [] kept edits cells = refl
 none_refused h (x ∷ xs) kept edits cells =
@@ -57,7 +57,7 @@ none_refused h (x ∷ xs) kept edits cells =
     ap (λ first. first_refusal first (verdict_of_pushes (with_edit h (Push x)) xs)) (accepted_push h x some_edits some_cells)
     ∙ none_refused (with_edit h (Push x)) xs (keeps_limits-push h x kept some_edits some_cells) (omega (arith, edits, length_push h.journal (Push x))) (omega (arith, cells, size_pushed h x kept.legal))
 
--- where the edits give out first, or together with the cells, a push is refused for them
+-- if the limit of edits is reached first, or together with the limit of cells, the first rejected push fails with `Worn`
 pub worn_first : (h : History) (xs : List ℤ) → KeepsLimits h → h.limits.edits < length h.journal + length xs → h.limits.edits - length h.journal ≤ capacity_of h.limits.buckets - length (list_of h.journal) → verdict_of_pushes h xs ≡ Some Worn
 worn_first h [] kept more first = absurd (omega (arith, kept.edits, more))
 worn_first h (x ∷ xs) kept more first =
@@ -70,7 +70,7 @@ worn_first h (x ∷ xs) kept more first =
           ∙ worn_first (with_edit h (Push x)) xs (keeps_limits-push h x kept left some_cells) (omega (arith, more, length_push h.journal (Push x))) (omega (arith, first, left, kept.edits, length_push h.journal (Push x), size_pushed h x kept.legal))
     ]
 
--- where the cells give out first, a push is refused for them
+-- if the limit of cells is reached first, the first rejected push fails with `Full`
 pub full_first : (h : History) (xs : List ℤ) → KeepsLimits h → capacity_of h.limits.buckets < length (list_of h.journal) + length xs → capacity_of h.limits.buckets - length (list_of h.journal) < h.limits.edits - length h.journal → verdict_of_pushes h xs ≡ Some Full
 full_first h [] kept more first = absurd (omega (arith, kept.size, more))
 full_first h (x ∷ xs) kept more first =
@@ -85,12 +85,12 @@ full_first h (x ∷ xs) kept more first =
           ∙ full_first (with_edit h (Push x)) xs (keeps_limits-push h x kept left some_cells) (omega (arith, more, size_pushed h x kept.legal)) (omega (arith, first, some_cells, kept.size, length_push h.journal (Push x), size_pushed h x kept.legal))
     ]
 
--- where the first of two refusals doesn't come, and neither does the second, neither comes
+-- if there is no first error of two, there is neither of them
 pub neither : (first later : Option Refusal) → first_refusal first later ≡ None → (first ≡ None) × (later ≡ None)
 neither None later none = (refl, none)
 neither (Some refusal) later none = absurd (none-some refusal (sym none))
 
--- what pushes that are all accepted make of a history
+-- the history after pushes that are all accepted
 pub record MadeByPushes (h new : History) (xs : List ℤ) : Type 0 where
   pub limits : new.limits ≡ h.limits
   pub journal : new.journal ≡ h.journal ++ map Push xs

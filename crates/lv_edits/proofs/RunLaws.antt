@@ -40,7 +40,7 @@ with_pushes-append h (x ∷ xs) ys = with_pushes-append (with_edit h (Push x)) x
 pub AreOfBlock : ℕ → ℕ → ℕ → Type 0
 AreOfBlock first count i = (k : ℕ) → k < count → (first + k) / 8 ≡ i / 8
 
--- so are those behind the first
+-- if a run of indices is in one block, the indices behind its first are too
 pub block_rest : (first count i next : ℕ) → next ≡ first + 1 → AreOfBlock first (count + 1) i → AreOfBlock next count i
 unfolding AreOfBlock
 block_rest first count i next is all k small =
@@ -54,7 +54,7 @@ block_first first count i some all =
     let at : first + 0 ≡ first = omega arith in
     ap (λ j. j / 8) (sym at) ∙ all 0 some
 
--- they are where the first is so far from the block's end
+-- a run of indices is in one block if its first and its last index are
 pub AreOfBlock-from : (first count i : ℕ) → first / 8 ≡ i / 8 → (first + count - 1) / 8 ≡ i / 8 → AreOfBlock first count i
 unfolding AreOfBlock
 AreOfBlock-from first count i low high k small = omega (arith, low, high, small)
@@ -101,7 +101,7 @@ touched_run_by (suc k) h (x ∷ xs) n i long node legal of =
     ∙ ap (λ e. cond (covers n i) e (touched_by next.journal n)) edit
     ∙ later_touch (covers n i) (length h.journal + length (x ∷ xs)) (touched_by next.journal n) (length h.journal + 1) (touched_by h.journal n) before
 
--- the edit that touched a node last, after pushes in one block: the last of them, where the node has the block
+-- after pushes in one block, the edit that touched a node last is the last of them, if the node contains the block
 pub touched_run : (h : History) (xs : List ℤ) (n : Node) (i : ℕ) → 0 < length xs → 1 ≤ n.level → replayed h.journal ≡ Some (list_of h.journal) → AreOfBlock (length (list_of h.journal)) (length xs) i
     → touched_by (with_pushes h xs).journal n ≡ (if covers n i then length h.journal + length xs else touched_by h.journal n)
 touched_run h xs n i some node legal of =

@@ -16,18 +16,18 @@ slice_range-more xs lo i x low small at =
 pub length-slice_range : {A : Type 0} (xs : List A) (lo hi : ℕ) → lo ≤ hi → hi ≤ length xs → length (slice_range xs lo hi) ≡ hi - lo
 length-slice_range xs lo hi low high = length-take-le (hi - lo) (drop lo xs) (omega (arith, length-drop lo xs))
 
--- the elements of a part of a list stay where one more is put at its end
+-- the elements of a part of a list stay if one more element is put at the list's end
 pub part_of_push : {A : Type 0} (xs : List A) (x : A) (from size : ℕ) → from + size ≤ length xs → take size (drop from (xs ++ x ∷ [])) ≡ take size (drop from xs)
 part_of_push xs x from size within =
     ap (take size) (drop-append-le from xs (x ∷ []) (omega arith)) ∙ take-append-le size (drop from xs) (x ∷ []) (omega (arith, length-drop from xs))
 
--- and where the list is cut behind the part
+-- the elements of a part of a list stay if the list is cut behind the part
 pub part_of_take : {A : Type 0} (xs : List A) (k from size : ℕ) → from + size ≤ k → take size (drop from (take k xs)) ≡ take size (drop from xs)
 part_of_take xs k from size within =
     let rest : from + (k - from) ≡ k = omega arith in
     ap (λ j. take size (drop from (take j xs))) (sym rest) ∙ ap (take size) (drop-take from (k - from) xs) ∙ take-take size (k - from) (drop from xs) (omega arith)
 
--- and where an element outside of the part is overwritten
+-- the elements of a part of a list stay if an element outside of the part is overwritten
 pub part_of_set : {A : Type 0} (xs : List A) (i : ℕ) (x : A) (from size : ℕ) → (i < from) ⊎ (from + size ≤ i) → take size (drop from (slice_set xs i x)) ≡ take size (drop from xs)
 part_of_set xs i x from size (inl before) = ap (take size) (drop-set-lt from xs i x before)
 part_of_set xs i x from size (inr after) =

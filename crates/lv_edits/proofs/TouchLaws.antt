@@ -1,4 +1,4 @@
--- Which edit touched a node last, after one more edit, and what an edit leaves as it was.
+-- The edit that touched a node last, after one more edit, and the elements that an edit leaves as they were.
 use Rattle.std.proofs.Common.{◌≡◌, ℕ, ℤ, pos, suc, ◌+◌, ◌-◌, ◌*◌, ◌/◌, ◌^◌, ◌⊎◌, min, ◌<◌, ◌≤◌, ◌||◌, true, false, if◌then◌else◌, List, [], ◌∷◌, ◌++◌, length, take, drop, Option, None, Some, get_or, slice_get, slice_set, refl, sym, ap, ◌∙◌, add-one, inl, inr, arith}
 use Rattle.std.specs.List.{list_any}
 use Rattle.std.specs.Option.{option_map_or}
@@ -32,14 +32,14 @@ pub touches_either : (xs : List ℤ) (e : Edit) (n : Node) (i j : ℕ) → indic
 touches_either xs e n i j both =
     ap (list_any (covers n)) both ∙ ap (λ rest. covers n i || rest) (or-false (covers n j))
 
--- the edits before the last one touch what they did without it
+-- the edits before the last one touch the same nodes as without it
 touches_at_before : (es : List Edit) (e : Edit) (n : Node) (j : ℕ) → j < length es → touches_at (es ++ e ∷ []) n j ≡ touches_at es n j
 touches_at_before es e n j before =
     let front : take j (es ++ e ∷ []) ≡ take j es = take-append-le j es (e ∷ []) (omega arith) in
     let edit : slice_get (es ++ e ∷ []) j ≡ slice_get es j = slice_get-get_or (es ++ e ∷ []) j e (omega (arith, length_push es e)) ∙ ap Some (get_or_append_left es (e ∷ []) e j before) ∙ sym (slice_get-get_or es j e before) in
     rw (front, edit)
 
--- the last edit touches what it does on the list before it
+-- the last edit touches a node if it does so on the list before it
 touches_at_last : (es : List Edit) (e : Edit) (n : Node) → touches_at (es ++ e ∷ []) n (length es) ≡ touches (list_of es) e n
 touches_at_last es e n =
     let front : take (length es) (es ++ e ∷ []) ≡ es = take_at es (e ∷ []) (length es) refl in
@@ -51,14 +51,14 @@ touched_by_is : (es : List Edit) (n : Node) → touched_by es n ≡ last_pass (t
 unfolding touched_by last_pass
 touched_by_is es n = refl
 
--- one more edit is the last that touched a node where it touches it, and else leaves the one before
+-- one more edit is the last that touched a node if it touches it; otherwise that is the one before
 pub touched_by-snoc : (es : List Edit) (e : Edit) (n : Node) → touched_by (es ++ e ∷ []) n ≡ if touches (list_of es) e n then length es + 1 else touched_by es n
 touched_by-snoc es e n =
     let long : length (es ++ e ∷ []) ≡ suc (length es) = omega (arith, length_push es e) in
     let before = last_pass_same (touches_at (es ++ e ∷ []) n) (touches_at es n) (length es) (touches_at_before es e n) in
     touched_by_is (es ++ e ∷ []) n ∙ rw (long, last_pass-more (touches_at (es ++ e ∷ []) n) (length es), touches_at_last es e n, before, ← touched_by_is es n, add-one)
 
--- no edit touched a node where there are none
+-- if there are no edits, none touched a node
 pub touched_by-none : (n : Node) → touched_by [] n ≡ 0
 touched_by-none n = touched_by_is [] n ∙ last_pass-none _
 
@@ -77,7 +77,7 @@ outside n i not_there =
       ]
     ]
 
--- the elements of a node stay where one at an index that it does not have is overwritten
+-- the elements of a node stay if an element outside of the node is overwritten
 part_of_outside : (xs : List ℤ) (n : Node) (i : ℕ) (x : ℤ) → covers n i ≡ false → take (8 ^ n.level) (drop (n.number * 8 ^ n.level) (slice_set xs i x)) ≡ take (8 ^ n.level) (drop (n.number * 8 ^ n.level) xs)
 part_of_outside xs n i x not_there =
     let apart : (i < n.number * 8 ^ n.level) ⊎ (n.number * 8 ^ n.level + 8 ^ n.level ≤ i) = elim (outside n i not_there) [
@@ -126,7 +126,7 @@ whole_below es n whole = leb-true _ _ (and_parts _ _ whole).1
 pub none_whole : (n : Node) → is_whole [] n ≡ true → ⊥
 none_whole n whole = omega (arith, whole_below [] n whole, some_width n.level, ap length (list_of_replayed [] [] replayed-nil))
 
--- a node of a level that is kept is whole where all its indices are below the size
+-- a node of a level from 1 to 6 is full if all its indices are below the size
 pub whole_from : (es : List Edit) (n : Node) → is_node n ≡ true → (n.number + 1) * 8 ^ n.level ≤ length (list_of es) → is_whole es n ≡ true
 whole_from es n node below = and_from _ _ node (le-leb _ _ below)
 
@@ -200,7 +200,7 @@ covers_parent child parent i level number covered =
     let wide : 8 ^ parent.level ≡ 8 ^ child.level * 8 = ap (λ l. 8 ^ l) level ∙ pow_more 8 child.level in
     eq-eqb _ _ (ap (λ w. i / w) wide ∙ sym (div-div-eq-div-mul i (8 ^ child.level) 8) ∙ ap (λ m. m / 8) at ∙ sym number)
 
--- the parent of a node covers one of some indices where the node covers one
+-- the parent of a node covers one of some indices if the node does
 covers_one_parent : (child parent : Node) (indices : List ℕ) → parent.level ≡ child.level + 1 → parent.number ≡ child.number / 8 → list_any (covers child) indices ≡ true → list_any (covers parent) indices ≡ true
 covers_one_parent child parent [] level number covered = covered
 covers_one_parent child parent (i ∷ rest) level number covered =
@@ -213,7 +213,7 @@ covers_one_parent child parent (i ∷ rest) level number covered =
 pub touches_parent : (xs : List ℤ) (e : Edit) (child parent : Node) → parent.level ≡ child.level + 1 → parent.number ≡ child.number / 8 → touches xs e child ≡ true → touches xs e parent ≡ true
 touches_parent xs e child parent level number touched = covers_one_parent child parent (indices_written xs e) level number touched
 
--- the same where there may be no edit
+-- if an optional edit touches a node, it touches the node's parent
 touches_parent_at : (xs : List ℤ) (o : Option Edit) (child parent : Node) → parent.level ≡ child.level + 1 → parent.number ≡ child.number / 8 → option_map_or (λ e. touches xs e child) o false ≡ true → option_map_or (λ e. touches xs e parent) o false ≡ true
 touches_parent_at xs None child parent level number touched = touched
 touches_parent_at xs (Some e) child parent level number touched = touches_parent xs e child parent level number touched

@@ -1,4 +1,4 @@
--- Many edits at once: what they make of a history, and what they answer.
+-- Many edits in one call: the history after them, and the result of the call.
 use Rattle.std.specs.Prelude.{◌≡◌, ℕ, ℤ, ◌+◌, Option, None, Result, Ok, Err, List, [], ◌∷◌, length}
 use Rattle.lv_geometry.specs.declared.refusals.Refusal.{Refusal}
 use Rattle.lv_edits.specs.declared.edit.Edit.{Edit}
@@ -18,23 +18,23 @@ abbrev pub with_edits : History → List Edit → History
 with_edits h [] = h
 with_edits h (e ∷ es) = with_edits (with_edit h e) es
 
--- the refusal of the first edit that is refused, of edits one after another, want of memory apart; none where all are accepted
+-- the error of the first edit that is rejected, if edits are made one after another and memory suffices; none if all are accepted
 abbrev pub verdict_of_edits : History → List Edit → Option Refusal
 verdict_of_edits h [] = None
 verdict_of_edits h (e ∷ es) = first_refusal (verdict_of h.limits h.journal e) (verdict_of_edits (with_edit h e) es)
 
--- all edits were accepted: nothing refuses one, the number of the last edit is answered, and the journal has them at its end
+-- all edits were accepted: none of them is rejected, the call returns the number of the last edit, and the journal has them at its end
 pub record AcceptsEdits (old : History) (es : List Edit) (edit : ℕ) (new : History) : Type 0 where
   pub verdict : verdict_of_edits old es ≡ None
   pub edit_is : edit ≡ length old.journal + length es
   pub journal : new ≡ with_edits old es
 
--- edits were refused, as the first of them that is refused, or for want of memory where none is; nothing has changed
+-- the call was rejected: with the error of the first edit that is rejected, or with `NoMemory` if none is; nothing has changed
 pub record RefusesEdits (old : History) (es : List Edit) (refusal : Refusal) (new : History) : Type 0 where
   pub verdict : IsRefusal (verdict_of_edits old es) refusal
   pub same : new ≡ old
 
--- what a call answers to many edits, of which all are made or none
+-- the result of a call with many edits, which makes all of them or none
 abbrev pub AnswersEdits : History → List Edit → Result ℕ Refusal → History → Type 0
 AnswersEdits old es (Ok edit) new = AcceptsEdits old es edit new
 AnswersEdits old es (Err refusal) new = RefusesEdits old es refusal new

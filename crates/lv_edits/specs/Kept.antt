@@ -1,4 +1,4 @@
--- What every vector keeps of its history.
+-- What holds of every vector's history.
 use Rattle.std.specs.Prelude.{◌≡◌, Some, ◌≤◌, length, All}
 use Rattle.lv_geometry.specs.Bounds.{AreAllowed}
 use Rattle.lv_geometry.specs.Cells.{capacity_of}
@@ -7,8 +7,8 @@ use Rattle.lv_edits.specs.declared.edit.Edit.{Edit}
 use Rattle.lv_edits.specs.declared.edit.Edit.TheVariants.{Push, Pop, Write, Reserve, Swap, Truncate}
 use Rattle.lv_edits.specs.History.{History, list_of, replayed}
 
--- the limits are allowed; the journal is legal and keeps them; so does the list, which has at most the 1048568 elements of
--- 17 buckets, each a number of 64 bits
+-- the limits are allowed, the journal is legal, and the journal and the list are within the limits; the list has at most 1048568
+-- elements, which is the capacity of 17 buckets, and each element is a signed number of 64 bits
 pub record IsLegalInLimits (h : History) : Type 0 where
   pub allowed : AreAllowed h.limits.buckets h.limits.edits
   pub legal : replayed h.journal ≡ Some (list_of h.journal)
@@ -17,7 +17,7 @@ pub record IsLegalInLimits (h : History) : Type 0 where
   pub few : length (list_of h.journal) ≤ 1048568
   pub elements : All IsElement (list_of h.journal)
 
--- the element that an edit puts into the list, where it does, is a number of 64 bits
+-- the element that an edit puts into the list, if it puts one, is a signed number of 64 bits
 abbrev pub CarriesElement : Edit → Type 0
 CarriesElement (Push x) = IsElement x
 CarriesElement Pop = Unit {0}

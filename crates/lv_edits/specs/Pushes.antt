@@ -1,4 +1,4 @@
--- Many pushes at once: what they make of a history, and what they answer.
+-- Many pushes in one call: the history after them, and the result of the call.
 use Rattle.std.specs.Prelude.{◌≡◌, ℕ, ℤ, ◌+◌, Option, Some, None, Result, Ok, Err, List, [], ◌∷◌, length}
 use Rattle.lv_geometry.specs.declared.refusals.Refusal.{Refusal}
 use Rattle.lv_edits.specs.declared.edit.Edit.TheVariants.{Push}
@@ -10,28 +10,28 @@ abbrev pub with_pushes : History → List ℤ → History
 with_pushes h [] = h
 with_pushes h (x ∷ xs) = with_pushes (with_edit h (Push x)) xs
 
--- the first of two refusals, if there is one
+-- the first of two errors, if there is one
 abbrev pub first_refusal : Option Refusal → Option Refusal → Option Refusal
 first_refusal None later = later
 first_refusal (Some refusal) later = Some refusal
 
--- the refusal of the first push that is refused, of pushes one after another, want of memory apart; none where all are accepted
+-- the error of the first push that is rejected, if pushes are made one after another and memory suffices; none if all are accepted
 abbrev pub verdict_of_pushes : History → List ℤ → Option Refusal
 verdict_of_pushes h [] = None
 verdict_of_pushes h (x ∷ xs) = first_refusal (verdict_of h.limits h.journal (Push x)) (verdict_of_pushes (with_edit h (Push x)) xs)
 
--- all pushes were accepted: nothing refuses one, the number of the last edit is answered, and the journal has them at its end
+-- all pushes were accepted: none of them is rejected, the call returns the number of the last edit, and the journal has them at its end
 pub record AcceptsAll (old : History) (xs : List ℤ) (edit : ℕ) (new : History) : Type 0 where
   pub verdict : verdict_of_pushes old xs ≡ None
   pub edit_is : edit ≡ length old.journal + length xs
   pub journal : new ≡ with_pushes old xs
 
--- pushes were refused, as the first of them that is refused, or for want of memory where none is; nothing has changed
+-- the call was rejected: with the error of the first push that is rejected, or with `NoMemory` if none is; nothing has changed
 pub record RefusesAll (old : History) (xs : List ℤ) (refusal : Refusal) (new : History) : Type 0 where
   pub verdict : IsRefusal (verdict_of_pushes old xs) refusal
   pub same : new ≡ old
 
--- what a call answers to many pushes
+-- the result of a call with many pushes
 abbrev pub AnswersAll : History → List ℤ → Result ℕ Refusal → History → Type 0
 AnswersAll old xs (Ok edit) new = AcceptsAll old xs edit new
 AnswersAll old xs (Err refusal) new = RefusesAll old xs refusal new

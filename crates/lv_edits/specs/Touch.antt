@@ -1,4 +1,4 @@
--- Where edits write, which of them touch a node, and when a node is whole.
+-- The indices at which edits write, which edits touch a node, and when a node is full (*whole*).
 use Rattle.std.specs.Prelude.{◌≡◌, ℕ, ℤ, ◌+◌, ◌*◌, ◌^◌, Bool, false, ◌&&◌, List, [], ◌∷◌, ◌++◌, length, take, drop, fold, slice_get, if◌then◌else◌}
 use Rattle.std.specs.List.{Contains, list_any, range_with_len}
 use Rattle.std.specs.Option.{option_map_or}
@@ -8,8 +8,8 @@ use Rattle.lv_edits.specs.declared.edit.Edit.{Edit}
 use Rattle.lv_edits.specs.declared.edit.Edit.TheVariants.{Push, Pop, Write, Reserve, Swap, Truncate}
 use Rattle.lv_edits.specs.History.{list_of}
 
--- the indices at which an edit writes: a push at the end of the list, a write at its own, a swap at both of its own, also where
--- they are one; pops, reserves and truncates write nowhere
+-- the indices at which an edit writes: a push writes at the end of the list, a write at its index, and a swap at both of its indices,
+-- also if they are equal; pops, reserves and truncates write nowhere
 abbrev pub indices_written : List ℤ → Edit → List ℕ
 indices_written xs (Push x) = length xs ∷ []
 indices_written xs Pop = []
@@ -33,14 +33,14 @@ touches xs edit n = list_any (covers n) (indices_written xs edit)
 abbrev pub touches_at : List Edit → Node → ℕ → Bool
 touches_at edits n j = option_map_or (λ edit. touches (list_of (take j edits)) edit n) (slice_get edits j) false
 
--- the number of the last edit that touched a node, 0 if none did
+-- the number of the last edit that touched a node, or 0 if none did
 unfoldable pub touched_by : List Edit → Node → ℕ
 touched_by edits n = fold (λ last j. if touches_at edits n j then j + 1 else last) 0 (range_with_len 0 (length edits))
 
--- whether a node is whole: it is of a level that is kept, and all its indices are below the size
+-- whether a node is full: its level is from 1 to 6, and all its indices are below the size
 abbrev pub is_whole : List Edit → Node → Bool
 is_whole edits n = is_node n && is_below n (length (list_of edits))
 
--- the elements of a node, where it is whole
+-- the elements of a node, if it is full
 abbrev pub elements_under : List Edit → Node → List ℤ
 elements_under edits n = take (8 ^ n.level) (drop (n.number * 8 ^ n.level) (list_of edits))

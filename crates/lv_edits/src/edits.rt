@@ -1,4 +1,4 @@
-//! A vector with the journal of its edits: verdicts, receipts, and what is read of it.
+//! A vector with its operation log (*journal*): precondition checks (*verdicts*), results of edits (*receipts*), and reads.
 ghost use Rattle.std.specs.Prelude.{◌≡◌, ◌+◌, ◌*◌, ◌<◌, ◌≤◌, None, [], length, take, drop};
 ghost use Rattle.std.specs.List.{slice_index_or, slice_range};
 ghost use Rattle.lv_edits.specs.Capacity.{capacity_after, IsCapacityAfter};
@@ -91,8 +91,8 @@ impl Edits {
         self.apply(Edit::Reserve(cells))
     }
 
-    /// Exchanges the elements at two indices. Refused with `Worn`, `OutOfRange`, then `NoMemory`. Where they are one it
-    /// changes nothing, and is an edit like any other.
+    /// Exchanges the elements at two indices. Refused with `Worn`, `OutOfRange`, then `NoMemory`. If the indices are equal it
+    /// changes no element, and is an edit like any other.
     pub fn swap(&mut self, first: u32, second: u32) -> Result<Receipt, Refusal>
         ensures answer { Answers self.old (Edit.Swap first second) result self.new }
         ensures limits { IsLegalInLimits self.new }
@@ -109,12 +109,12 @@ impl Edits {
         self.apply(Edit::Truncate(count))
     }
 
-    /// Makes any edit, where nothing refuses it: it is judged once.
+    /// Makes an edit of any kind if no error applies to it. The check is made once.
     pub fn apply(&mut self, edit: Edit) -> Result<Receipt, Refusal>
         ensures answer { Answers self.old edit result self.new }
         ensures limits { IsLegalInLimits self.new }
     {
-        // What is refused leaves a list within its limits.
+        // If the edit is rejected, the list stays within its limits: a look at a field gives the proof the invariant.
         let _ = &self.store;
         match self.verdict(&edit) {
             Some(refusal) => Err(refusal),
@@ -122,8 +122,8 @@ impl Edits {
         }
     }
 
-    /// Makes an edit that the verdict allows, so that it is refused with `NoMemory` alone. The room in the journal, then the
-    /// bucket, is made before anything changes.
+    /// Makes an edit that the verdict allows, so that its only error is `NoMemory`. The room in the journal, then the bucket, is
+    /// made before anything changes.
     #[inline(always)]
     pub fn make(&mut self, edit: Edit) -> Result<Receipt, Refusal>
         requires { verdict_of self.old.limits self.old.journal edit ≡ None }
@@ -133,7 +133,8 @@ impl Edits {
         make_edit(&mut self.store, &mut self.journal, edit)
     }
 
-    /// Overwrites the element at `index`, as `write` does, and completes that at once: nothing is pending then. Refused as it is.
+    /// Overwrites the element at `index`, as `write` does, and completes the write at once, so that nothing is pending afterwards.
+    /// Refused as `write` is.
     #[inline(always)]
     pub fn write_through(&mut self, index: u32, value: i64) -> Result<Receipt, Refusal>
         ensures answer { Answers self.old (Edit.Write index value) result self.new }
@@ -146,7 +147,7 @@ impl Edits {
         }
     }
 
-    /// The first refusal that applies to an edit, want of memory apart, or none.
+    /// The first error other than `NoMemory` that applies to an edit, or none.
     #[inline(always)]
     pub fn verdict(&self, edit: &Edit) -> Option<Refusal>
         ensures { result ≡ verdict_of self.now.limits self.now.journal edit.now }
@@ -207,8 +208,9 @@ impl Edits {
         self.store.cells(block)
     }
 
-    /// Elements from index `from` on, before `to`, lent where they lie: as many as lie side by side with no write pending among them.
-    /// There are none only where the last edit's write at `from` isn't in its cell yet: then `read` tells the element.
+    /// A slice of elements from index `from` on, before `to`: as many as are contiguous in memory with no pending write among them.
+    /// Nothing is copied. It is empty only if the last edit wrote at `from` and that write isn't in its cell yet: then `read` returns
+    /// the element.
     #[tactic(auto, using(crate::proofs::HoldsLaws::wrote_last))]
     pub fn stretch(&self, from: u32, to: u32) -> &[i64]
         requires order { from < to }

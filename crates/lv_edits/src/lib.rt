@@ -1,8 +1,9 @@
-//! The vector's edits: push, pop, overwrite, reserve, swap and truncate, each with its number, its verdict and its receipt.
+//! The vector's edits: push, pop, overwrite, reserve, swap and truncate. Each has a number, a precondition check (*verdict*) and a
+//! result (*receipt*).
 //!
-//! The model of `Edits` is its limits and its journal, and nothing else: the list is the journal replayed
-//! (`list_of`), and each call is stated on that list. The elements lie in the cells of a store, where the last edit's writes
-//! may be pending. It knows nothing of summaries.
+//! The model of `Edits` is its limits and its operation log (*journal*), and nothing else: the list is the journal replayed
+//! (`list_of`), and each contract speaks of that list. The elements are stored in the cells of a store, where the last edit's
+//! writes may be pending. Aggregates (*summaries*) are kept elsewhere.
 #![tactic(auto)]
 
 mod edit;

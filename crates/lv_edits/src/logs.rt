@@ -1,10 +1,11 @@
-//! Lists that only proofs read.
+//! Lists that exist only in proofs.
 ghost use Rattle.std.specs.Prelude.{◌≡◌, List, [], ◌∷◌, ◌++◌};
 ghost use Rattle.std.specs.Borrow.{ftrue};
 
 use std::marker::{Model, PhantomData};
 
-/// What was noted, in order. It takes no memory, and its calls do nothing when they run; a clause reads it as `items`.
+/// A list of entries, in order, that exists only in proofs. It takes no memory, and its calls do nothing when they run. A clause
+/// reads the list as `items`.
 #[derive(Drop)]
 pub struct Log<T> {
     of: PhantomData<T>,
@@ -22,14 +23,14 @@ unsafe impl<T> Send for Log<T> {}
 unsafe impl<T> Sync for Log<T> {}
 
 impl<T> Log<T> {
-    /// Nothing was noted.
+    /// A log without an entry.
     pub fn new() -> Log<T>
         ensures { result.items ≡ [] }
     {
         Log { of: PhantomData }
     }
 
-    /// The same, and one entry more.
+    /// A log with the entries of this one and one more at the end.
     #[inline(always)]
     pub fn and(&self, entry: &T) -> Log<T>
         ensures { result.items ≡ self.now.items ++ entry.now ∷ [] }

@@ -1,4 +1,4 @@
-//! How an edit that the verdict allows is made: room for it first, then the change.
+//! How an edit that the verdict allows is made: the room for it first, then the change.
 ghost use Rattle.std.specs.Prelude.{◌≡◌, ℕ, ◌+◌, ◌<◌, ◌≤◌, max, None, [], ◌∷◌, ◌++◌, OnOk, OnErr, IfErr};
 ghost use Rattle.lv_geometry.specs.Cells.{AreFewest, capacity_of};
 ghost use Rattle.lv_store.specs.Inner.{IsStore};
@@ -12,9 +12,9 @@ use crate::receipt::Receipt;
 use lv_geometry::{Refusal, capacity};
 use lv_store::Store;
 
-/// Makes an edit that the verdict allows, so that it is refused with `NoMemory` alone. The room in the journal, then the
-/// bucket, is made before anything changes.
-// Inlined: who knows the edit's kind is left with one arm, and pushes and writes make no call.
+/// Makes an edit that the verdict allows, so that its only error is `NoMemory`. The room in the journal, then the bucket, is
+/// made before anything changes.
+// Inlined, so that only one arm is left if the caller knows the edit's kind, and pushes and writes make no call.
 #[inline(always)]
 pub fn make_edit(store: &mut Store, journal: &mut Journal, edit: Edit) -> Result<Receipt, Refusal>
     requires held { HoldsReplay store.old (noted journal.old) }
@@ -152,7 +152,8 @@ fn make_truncate(store: &mut Store, journal: &mut Journal, count: u32) -> Result
     })
 }
 
-/// Completes the write that is pending, and makes room for so many more edits, then for so many cells. Changes no element.
+/// Completes the pending write, then makes room in the journal for `edits` more edits, then opens buckets until there are `cells`
+/// cells. Changes no element.
 #[inline(always)]
 pub fn make_room(
     store: &mut Store,
@@ -182,7 +183,7 @@ pub fn make_room(
     store.open_to(cells)
 }
 
-// What a swap writes at its second index, where that is another than the first: the element that was at the first.
+// The write of a swap at its second index, if that differs from the first: it writes the element that was at the first.
 fn write_at_second(first: u32, second: u32, before: i64) -> Option<(u32, i64)>
     ensures { result ≡ write_at_second first second before }
 {

@@ -1,4 +1,4 @@
-//! Many pushes at once.
+//! Many pushes in one call.
 ghost use Rattle.std.specs.Prelude.{◌≡◌, ◌+◌, ◌≤◌, None, ◌++◌, length, map};
 ghost use Rattle.lv_edits.specs.declared.edit.Edit.TheVariants as edit;
 ghost use Rattle.lv_edits.specs.Inner.{HoldsReplay, history_of, noted, room};
@@ -10,8 +10,8 @@ use crate::making::make_room;
 use lv_geometry::Refusal;
 use lv_store::Store;
 
-/// Makes pushes that the verdict allows, so that they are refused with `NoMemory` alone. The room in the journal, then the buckets,
-/// is made before anything changes.
+/// Makes pushes that the verdict allows, so that the only error is `NoMemory`. The room in the journal, then the buckets, is made
+/// before anything changes.
 pub fn make_pushes(store: &mut Store, journal: &mut Journal, values: &[i64]) -> Result<u32, Refusal>
     requires held { HoldsReplay store.old (noted journal.old) }
     requires free { verdict_of_pushes (history_of store.old (noted journal.old)) values.now ≡ None }
@@ -25,7 +25,7 @@ pub fn make_pushes(store: &mut Store, journal: &mut Journal, values: &[i64]) -> 
     Ok(store.edit())
 }
 
-// Puts pushes behind edits, where there is room for them.
+// Appends a push of each value to the journal, which has room for them.
 fn append_pushes(journal: &mut Journal, values: &[i64])
     requires { length values.now ≤ room journal.old }
     ensures { noted journal.new ≡ noted journal.old ++ map edit.Push values.now }

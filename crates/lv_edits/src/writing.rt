@@ -1,4 +1,4 @@
-//! Writes that are completed at once: one, and many.
+//! Writes in bulk, and single writes that are completed at once.
 ghost use Rattle.std.specs.Prelude.{◌≡◌, ◌+◌, ◌<◌, ◌≤◌, None, length};
 ghost use Rattle.lv_edits.specs.declared.edit.Edit.{Edit as AnEdit};
 ghost use Rattle.lv_edits.specs.Batches.{AnswersEdits, verdict_of_edits, with_edits, writes_at};
@@ -15,8 +15,8 @@ use crate::receipt::Receipt;
 use lv_geometry::Refusal;
 use lv_store::Store;
 
-/// Makes writes that the verdict allows, so that they are refused with `NoMemory` alone. The room in the journal is made before
-/// anything changes.
+/// Makes writes that the verdict allows, so that the only error is `NoMemory`. The room in the journal is made before anything
+/// changes.
 pub fn make_writes(
     store: &mut Store,
     journal: &mut Journal,
@@ -34,7 +34,7 @@ pub fn make_writes(
     Ok(store.edit())
 }
 
-// Makes writes that the verdict allows, one after another, where the journal has room for them.
+// Makes writes that the verdict allows, one after another. The journal has room for them.
 fn write_each(store: &mut Store, journal: &mut Journal, indices: &[u32], values: &[i64])
     requires held { HoldsReplay store.old (noted journal.old) }
     requires paired { length indices.now ≡ length values.now }
@@ -48,7 +48,7 @@ fn write_each(store: &mut Store, journal: &mut Journal, indices: &[u32], values:
     }
 }
 
-// Makes a write that the verdict allows, where the journal has room for it.
+// Makes a write that the verdict allows. The journal has room for it.
 #[inline(always)]
 fn write_next(store: &mut Store, journal: &mut Journal, index: u32, value: i64)
     requires held { HoldsReplay store.old (noted journal.old) }
@@ -64,8 +64,8 @@ fn write_next(store: &mut Store, journal: &mut Journal, index: u32, value: i64)
     journal.note(Edit::Write { index, value });
 }
 
-/// Makes a write that the verdict allows, and completes it at once, so that it is refused with `NoMemory` alone. The room in the journal
-/// is made before anything changes.
+/// Makes a write that the verdict allows, and completes it at once. Its only error is `NoMemory`. The room in the journal is made
+/// before anything changes.
 #[inline(always)]
 pub fn make_write_through(
     store: &mut Store,
@@ -102,7 +102,7 @@ fn settle_first(store: &mut Store)
     }
 }
 
-// It stands apart: where all writes complete themselves, none is ever pending.
+// A function of its own, never inlined, since it is rarely called: if every write completes itself, none is ever pending.
 #[inline(never)]
 fn settle_apart(store: &mut Store)
     ensures state { store.new ≡ settled store.old }

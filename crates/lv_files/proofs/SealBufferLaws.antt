@@ -23,7 +23,7 @@ sends_more first held bytes sent count a b c s is more =
       all = s.all ∙ ap (λ (bs : List ℕ). s.sent ++ bs) parts ∙ sym (append_assoc s.sent (take count rest) (drop (sent + count) held));
     }
 
--- a text was put behind what is held
+-- a text was put after what is held
 pub seals_put : (hash count : ℕ) (text first held new : List ℕ) (sent h h_new : ℕ) (a b : Option (List ℕ)) → Sends first (drop sent held) a b → sent ≤ length held → h ≡ hash → new ≡ held ++ sealed_behind h count text
     → h_new ≡ checksum_from h (sealed_behind h count text) → Seals hash count text first (drop sent new) h_new a b
 seals_put hash count text first held new sent h h_new a b s within same new_is h_is =

@@ -10,7 +10,7 @@ use Rattle.lv_transcript.specs.declared.log_heading.LogHeading.{LogHeading}
 use Rattle.lv_transcript.specs.Audits.{FrontFound, IsRightFound, IsRightOfFront, ReadsInput}
 use Rattle.lv_files.specs.Stores.{IsRightStore}
 
--- where a verdict is right, and says that a front was found behind a log's first line, the edits are those of a log
+-- if a verdict is right, and says that a prefix was found after a log's first line, the edits are those of a log
 right_journal : (there : Option LogHeading) (seen : List ℕ) (journal : List Edit) (verdict : FrontVerdict) → IsRightOfFront there seen journal verdict → (edits answers : ℕ) → verdict ≡ fronts.Front edits answers
     → (heading : LogHeading) → there ≡ Some heading → IsLogOfEdits heading journal
 right_journal there seen journal verdict right edits answers is heading has =

@@ -1,4 +1,4 @@
--- What a stream hands on behind its own bytes is as they end.
+-- What a stream hands on after its own bytes is as they end.
 use Rattle.std.proofs.Common.{◌≡◌, ℕ, suc, ◌-◌, ◌==◌, Bool, true, false, not, List, [], ◌∷◌, ◌++◌, length, nat_eq, nat_lt, Option, Some, None, refl, sym, ap, ◌∙◌, inl, inr, arith, append_assoc}
 use Rattle.std.proofs.lemmas.Bool.{cases_Bool, eqb-true, lt-ltb, ltb-true}
 use Rattle.std.specs.Io.KnownBytes.{Consumes}
@@ -8,7 +8,7 @@ use Rattle.lv_lines.specs.Grammar.{line_by, line_of}
 use Rattle.lv_lines.specs.Input.{has_end, lines_of}
 use Rattle.lv_files.specs.StreamEnds.{MakesBad, ends_within, with_mark}
 
--- bytes behind others end as they do behind what these end as
+-- bytes after others end as they do after what these end as
 ends_within-append : (begun : Bool) (xs ys : List ℕ) → ends_within begun (xs ++ ys) ≡ ends_within (ends_within begun xs) ys
 ends_within-append begun [] ys = refl
 ends_within-append begun (x ∷ xs) ys = ends_within-append (not (x == 10)) xs ys
@@ -29,7 +29,7 @@ pub empty_is : (xs : List ℕ) (is_empty : Bool) → is_empty ≡ nat_eq (length
 empty_is [] is_empty e there = refl
 empty_is (x ∷ xs) is_empty e there = absurd (omega (arith, eqb-true (length (x ∷ xs)) 0 (sym e ∙ there)))
 
--- bytes of the stream that were read are handed on, and the mark stays behind what is left
+-- bytes of the stream that were read are handed on, and the mark stays after what is left
 pub takes_own : (owed mark : List ℕ) (begun now : Bool) (bs : List ℕ) (old new : Option (List ℕ)) → owed ≡ [] → now ≡ ends_within begun bs → Consumes old new bs
     → Consumes (with_mark owed mark begun old) (with_mark owed mark now new) bs
 takes_own owed mark begun now bs None new none is took = tt
@@ -65,7 +65,7 @@ too_long : (line : List ℕ) → nat_lt 120 (length line) ≡ true → line_of l
 unfolding line_by
 too_long line long = rw long refl
 
--- so many bytes, and an LF behind them, make any torn line too long
+-- so many bytes, and an LF after them, make any torn line too long
 pub long_is_bad : (fill : List ℕ) → has_end fill ≡ false → nat_lt 120 (length fill) ≡ true → MakesBad (fill ++ 10 ∷ [])
 long_is_bad fill none long torn begun =
     (torn ++ fill, rw (sym (append_assoc torn fill (10 ∷ []))) (lines_of-ended (torn ++ fill) (has_end-both torn fill begun none)), too_long (torn ++ fill) (stays_long torn fill long))

@@ -1,4 +1,4 @@
--- The log that a server goes on from: what was found in its file, and how it is begun.
+-- The log that a server continues: what was found in its file, and how it is begun.
 use Rattle.std.specs.Prelude.{◌≡◌, ℕ, ◌≤◌, ◌^◌, List, Some}
 use Rattle.lv_edits.specs.declared.edit.Edit.{Edit}
 use Rattle.lv_transcript.specs.declared.fronts.FoundFront.{FoundFront}
@@ -7,15 +7,15 @@ use Rattle.lv_transcript.specs.declared.fronts.FrontVerdict.TheVariants as front
 use Rattle.lv_transcript.specs.declared.log_heading.LogHeading.{LogHeading}
 use Rattle.lv_transcript.specs.Logs.{IsLogOfEdits, base_of}
 
--- a verdict says that a front was found
+-- a verdict says that a prefix was found
 abbrev pub IsFound : FrontVerdict → Type 0
 IsFound verdict = (edits : ℕ) × (answers : ℕ) × (verdict ≡ fronts.Front edits answers)
 
--- what was found of a file is right: where it is a log, its edits are those of one
+-- the findings about a file are right: if it is a log, its updates are those of one
 abbrev pub IsRightStore : FoundFront → Type 0
 IsRightStore found = IsFound found.verdict → (heading : LogHeading) → found.heading ≡ Some heading → IsLogOfEdits heading found.edits.journal
 
--- a front was found, and the numbers of the edits behind it fit
+-- a prefix was found, and the numbers of the updates after it fit
 pub record IsFit (found : FoundFront) : Type 0 where
   pub front : IsFound found.verdict
   pub numbers : base_of found.heading ≤ 2 ^ 62

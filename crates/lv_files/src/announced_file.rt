@@ -1,4 +1,4 @@
-//! A file whose failure is told at once, and when it becomes long.
+//! A file whose failure is reported at once, and also that it becomes long.
 
 ghost use Rattle.std.specs.Prelude.{◌≡◌};
 
@@ -15,8 +15,8 @@ use std::time::Clock;
 // How many bytes `livevec audit` reads at most.
 const MOST_AUDITED: u64 = MOST_READ as u64;
 
-/// A file that is written: the first failure is told on standard error when it comes, since the server tells its fault only at its end. So it is told once
-/// when the file becomes longer than what `livevec audit` reads.
+/// A file that is written. Its first failure is reported on standard error when it happens, since the server reports its fault only at its end.
+/// It is also reported, once, that the file becomes longer than what `livevec audit` reads.
 #[derive(Drop)]
 pub struct AnnouncedFile<'a, E: Copy, F: Drop> {
     errors: E,
@@ -55,7 +55,8 @@ impl<'a, E: Eprint + Copy, F: Write + Drop> AnnouncedFile<'a, E, F> {
         }
     }
 
-    /// Standard output, which a transcript is written to. Its failure is told at the end, and that it becomes long is told if it is a file.
+    /// Standard output, when a transcript is written to it. A failure is reported at the end, and not here. That it becomes long is reported if it
+    /// is a file.
     pub fn of_output(errors: E, is_file: bool, file: F) -> AnnouncedFile<'a, E, F>
         ensures { result.file ≡ file }
     {
@@ -68,7 +69,7 @@ impl<'a, E: Eprint + Copy, F: Write + Drop> AnnouncedFile<'a, E, F> {
         }
     }
 
-    // Tells of a failure, if it is the first.
+    // Reports a failure, if it is the first.
     fn tell(&mut self, error: &Error)
         ensures { self.new.file ≡ self.old.file }
     {
@@ -82,7 +83,7 @@ impl<'a, E: Eprint + Copy, F: Write + Drop> AnnouncedFile<'a, E, F> {
         );
     }
 
-    // Tells that the file becomes too long for `livevec audit`, if so many bytes more make it so.
+    // Reports that the file becomes too long for `livevec audit`, if so many more bytes make it so.
     fn tell_if_long(&mut self, more: u64)
         ensures { self.new.file ≡ self.old.file }
     {
@@ -106,7 +107,7 @@ impl<'a, E: Eprint + Copy, C: Clock + Copy, R: Eprint + LogFolder> AnnouncedFile
     E,
     StoredLog<'a, C, &'a R>,
 > {
-    /// Sees that the log's name leads to the file that was written. If not, that is told, unless a failure was.
+    /// Checks that the log's name leads to the file that was written. If it doesn't, that is reported, unless a failure was reported before.
     pub fn see_name(&mut self) -> io::Result<()> {
         let seen = self.file.see_name();
         if let Err(error) = &seen {
@@ -138,7 +139,7 @@ impl<'a, E: Eprint + Copy, F: Write + Drop> Write for AnnouncedFile<'a, E, F> {
     }
 }
 
-/// It is begun anew as the file is, which tells itself why it can't be.
+/// It is begun anew like the underlying file, which itself reports why it can't be.
 impl<'a, E: Eprint + Copy, F: LogWriter + Drop> LogWriter for AnnouncedFile<'a, E, F> {
     ghost made = { F.made };
 

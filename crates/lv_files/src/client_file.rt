@@ -9,9 +9,9 @@ use std::io::{Error, ErrorKind, Read, Write};
 
 const MOVED: &str = "this name no longer leads to the pipe that was found here";
 
-/// What opens pipes. All that opens files does.
+/// Opens pipes. Whatever opens files does so.
 pub trait PipeFolder {
-    /// Opens the pipe of this name to be read, which waits for a writer where the system has it so. It must be the one that was found.
+    /// Opens the pipe of this name for reading, which waits for a writer where the system does so. It must be the one that was found.
     fn open_pipe(&self, name: &str, found: Identity) -> io::Result<File>;
 }
 
@@ -26,8 +26,8 @@ impl<R: Files<File = File>> PipeFolder for R {
     }
 }
 
-/// A file of a client, which is open, or a pipe that is opened at its first read: so a client that isn't there yet holds up nobody but who reads it. Why
-/// that fails is told on standard error at once.
+/// A file of a client, which is open, or a pipe that is opened at its first read. A client that isn't there yet therefore holds up only whoever
+/// reads it. If a pipe can't be opened, the reason is reported on standard error at once.
 #[derive(Drop)]
 pub struct ClientFile<'a, E: Copy> {
     rt: E,
@@ -65,7 +65,7 @@ impl<'a, R: Eprint + PipeFolder> ClientFile<'a, &'a R> {
         }
     }
 
-    // Opens the pipe of this name, or tells why it can't be opened.
+    // Opens the pipe of this name, or reports why it can't be opened.
     fn open(&mut self, name: &str, found: Identity) {
         self.absent = None;
         drop(self.file.take());

@@ -2,7 +2,8 @@
 
 use std::fmt;
 
-// Letters that stand by themselves and show nothing: fillers of Hangul, a pattern of Braille without a dot, a note without a head, and blanks of hieroglyphs.
+// Letters that have a place of their own and show nothing: fillers of Hangul, a pattern of Braille without a dot, a note without a head, and blanks
+// of hieroglyphs.
 const BLANKS: [char; 8] = [
     '\u{115f}',
     '\u{1160}',
@@ -14,7 +15,8 @@ const BLANKS: [char; 8] = [
     '\u{13442}',
 ];
 
-/// A name from the command line. What would end a line, speak to a terminal, or turn the order of what stands beside it is shown by its code, so that no name forges a message.
+/// A name from the command line. A character that would end a line, speak to a terminal, or turn the order of the text next to it is shown by its
+/// code, so that no name forges a message.
 #[derive(Clone, Copy)]
 pub struct Escaped<'a>(pub &'a str);
 
@@ -41,8 +43,8 @@ fn put<W: fmt::Write>(f: &mut fmt::Formatter<W>, letter: char) -> fmt::Result {
     Ok(())
 }
 
-/// Whether a letter is shown as it is: of ASCII those that can be seen, quotes and backslashes too; of the others those that stand by
-/// themselves, and neither are unseen nor turn the order of others.
+/// Whether a letter is shown as it is. Of ASCII these are the space and all that can be seen, with quotes and backslashes. Of the others they are
+/// those that have a place of their own, can be seen, and don't turn the order of others.
 pub fn is_shown(letter: char) -> bool {
     if letter.is_ascii() {
         return letter == ' ' || letter.is_ascii_graphic();
@@ -50,7 +52,7 @@ pub fn is_shown(letter: char) -> bool {
     letter.escape_debug().count() == 1 && !BLANKS.contains(&letter)
 }
 
-/// Bytes from the command line that are no text: those of ASCII that can be seen stand for themselves, any other by its code.
+/// Bytes from the command line that are not text. A space and ASCII that can be seen are shown as they are, and any other byte by its code.
 #[derive(Clone, Copy)]
 pub struct EscapedBytes<'a>(pub &'a [u8]);
 

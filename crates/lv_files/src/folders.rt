@@ -1,4 +1,4 @@
-//! The folder of a file, and what lies beside it.
+//! The folder of a file, and the files next to it.
 
 use crate::identity::Identity;
 use crate::program_error::{ProgramError, Reason};
@@ -7,13 +7,13 @@ use std::alloc::Global;
 use std::fs::{File, Files, OpenFile, symlink_metadata};
 use std::io::ErrorKind;
 
-/// What ends the name that the old file has once a log was compacted.
+/// The ending of the name that the old file has once a log was compacted.
 pub const KEPT: &str = ".1";
 
-/// What ends the name of a log that is being compacted.
+/// The ending of the name of a log that is being compacted.
 pub const COMPACTING: &str = ".compacting";
 
-/// What lies under a name.
+/// What is found under a name.
 #[derive(Clone, Copy, PartialEq)]
 pub enum Found {
     Nothing,
@@ -27,7 +27,7 @@ pub enum Found {
     Unknown,
 }
 
-/// What lies under a name. No link is followed.
+/// Finds out what is under a name. No link is followed.
 pub fn found_at<R: Files>(rt: &R, name: &str) -> Found {
     match symlink_metadata(rt, name) {
         Ok(found) if found.is_file() => Found::Regular(Identity::of(&found)),
@@ -40,7 +40,7 @@ pub fn found_at<R: Files>(rt: &R, name: &str) -> Found {
     }
 }
 
-/// The name of a file beside another: the same with an ending behind it.
+/// The name of a file next to another: the other's name with an ending.
 pub fn beside(alloc: Global, name: &str, ending: &str) -> Result<String, ProgramError> {
     match format!(in alloc; "{name}{ending}") {
         Ok(name) => Ok(name),

@@ -4,7 +4,7 @@ use std::fs::{Files, Metadata, OpenFile, OpenOptions, metadata};
 use std::io;
 use std::os::unix::fs::MetadataExt;
 
-/// A file by its device and its number there: two names lead to one file exactly where these are the same.
+/// A file, identified by its device and its number there. Two names lead to one file if and only if these are the same.
 #[derive(Clone, Copy, PartialEq)]
 pub struct Identity {
     device: u64,
@@ -41,7 +41,7 @@ impl SeenFile {
     }
 }
 
-/// The regular files behind standard input, output and error, in this order; none where a stream leads elsewhere.
+/// The regular files to which standard input, output and error lead, in this order; none for a stream that leads elsewhere.
 pub fn standard_files<R: Files>(rt: &R) -> [Option<Identity>; 3] {
     [
         behind(rt, "/dev/stdin"),
@@ -50,7 +50,7 @@ pub fn standard_files<R: Files>(rt: &R) -> [Option<Identity>; 3] {
     ]
 }
 
-/// What a name leads to that is neither a regular file nor a folder, such as a pipe, if it does.
+/// The file that a name leads to, if it is neither a regular file nor a folder, such as a pipe.
 pub fn pipe_at<R: Files>(rt: &R, name: &str) -> Option<Identity> {
     match metadata(rt, name) {
         Ok(found) if !found.is_file() && !found.is_dir() => Some(Identity::of(&found)),
@@ -58,7 +58,7 @@ pub fn pipe_at<R: Files>(rt: &R, name: &str) -> Option<Identity> {
     }
 }
 
-// The regular file behind a name, if there is one.
+// The regular file to which a name leads, if there is one.
 fn behind<R: Files>(rt: &R, name: &str) -> Option<Identity> {
     match metadata(rt, name) {
         Ok(found) if found.is_file() => Some(Identity::of(&found)),
@@ -74,8 +74,8 @@ pub fn is_written(standard: &[Option<Identity>; 3], input: Identity) -> bool {
 /// The null device.
 pub const NULL: &str = "/dev/null";
 
-/// Opens the null device as often as there are standard streams. So a standard stream that was closed at the start leads there, and
-/// no file that is opened later is taken for it. The files are kept until the program ends.
+/// Opens the null device as often as there are standard streams. A standard stream that was closed at the start then leads there, and no file that is
+/// opened later is taken for it. The files are kept until the program ends.
 pub fn null_files<R: Files>(rt: &R) -> [io::Result<R::File>; 3] {
     [null_file(rt), null_file(rt), null_file(rt)]
 }

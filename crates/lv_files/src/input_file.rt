@@ -6,7 +6,7 @@ use lv_lines::Fault;
 use std::fs::{File, Files, OpenFile};
 use std::io::Error;
 
-// The system's error where a process has as many open files as it may have (EMFILE).
+// The system's error if a process has as many open files as it may have (EMFILE).
 const NO_DESCRIPTOR: i32 = 24;
 
 /// Opens the file of a number, which is read. A directory is none.

@@ -1,7 +1,8 @@
 //! Files of a program that are read, written and locked, and logs among them, which take one another's place.
 //!
-//! A `StoreFile` is a log that is open and looked at; a `StoredLog` is one that is written, and is made anew where it is long. `compact_file` makes a log of
-//! the elements that there are at the end of another. Why any of that fails is a `ProgramError`. Nothing here needs a hub.
+//! A `StoreFile` is a log that is open and has been checked. A `StoredLog` is one that is written, and that is replaced by a new one when it is
+//! long. `compact_file` makes a log of the elements that there are at the end of another. The error of each of these is a `ProgramError`. Nothing
+//! here needs a hub.
 #![tactic(auto)]
 
 mod announced_file;

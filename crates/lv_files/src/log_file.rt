@@ -20,8 +20,8 @@ const MOST: u64 = MOST_NUMBERED as u64;
 
 const TOO_LONG: &str = "it would have more than 4294967293 bytes";
 
-/// The file of a transcript or of a log as it is written. The lines of a log end in checksums there, unless it is of an older version. What is flushed is on
-/// the disk, where that is wanted. A write is refused that would make it longer than what its readers take, so it stays readable.
+/// The file of a transcript or of a log while it is written. The lines of a log end in checksums there, unless it is of an older version. If that is
+/// wanted, what is flushed is on the disk. A write is rejected if it would make the file longer than its readers allow, so that it stays readable.
 #[derive(Drop)]
 pub struct LogFile<F: Drop> {
     /// The file.
@@ -30,7 +30,7 @@ pub struct LogFile<F: Drop> {
     syncs: bool,
     // How many bytes it has, with those that are held.
     length: u64,
-    // What its bytes are held in, where lines end in checksums.
+    // The buffer of its bytes, if lines end in checksums.
     seals: Option<SealBuffer>,
 }
 
@@ -55,7 +55,8 @@ impl<F: Drop> LogFile<F> {
         self.seals.is_some()
     }
 
-    // Whether the file stays as short as its readers want it with these bytes. Lines are counted only close to the limit: no byte becomes more than a line's end.
+    // Whether the file with these bytes is still as short as its readers want it. Lines are counted only close to the limit: no byte becomes more
+    // than a line's end.
     fn has_room(&self, bytes: &[u8]) -> bool
         ensures { result ≡ true → self.now.length < 2 ^ 63 }
     {
@@ -70,7 +71,7 @@ impl<F: Drop> LogFile<F> {
         }
     }
 
-    /// The file alone, once all is written.
+    /// The underlying file, once all is written.
     pub fn into_file(self) -> F {
         let LogFile { file, seals, .. } = self;
         drop(seals);
@@ -78,10 +79,10 @@ impl<F: Drop> LogFile<F> {
     }
 }
 
-/// Opens the file of a transcript or of a log, as those of replies are opened, and locks it before anything else, so that no second
-/// server writes it as long as it is open. Where another file has come in place of what was opened until the lock was there, as a compaction
-/// brings one, that one is opened. One that was made here and that another has written to until then counts as one that was there before. The
-/// reason tells the file, and is `Unopened` where it isn't there and isn't to be made.
+/// Opens the file of a transcript or of a log, like those of replies, and locks it before anything else, so that no second server writes it as long
+/// as it is open. If another file has taken the place of the one that was opened before it was locked, as after a compaction, that other file is
+/// opened. A file that was made here, and that another has written to until then, counts as one that was there before. The reason of a failure
+/// names what is wrong with the file, and is `Unopened` if it isn't there and isn't to be made.
 pub fn open_locked<R: Files<File = File>>(
     rt: &R,
     how: Access,

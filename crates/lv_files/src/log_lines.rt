@@ -8,8 +8,8 @@ use std::fs::File;
 use std::io;
 use std::io::{BufRead, BufReader, Error, ErrorKind, Read, Seek, SeekFrom};
 
-/// The line of an update, by its number in the log that is open as the file of a number. Lines and updates are counted from 1, and the file is read again up
-/// to that line. If that fails, the fault is `ReadFault`.
+/// The line of an update, by its number in the log that is open as the file of a number. Lines and updates are counted from 1, and the file is read
+/// again up to that line. If that fails, the fault is `ReadFault`.
 pub fn line_of(
     alloc: Global,
     file: &mut File,
@@ -46,9 +46,9 @@ fn count_to<R: BufRead>(lines: &mut R, update: u32) -> io::Result<u32> {
     Err(Error::from(ErrorKind::UnexpectedEof))
 }
 
-/// The number of the last update of a log, or of a front of a transcript, that is open at its start: how many updates came before it, and how many of its whole lines are updates
-/// that don't stand for elements. Lines are told by their first letter, and not looked at otherwise. None if its first line isn't that of a log or of a
-/// transcript, if it has fewer updates than elements, or if it can't be read.
+/// The number of the last update of a log, or of a prefix (*front*) of a transcript, that is open at its start: how many updates came before it,
+/// plus how many of its whole lines are updates that don't represent elements. Only the first letter of a line is looked at. None if its first line
+/// isn't that of a log or of a transcript, if it has fewer updates than elements, or if it can't be read.
 pub fn last_number(alloc: Global, file: &File) -> Result<Option<u64>, ProgramError> {
     let Ok(mut lines) = BufReader::new(alloc, file) else {
         return Err(ProgramError::memory());
@@ -66,7 +66,8 @@ pub fn last_number(alloc: Global, file: &File) -> Result<Option<u64>, ProgramErr
     }
 }
 
-// What the first line says: how many updates came before the file, and how many of its updates stand for elements. None if no log and no transcript begins so.
+// The numbers in the first line: how many updates came before the file, and how many of its updates represent elements. None if it isn't that of a
+// log or of a transcript.
 fn numbers_before<R: BufRead>(
     alloc: Global,
     lines: &mut R,

@@ -1,4 +1,4 @@
-//! A log in whose place another comes: where the new one is made, and where the old one is kept.
+//! The names that are used when a new log takes the place of another: where the new one is made, and where the old one is kept.
 
 use crate::folders::{COMPACTING, Found, KEPT, beside, found_at, sync_folder};
 use crate::identity::{Identity, SeenFile, standard_files};
@@ -11,7 +11,7 @@ use std::alloc::Global;
 use std::fs::{File, Files, OpenFile, Permissions, TryLockError, hard_link, rename};
 use std::os::unix::fs::{MetadataExt, PermissionsExt, fchown};
 
-/// The name of a log, and those beside it that are used when another log comes in its place.
+/// The name of a log, and the names next to it that are used when another log takes its place.
 #[derive(Drop)]
 pub struct LogPlaces<'a> {
     pub name: &'a str,
@@ -44,8 +44,8 @@ impl<'a> LogPlaces<'a> {
         })
     }
 
-    /// Looks whether an older log is there where the old file is to be kept: one whose updates come before those of the log, which has so many before it. Which file that is
-    /// is remembered, since only it may be removed.
+    /// Looks whether an older log is at the place where the old file is to be kept: one whose updates come before those of the log, which has so many
+    /// before it. That file is remembered, since only it may be removed.
     pub fn look<R: Files<File = File>>(
         &mut self,
         rt: &R,
@@ -74,12 +74,12 @@ impl<'a> LogPlaces<'a> {
         self.drops_old
     }
 
-    /// Remembers that the old file, which is open, is where it is to be kept.
+    /// Remembers that the old file, which is open, is now at the place where it is to be kept.
     pub fn remember(&mut self, old: &File) {
         self.older = SeenFile::of(old);
     }
 
-    /// What is where the old file is to be kept, if it is to be, and where the new one is made.
+    /// Finds out what is at the place where the old file is to be kept, if it is to be, and at the place where the new one is made.
     pub fn found<R: Files>(&self, rt: &R) -> [Found; 2] {
         let kept = if self.drops_old {
             Found::Nothing
@@ -89,8 +89,9 @@ impl<'a> LogPlaces<'a> {
         [kept, found_at(rt, self.made.as_str())]
     }
 
-    /// Sees that nothing but regular files are there, which nobody has locked and no standard stream reads or writes, and none of them is the log itself,
-    /// but for FILE.1: a replacement that was killed may have left it that name. Otherwise FILE.1 must be the older log that was found there.
+    /// Checks that only regular files are there, which nobody has locked and no standard stream reads or writes. None of them may be the log
+    /// itself, except FILE.1: a replacement that was killed may have left the log that name. Otherwise FILE.1 must be the older log that was found
+    /// there.
     pub fn see<R: Files<File = File>>(&self, rt: &R, log: Identity) -> Result<(), ProgramError> {
         let [kept, made] = self.found(rt);
         if let Some(reason) = self.kept_clash(rt, kept, log) {
@@ -102,7 +103,7 @@ impl<'a> LogPlaces<'a> {
         }
     }
 
-    // Why the old file can't be kept where this was found, if it can't.
+    // The reason that the old file can't be kept where this was found, if there is one.
     fn kept_clash<R: Files<File = File>>(
         &self,
         rt: &R,
@@ -129,7 +130,7 @@ impl<'a> LogPlaces<'a> {
         }
     }
 
-    // Why the new file can't be made where this was found, if it can't.
+    // The reason that the new file can't be made where this was found, if there is one.
     fn made_clash<R: Files<File = File>>(
         &self,
         rt: &R,
@@ -156,8 +157,8 @@ impl<'a> LogPlaces<'a> {
         }
     }
 
-    /// Makes the new file and locks it, in place of one that was left by a replacement which was killed. Nothing is made, and nothing taken away, where
-    /// the log's name no longer leads to it. Until the new file is in its place, nobody but its owner may open it.
+    /// Makes the new file and locks it, in place of one that a killed replacement has left. If the log's name no longer leads to it, nothing is
+    /// made and nothing is removed. Until the new file is in its place, only its owner may open it.
     pub fn make<R: Files<File = File>>(
         &self,
         rt: &R,
@@ -188,7 +189,7 @@ impl<'a> LogPlaces<'a> {
         }
     }
 
-    // Opens and locks what is where the old file is to be kept. It must be the older log that was found there, as long as it was then.
+    // Opens and locks the file at the place where the old file is to be kept. It must be the older log that was found there, as long as it was then.
     fn open_older<R: Files<File = File>>(&self, rt: &R) -> Result<(File, OutputFile), Reason> {
         let (file, output) = open_beside(rt, self.kept.as_str())?;
         let seen = SeenFile::of(&file);
@@ -198,8 +199,8 @@ impl<'a> LogPlaces<'a> {
         Err(Reason::KeptOther)
     }
 
-    // Takes away what is in the way under a name beside the log, if something was opened there, while it is locked. Why that can't be is one of two reasons: another has
-    // locked it, or it stays.
+    // Removes what is in the way under a name next to the log. Nothing needs to be there; otherwise it is removed while it is locked. The error has
+    // one of two reasons: `locked` if another has locked it, and `stays` if it couldn't be removed.
     fn clear<R: Files<File = File>>(
         &self,
         rt: &R,
@@ -229,7 +230,8 @@ impl<'a> LogPlaces<'a> {
     }
 
     /// Puts the new file, which is whole, in place of the old one, which is kept if that is wanted. All bytes of the new one are on the disk then,
-    /// but its name may not be there yet. Nothing is replaced where a name leads to another file than the one that was opened: that is seen last of all.
+    /// but its name may not be there yet. If a name leads to another file than the one that was opened, nothing is replaced; this is checked last
+    /// of all.
     pub fn replace<R: Files<File = File>>(
         &self,
         rt: &R,
@@ -254,7 +256,7 @@ impl<'a> LogPlaces<'a> {
         }
     }
 
-    // Gives the new file the log's name, where both names still lead to these two.
+    // Gives the new file the log's name, if both names still lead to these two.
     fn rename<R: Files>(
         &self,
         rt: &R,
@@ -268,7 +270,7 @@ impl<'a> LogPlaces<'a> {
         }
     }
 
-    // Sees that the log's name leads to it, and that of the new file to that.
+    // Checks that the log's name leads to it, and that of the new file to the new file.
     fn see_names<R: Files>(
         &self,
         rt: &R,
@@ -320,29 +322,29 @@ impl<'a> LogPlaces<'a> {
         }
     }
 
-    /// That the new file can't be made, or can't be put in the old one's place.
+    /// The error that the new file can't be made, or can't be put in the old one's place.
     pub fn fault(&self, reason: Reason) -> ProgramError {
         ProgramError::new(Fault::WriteFault, reason, self.number)
     }
 }
 
-/// What is done in the folder of a log when another comes in its place. A trait without types of its own, as `Files` has them: so a log that is
+/// The operations in the folder of a log when another takes its place. The trait has no types of its own, unlike `Files`, so that a log that is
 /// sent to a thread may use it.
 pub trait LogFolder {
     /// Whether the log's name leads to this file, and not by a link.
     fn is_named(&self, places: &LogPlaces<'_>, log: OutputFile) -> bool;
 
-    /// Sees that nothing is in the way, and makes the new file.
+    /// Checks that nothing is in the way, and makes the new file.
     fn make(
         &self,
         places: &LogPlaces<'_>,
         log: OutputFile,
     ) -> Result<(File, OutputFile), ProgramError>;
 
-    /// Takes the new file away again.
+    /// Removes the new file again.
     fn unmake(&self, places: &LogPlaces<'_>, output: OutputFile);
 
-    /// Puts the new file in place of the old one, where the names lead to these two.
+    /// Puts the new file in place of the old one, if the names lead to these two.
     fn replace(
         &self,
         places: &LogPlaces<'_>,
@@ -390,7 +392,7 @@ impl<R: Files<File = File>> LogFolder for R {
     }
 }
 
-// Opens a file beside a log and locks it, as a log is opened, or only to be read where no more is allowed.
+// Opens a file next to a log and locks it, in the way a log is opened, or only for reading if no more is allowed.
 fn open_beside<R: Files<File = File>>(rt: &R, name: &str) -> Result<(File, OutputFile), Reason> {
     let how = Access {
         purpose: Use::Store,
@@ -408,7 +410,7 @@ fn open_beside<R: Files<File = File>>(rt: &R, name: &str) -> Result<(File, Outpu
     }
 }
 
-// Whether another has locked a file beside a log.
+// Whether another has locked a file next to a log.
 fn is_locked<R: Files<File = File>>(rt: &R, name: &str) -> bool {
     match open_beside(rt, name) {
         Ok(opened) => {
@@ -420,7 +422,7 @@ fn is_locked<R: Files<File = File>>(rt: &R, name: &str) -> bool {
     }
 }
 
-// Locks a file that was made here. Whoever has locked it first keeps it, and so does who has written it meanwhile.
+// Locks a file that was made here. If another has locked it first or has written to it meanwhile, that one keeps it.
 fn lock_made<R: Files>(rt: &R, name: &str, file: &File, output: OutputFile) -> Result<(), Reason> {
     match file.try_lock() {
         Ok(()) => {}
@@ -436,8 +438,8 @@ fn lock_made<R: Files>(rt: &R, name: &str, file: &File, output: OutputFile) -> R
     Err(Reason::Uncompacted)
 }
 
-// Allows of the new file what was allowed of the old one, and flushes it to the disk. Says whether it could. The new one gets the old one's owner and group,
-// where who runs this may give them; else it belongs to that user, and another group may do what others may.
+// Gives the new file the permissions of the old one, and flushes it to the disk. Returns whether it could. The new one gets the old one's owner and
+// group, if the user of the program may give them; otherwise it belongs to that user, and its group may do what others may.
 fn is_allowed(old: &File, new: &File) -> bool {
     let Ok(found) = old.metadata() else {
         return false;
@@ -454,7 +456,7 @@ fn is_allowed(old: &File, new: &File) -> bool {
     new.set_permissions(Permissions::from_mode(allowed)).is_ok() && new.sync_all().is_ok()
 }
 
-// What is allowed of a file whose group may do what others may.
+// The permissions of a file whose group may do what others may.
 fn with_group_like_others(mode: u32) -> u32 {
     (mode & !0o070) | ((mode & 0o007) << 3)
 }

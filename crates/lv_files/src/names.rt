@@ -3,13 +3,13 @@
 use crate::program_error::{ProgramError, Reason};
 use lv_lines::Fault;
 
-/// What ends the name of a file of replies.
+/// The ending of the name of a file of replies.
 pub const REPLIES: &str = ".out";
 
 /// The files that are served, by their names.
 #[derive(Clone, Copy)]
 pub struct Names<'a> {
-    /// Those of sessions, those of subscribers behind them, and that of the transcript or of the log last, if there is one.
+    /// Those of sessions, then those of subscribers, and last that of the transcript or of the log, if there is one.
     pub all: &'a [&'a str],
     /// How many sessions there are.
     pub sessions: usize,
@@ -17,7 +17,7 @@ pub struct Names<'a> {
     pub clients: usize,
     /// Whether what is written to the transcript's file, or to the log, goes to the disk at once.
     pub syncs: bool,
-    /// Whether the session of a pipe goes on behind the end of its writer.
+    /// Whether the session of a pipe continues after the end of its writer.
     pub goes_on: bool,
 }
 
@@ -27,7 +27,7 @@ impl<'a> Names<'a> {
         self.all.get(..self.clients).unwrap_or(self.all)
     }
 
-    /// Whether a number is that of a session whose lines are opened once they are read if they come from a pipe. So it is with a transcript or a log.
+    /// Whether a number is that of a session whose pipe is opened only when it is read. That holds if there is a transcript or a log.
     pub fn may_be_absent(&self, number: usize) -> bool {
         number < self.sessions && self.of_record().is_some()
     }

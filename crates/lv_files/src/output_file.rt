@@ -11,10 +11,10 @@ use std::os::unix::fs::OpenOptionsExt;
 // How often a file is looked at anew because another came under its name.
 const TRIES: u32 = 100;
 
-// What a file's owner alone may read and write.
+// The mode of a file that only its owner may read and write.
 const PRIVATE: u32 = 0o600;
 
-/// What a file is opened for.
+/// The purpose for which a file is opened.
 #[derive(Clone, Copy)]
 pub enum Use {
     /// It is written.
@@ -29,12 +29,12 @@ pub enum Use {
 #[derive(Clone, Copy)]
 pub struct Access {
     pub purpose: Use,
-    /// Whether it is made where it isn't there.
+    /// Whether it is made if it isn't there.
     pub makes: bool,
 }
 
 impl Access {
-    // The same, as options.
+    // The options with which such a file is opened.
     fn options(self) -> OpenOptions {
         let mut how = OpenOptions::new();
         match self.purpose {
@@ -60,8 +60,8 @@ pub struct OutputFile {
 }
 
 impl OutputFile {
-    /// Opens the file of this name to be written, as it stands, or makes it. No link is followed, and only a regular file is opened: the
-    /// reason is `Link`, or `Unmade`.
+    /// Opens the file of this name to be written, without changing it, or makes it. No link is followed, and only a regular file is opened. The
+    /// reason of a failure is `Link` or `Unmade`.
     pub fn open<R: Files>(rt: &R, name: &str) -> Result<(R::File, OutputFile), Reason> {
         let how = Access {
             purpose: Use::Written,
@@ -70,7 +70,8 @@ impl OutputFile {
         OutputFile::open_by(rt, how, name)
     }
 
-    /// Opens it so, likewise. One that isn't there and isn't to be made is `Unopened`. Where another file comes under its name meanwhile, that one is opened.
+    /// Opens a file like `open`, but as `how` says. One that isn't there and isn't to be made is `Unopened`. If another file comes under its name
+    /// meanwhile, that one is opened.
     pub fn open_by<R: Files>(
         rt: &R,
         how: Access,
@@ -84,7 +85,7 @@ impl OutputFile {
         Err(Reason::Unmade)
     }
 
-    /// Makes the file of this name, which isn't there, so. One of which it can't be said which it is stays, and is empty.
+    /// Makes a file of this name as `how` says; no file may be there. If it can't be found out which file it is, it stays, and is empty.
     pub fn make<R: Files>(
         rt: &R,
         how: Access,
@@ -111,7 +112,7 @@ impl OutputFile {
         found_at(rt, name) == Found::Regular(self.identity)
     }
 
-    /// Empties it, where it was there before. Says whether it could.
+    /// Empties it, if it was there before. Returns whether it could.
     pub fn is_emptied<F: OpenFile>(self, file: &F) -> bool {
         self.is_new || file.set_len(0).is_ok()
     }
@@ -124,7 +125,7 @@ impl OutputFile {
         }
     }
 
-    /// The same, as one that was there before if another has written to it since it was made here.
+    /// This file, but as one that was there before if another has written to it since it was made here.
     pub fn as_found<F: OpenFile>(self, file: &F) -> OutputFile {
         OutputFile {
             identity: self.identity,
@@ -132,18 +133,18 @@ impl OutputFile {
         }
     }
 
-    /// Takes it away, where its name still leads to it. Says whether it could.
+    /// Removes the file if its name still leads to it. Returns whether it could.
     pub fn is_taken_away<R: Files>(self, rt: &R, name: &str) -> bool {
         self.is_named(rt, name) && remove_file(rt, name).is_ok()
     }
 
-    /// Takes it away so, where it was made here. Says whether no file that was made here is left by this name: where the name leads elsewhere by
-    /// now, or nobody knows where, nothing is taken away.
+    /// Removes the file if it was made here and its name still leads to it. Returns whether no file that was made here is left by this name. If the
+    /// name leads elsewhere by now, or nobody knows where, nothing is removed.
     pub fn is_removed<R: Files>(self, rt: &R, name: &str) -> bool {
         !self.is_new || self.is_taken_away(rt, name) || found_at(rt, name) == Found::Nothing
     }
 
-    /// An error, once the file is removed so. Where it is left, the error tells it, unless it tells of another already.
+    /// An error, after the file was removed as by `is_removed`. If the file is left, the error names it, unless it names another already.
     pub fn without<R: Files>(
         self,
         rt: &R,
@@ -159,7 +160,7 @@ impl OutputFile {
     }
 }
 
-// Opens it so, or says why it can't be; neither if another file came under its name meanwhile.
+// Opens a file like `open_by`, or says why it can't be opened; neither if another file came under its name meanwhile.
 fn open_once<R: Files>(
     rt: &R,
     how: Access,

@@ -1,9 +1,9 @@
-//! Standard output, which whoever reads it may cut off.
+//! Standard output, whose reader may end early.
 
 use std::io;
 use std::io::{ErrorKind, Write};
 
-/// A writer that notes whether what reads its bytes has ended, and whether that is to be told.
+/// A writer that notes whether the reader of its bytes has ended, and whether that is to be reported.
 #[derive(Drop)]
 pub struct Piped<W: Write> {
     writer: W,
@@ -12,7 +12,7 @@ pub struct Piped<W: Write> {
 }
 
 impl<W: Write> Piped<W> {
-    /// A writer that isn't cut off. If it is quiet, nothing is told of a cut.
+    /// A writer whose reader has not ended. If it is quiet, nothing is to be reported when the reader ends.
     pub fn new(writer: W, is_quiet: bool) -> Piped<W> {
         Piped {
             writer,
@@ -21,7 +21,7 @@ impl<W: Write> Piped<W> {
         }
     }
 
-    /// Whether a write has failed because nobody reads any more, and nothing is to be told of that.
+    /// Whether a write has failed because nobody reads any more, and that is not to be reported.
     pub fn ends_quietly(&self) -> bool {
         self.is_quiet && self.is_cut
     }

@@ -13,7 +13,7 @@ use std::io::{Error, ErrorKind, Write};
 // At most how many bytes of a log's text are taken at once.
 const PIECE: usize = 4096;
 
-// How many bytes are held until they are written, at least; and room for a piece behind them, which may be nothing but line ends.
+// How many bytes are held at least until they are written, and room for a piece after them, which may be nothing but line ends.
 const HELD: usize = 65_536;
 
 const ROOM: usize = HELD + PIECE * (SEAL_BYTES + 1);
@@ -48,12 +48,12 @@ impl SealBuffer {
         SealBuffer::new(alloc, CHECKSUM_OF_NONE)
     }
 
-    /// Takes the first bytes of a text, as many as are taken at once, behind a file of so many bytes, with those that are held. What is held is written first if
-    /// there is no room. Returns how many it took.
+    /// Takes the first bytes of a text, as many as are taken at once, after those that are held, in a file that has so many bytes with them. If
+    /// there is no room, what is held is written first. Returns how many it took.
     pub fn take<W: Write>(&mut self, bytes: u64, text: &[u8], file: &mut W) -> io::Result<usize>
         requires within { bytes < 2 ^ 63 }
         ensures few { IfOk result (λ count. count ≤ length text.now) }
-        // What went to the file and what is held is the text as a file has it, behind what was held.
+        // The bytes that went to the file, and those that are held, are the held ones and then the text as a file has it.
         ensures sealed { IfOk result (λ count. Seals self.old.hash bytes (take count text.now) (drop self.old.sent self.old.held.items) (drop self.new.sent self.new.held.items) self.new.hash (W.contents file.old) (W.contents file.new)) }
     {
         let (piece, _) = text.split_at(text.len().min(PIECE));

@@ -19,24 +19,26 @@ use std::alloc::Global;
 use std::fs::{File, Files};
 use std::time::Clock;
 
-/// What became of a file that was compacted.
+/// The result of compacting a file.
 #[derive(Clone, Copy)]
 pub struct Compacted {
     /// How it begins now.
     pub heading: LogHeading,
-    /// Whether what was there is kept beside it.
+    /// Whether the old file is kept next to it.
     pub is_kept: bool,
 }
 
-/// Makes a log of the elements that there are after all updates of the log of this name, or of the front of a transcript, in its place; the
-/// next update has the number that it would have had. What was there is kept as FILE.1, in place of an older log there, unless it is dropped. Nobody
-/// serves it meanwhile: it is locked. Standard error says how many bytes behind its last whole line are left out.
+/// Replaces the log of this name, or the prefix (*front*) of a transcript, by a log of the elements that there are after all its updates. The next
+/// update has the number that it would have had. The old file is kept as FILE.1, in place of an older log there, unless it is dropped. Nobody
+/// serves the log meanwhile: it is locked. Standard error says how many bytes after its last whole line are left out.
 ///
-/// The new log is written and flushed to the disk under another name, FILE.compacting, and takes the name when it is whole. So a kill leaves the old file or the new
-/// one under the name, each with everything. One between the two leaves the old one under FILE.1 too, and one before that leaves FILE.compacting: the next compaction takes either over.
+/// The new log is written and flushed to the disk under another name, FILE.compacting, and takes the name when it is whole. A kill therefore leaves
+/// the old file or the new one under the name, each with everything. A kill between the two steps leaves the old file under FILE.1 too, and an
+/// earlier one leaves FILE.compacting; the next compaction takes either over.
 ///
-/// A file that can't be read is `ReadFault`, as is one that is no front, by its first wrong line; what can't be made or written is `WriteFault`, and so it is where another file
-/// has the name by then. Then the file is as it was, but where its folder can't be flushed to the disk: then the new log has the name, and the reason is `Unflushed`.
+/// A file that can't be read is `ReadFault`, as is one that is not a prefix, with its first wrong line. What can't be made or written is
+/// `WriteFault`, which is also the fault if another file has the name by then. After a fault the file is as it was, except if its folder can't be
+/// flushed to the disk: then the new log has the name, and the reason is `Unflushed`.
 pub fn compact_file<C: Clock + Copy, R: Eprint + Files<File = File>>(
     clock: C,
     rt: &R,
@@ -62,9 +64,9 @@ pub fn compact_file<C: Clock + Copy, R: Eprint + Files<File = File>>(
     })
 }
 
-/// The same log. If it is of version 2, whose lines have no checksums, and is to be renewed, it is made anew in its place as a compaction does it; the next
-/// update has the number that it would have had. It is open and locked, and what was there is kept as it is then. Standard error says what was done, or that
-/// it stays as it is.
+/// Returns the log that was opened. If it is of version 2, whose lines have no checksums, and is to be renewed, it is made anew in its place as a
+/// compaction does it. The next update has the number that it would have had. The new log is open and locked, and the old file is kept as after a
+/// compaction. Standard error says what was done, or that the log stays as it is.
 ///
 /// Faults are those of a compaction.
 pub fn renew_store<C: Clock + Copy, R: Eprint + Files<File = File>>(
@@ -117,7 +119,7 @@ fn renewed<C: Clock + Copy, R: Eprint + Files<File = File>>(
     Ok(store)
 }
 
-// Tells that a log of version 2 was made anew.
+// Reports that a log of version 2 was made anew.
 fn tell_of_renewal<R: Eprint>(rt: &R, name: &str, is_kept: bool) {
     let name = Escaped(name);
     if is_kept {
@@ -154,7 +156,7 @@ fn make_anew<C: Clock + Copy, R: Files<File = File>>(
     }
 }
 
-// That files can't be used so.
+// The error that files can't be used in this way.
 fn clash(reason: Reason) -> ProgramError {
     ProgramError::new(Fault::WriteFault, reason, 0)
 }

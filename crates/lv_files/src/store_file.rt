@@ -1,4 +1,4 @@
-//! The log that a server goes on from: how it is opened and looked at, and how it begins.
+//! The log that a server continues: how it is opened and checked, and how it begins.
 
 ghost use Rattle.std.specs.Prelude.{◌≡◌, ◌<◌, ◌≤◌, ◌^◌, IfOk, OnOk, nat_eq, true};
 ghost use Rattle.lv_files.specs.Stores.{IsFit, IsRightStore, MayStart};
@@ -24,7 +24,7 @@ use std::fs::{File, Files, OpenFile};
 use std::io::{Read, Seek, SeekFrom, Write};
 use std::time::Clock;
 
-// Fewer updates than these come before a log that is gone on with: else none could be numbered behind it.
+// Fewer updates than these come before a log that is continued; otherwise none could be numbered after it.
 const MOST_NUMBERS: u64 = 4_611_686_018_427_387_904;
 
 // How many bytes a line has at most, without its checksum and its LF.
@@ -47,7 +47,7 @@ const LAST_LINE: [u8; 4] = *b"end\n";
 // How many updates a vector has at most that is to be made anew.
 const MOST_SERVED: u32 = 16_777_214;
 
-/// A log, or a front of a transcript, that is open and locked, and what was found in it. Nothing of it has changed.
+/// A log, or a prefix (*front*) of a transcript, that is open and locked, and what was found in it. Nothing of it has changed.
 #[derive(Drop)]
 pub struct StoreFile {
     /// The file, at its end.
@@ -58,13 +58,13 @@ pub struct StoreFile {
     pub found: FoundFront,
     /// How many bytes it has.
     pub length: u64,
-    /// Whether a compaction that was killed has left it the second name for what it was.
+    /// Whether a killed compaction has left it the second name, under which the old file was to be kept.
     pub is_kept: bool,
     // Which of the files it is.
     number: usize,
 }
 
-// What was found in a file that is open and locked, how many bytes it has, and whether a compaction has left it a second name.
+// The findings about a file that is open and locked, how many bytes it has, and whether a compaction has left it a second name.
 #[derive(Drop)]
 struct ReadStore {
     found: FoundFront,
@@ -72,7 +72,7 @@ struct ReadStore {
     is_kept: bool,
 }
 
-/// A log that a server goes on from: its file is at its end and has whole lines, those of its heading and of these edits, and answers.
+/// A log that a server continues: its file is at its end and has whole lines, those of its heading and of these updates, and answers.
 #[derive(Drop)]
 pub struct StartedLog<F: Drop> {
     pub file: F,
@@ -83,11 +83,12 @@ pub struct StartedLog<F: Drop> {
 }
 
 impl StoreFile {
-    /// Opens the file of this name and number, which is made where it isn't there, if that is wanted, and locks it before it is read. Nothing of it changes. One that is made may be
-    /// opened by its owner alone.
+    /// Opens the file of this name and number, and locks it before it is read. If it isn't there, it is made, if that is wanted; only its owner may
+    /// open a file that is made. Nothing of the file changes.
     ///
-    /// It is a clash where it is a link, has a second name, or is locked, and `WriteFault` where it can't be opened otherwise. What can't be read is `ReadFault`, as is a file that is no front; but
-    /// what is found there is for the caller to judge. A file that was made here is removed then, before it is unlocked.
+    /// The error is a clash if the file is a link, has a second name that no killed compaction has left, or is locked, and `WriteFault` if it can't
+    /// be opened for another reason. A file that can't be read is `ReadFault`. Whether it is a log or a prefix is for the caller to judge
+    /// (`check_front`, `check_log`). After an error, a file that was made here is removed before it is unlocked.
     pub fn open<C: Clock + Copy, R: Files<File = File>>(
         clock: C,
         rt: &R,
@@ -130,7 +131,7 @@ impl StoreFile {
         }
     }
 
-    /// The same log, in another file that has its name now, and which is read anew.
+    /// The log of this name, in another file that has the name now. It is read anew.
     pub fn replaced<C: Clock + Copy, R: Files<File = File>>(
         self,
         clock: C,
@@ -169,7 +170,7 @@ impl StoreFile {
         self.found.heading.is_some() && self.found.hash.is_none()
     }
 
-    /// An error, once the file is removed where it was made here: it is locked until then.
+    /// An error, after the file was removed if it was made here. It is locked until then.
     pub fn without<R: Files>(self, rt: &R, name: &str, error: ProgramError) -> ProgramError {
         let left = Left::Record(self.number);
         self.output.without(rt, name, left, error)
@@ -183,7 +184,7 @@ impl StoreFile {
         }
     }
 
-    /// Sees that it has a whole line, where none is to be made.
+    /// Checks that it has a whole line, for a caller that doesn't make one.
     pub fn check_there(&self) -> Result<(), ProgramError> {
         if self.is_blank() {
             return Err(ProgramError::new(Fault::ReadFault, Reason::Blank, self.number));
@@ -196,7 +197,7 @@ impl StoreFile {
         self.found.whole == 0 && self.found.heading.is_none()
     }
 
-    // Sees that a front was found there, and that its next updates can be numbered. The first wrong line is the fault, `ReadFault`.
+    // Checks that a prefix was found there, and that its next updates can be numbered. The first wrong line is the fault, `ReadFault`.
     fn check_lines(&self) -> Result<(), ProgramError>
         ensures { OnOk result (IsFit self.now.found) }
     {
@@ -213,8 +214,9 @@ impl StoreFile {
         Err(ProgramError::new(Fault::ReadFault, reason, self.number))
     }
 
-    /// Sees so, and that it has a whole line, or nothing but a part of the first line of a new log: any other file without a line is none that was made
-    /// here, and its first line is the wrong one. What stands behind its last whole line may be a line that was cut off, so it is no longer than one.
+    /// Checks as `check_lines` does, and that the file has a whole line, or only a part of the first line of a new log. Any other file without a
+    /// whole line was not made here, and its first line is the wrong one. The bytes after the last whole line may be a line that was cut off, so
+    /// they must be no longer than one.
     pub fn check_front(&mut self) -> Result<(), ProgramError>
         ensures same { self.new.found ≡ self.old.found }
         ensures fit { OnOk result (IsFit self.old.found) }
@@ -230,8 +232,8 @@ impl StoreFile {
         Ok(())
     }
 
-    /// Sees that it is a log, or nothing but a part of the first line of a new one, whose updates keep to these limits. What it is otherwise is the
-    /// fault, `ReadFault`.
+    /// Checks that it is a log, or only a part of the first line of a new one, and that its updates keep to these limits. What is wrong with it is
+    /// the fault, `ReadFault`.
     pub fn check_log(&mut self, alloc: Global, limits: Limits) -> Result<(), ProgramError>
         ensures same { self.new.found ≡ self.old.found }
         ensures fit { OnOk result (IsFit self.old.found) }
@@ -254,14 +256,14 @@ impl StoreFile {
         }
     }
 
-    // Whether a file without a whole line has a beginning of a new log's first line.
+    // Whether a file without a whole line has a prefix of a new log's first line.
     fn is_first_line_torn(&mut self) -> bool
         ensures { self.new.found ≡ self.old.found }
     {
         self.begins(&FIRST_LINE) || self.begins(&OLD_FIRST_LINE)
     }
 
-    // Whether all that the file has is a beginning of a line.
+    // Whether all that the file has is a prefix of a line.
     fn begins(&mut self, line: &[u8]) -> bool
         ensures { self.new.found ≡ self.old.found }
     {
@@ -280,7 +282,7 @@ impl StoreFile {
             && &*there == first
     }
 
-    // Sees that its updates keep to these limits. To the greatest they do.
+    // Checks that its updates keep to these limits. To the greatest limits they do.
     fn check_limits(&mut self, alloc: Global, limits: Limits) -> Result<(), ProgramError>
         ensures { self.new.found ≡ self.old.found }
     {
@@ -299,9 +301,9 @@ impl StoreFile {
         Err(ProgramError::new(Fault::ReadFault, reason, self.number))
     }
 
-    /// Begins the log where nothing is there, cuts a torn line off, which is told, and takes the second name away that a compaction has left. With `syncs`
-    /// what is flushed is on the disk, and so is the name of the file. What can't be written is the fault, `WriteFault`. A file that was made here is removed then,
-    /// before it is unlocked.
+    /// Writes the first line of the log if there is none, cuts off a torn line, which is reported, and removes the second name that a compaction
+    /// has left. With `syncs`, what is flushed is on the disk, and the name of the file is too. If something can't be written, the fault is
+    /// `WriteFault`, and a file that was made here is removed before it is unlocked.
     pub fn start<C: Clock + Copy, R: Eprint + Files<File = File>>(
         self,
         clock: C,
@@ -332,7 +334,7 @@ impl StoreFile {
         Ok(started)
     }
 
-    // Takes the second name away that a compaction has left, and cuts a torn line off.
+    // Removes the second name that a compaction has left, and cuts off a torn line.
     fn cut<R: Eprint + Files>(
         &self,
         rt: &R,
@@ -350,7 +352,7 @@ impl StoreFile {
         Ok(())
     }
 
-    /// Says on standard error how many bytes stand behind the last whole line, if there are any: they are left out of what is made of the file.
+    /// Says on standard error how many bytes there are after the last whole line, if there are any: they are left out of what is made of the file.
     pub fn tell_of_torn_end<R: Eprint>(&mut self, rt: &R, name: &str) {
         let ended = if self.is_ended() { 4 } else { 0 };
         tell_of_cut(
@@ -361,7 +363,7 @@ impl StoreFile {
         );
     }
 
-    // Whether the last line of a whole transcript stands behind its updates and answers.
+    // Whether the last line of a whole transcript comes after its updates and answers.
     fn is_ended(&mut self) -> bool {
         let mut bytes = [0u8; 4];
         self.file.seek(SeekFrom::Start(self.found.whole)).is_ok()
@@ -369,7 +371,7 @@ impl StoreFile {
             && bytes == LAST_LINE
     }
 
-    // Writes the first line where there is none. Where that fails, a file that was made here is removed.
+    // Writes the first line if there is none. If that fails, a file that was made here is removed.
     fn with_heading<C: Clock + Copy, R: Files>(
         self,
         clock: C,
@@ -420,7 +422,7 @@ impl StoreFile {
     }
 }
 
-// What bytes are held in that come behind a log with this heading, or begin one: lines have no checksums where those of the log have none.
+// The buffer of bytes that come after a log with this heading, or begin one: lines have no checksums if those of the log have none.
 fn seals_behind(
     alloc: Global,
     heading: Option<LogHeading>,
@@ -433,7 +435,7 @@ fn seals_behind(
     }
 }
 
-// The first of these updates that is refused within these limits, by its number, and why.
+// The first of these updates that is rejected within these limits, by its number, and the reason.
 fn first_refused(alloc: Global, updates: &[Edit], limits: Limits) -> Option<(u32, Refusal)> {
     let mut edits = Edits::new(alloc, limits);
     for update in updates {
@@ -444,7 +446,7 @@ fn first_refused(alloc: Global, updates: &[Edit], limits: Limits) -> Option<(u32
     None
 }
 
-// Whether the updates behind a file that begins so can be numbered.
+// Whether the updates after a heading like this can be numbered.
 fn has_low_base(heading: Option<LogHeading>) -> bool
     ensures { result ≡ true → base_of heading < 2 ^ 62 }
 {
@@ -454,7 +456,7 @@ fn has_low_base(heading: Option<LogHeading>) -> bool
     }
 }
 
-// Writes the first line of a log before which nothing came. Where that fails, a file that was made here is removed while it is locked.
+// Writes the first line of a log before which nothing came. If that fails, a file that was made here is removed while it is locked.
 fn write_new<R: Files, W: Write>(
     rt: &R,
     alloc: Global,
@@ -480,7 +482,7 @@ fn unopened(reason: Reason, number: usize) -> ProgramError {
     }
 }
 
-/// Whether a hub goes on when the edits of its vector are used up, which has these limits: where the vector may have as many as any.
+/// Whether a hub continues when the updates of its vector are used up, given the vector's limits: it does if the limit of updates is the greatest.
 pub fn lasts(limits: Limits) -> bool
     ensures lasts { result ≡ nat_eq limits.edits 16777215 }
     ensures few { limits.edits ≤ 16777215 }
@@ -545,7 +547,7 @@ fn is_single<R: Files>(
     Ok(output.is_taken_away(rt, beside(alloc, name, KEPT)?.as_str()))
 }
 
-// Tells of a line that was cut off.
+// Reports a line that was cut off.
 fn tell_of_cut<R: Eprint>(rt: &R, name: &str, length: u64, whole: u64) {
     if length > whole {
         let _ = eprintln!(rt;
@@ -556,7 +558,7 @@ fn tell_of_cut<R: Eprint>(rt: &R, name: &str, length: u64, whole: u64) {
     }
 }
 
-// Tells with what a server begins: a log that it makes, or one that has so many updates in all, by their numbers, and so many elements at its end.
+// Reports with what a server begins: a log that it makes, or one that has so many updates in all, by their numbers, and so many elements at its end.
 fn tell_of_start<R: Eprint, F: Drop>(rt: &R, name: &str, log: &StartedLog<F>, is_new: bool)
     requires { log.now.heading.base ≤ 2 ^ 62 }
 {

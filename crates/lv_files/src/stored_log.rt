@@ -1,4 +1,4 @@
-//! The log of a server, whose file is made anew where it is long.
+//! The log of a server, whose file is made anew when it is long.
 
 ghost use Rattle.std.specs.Prelude.{◌≡◌, ◌≤◌, length};
 
@@ -18,7 +18,7 @@ use std::{io, mem};
 
 const MOVED: &str = "this name no longer leads to the log";
 
-/// How the log of a server is kept.
+/// The plan for the log of a server.
 #[derive(Clone, Copy)]
 pub struct LogPlan {
     /// Whether answers are written there too.
@@ -33,7 +33,8 @@ pub struct LogPlan {
     pub keeps_version: bool,
 }
 
-/// The log of a server. It is made anew, in another file that takes its place, once it has so many bytes and is twice as long as when it was made last.
+/// The log of a server. It is made anew, in another file that takes its place, once it has so many bytes and is twice as long as when it was made
+/// last.
 #[derive(Drop)]
 pub struct StoredLog<'a, C: Copy, E: Copy> {
     clock: C,
@@ -46,7 +47,7 @@ pub struct StoredLog<'a, C: Copy, E: Copy> {
     output: OutputFile,
     // From how many bytes on it is made anew next.
     due: u64,
-    // Whether it was told that it can't be made anew.
+    // Whether it was reported that it can't be made anew.
     is_told: bool,
     // Whether the file may be lost, since its name may not be on the disk, or leads elsewhere.
     is_lost: bool,
@@ -80,7 +81,7 @@ impl<'a, C: Clock + Copy, R: Eprint + LogFolder> StoredLog<'a, C, &'a R> {
         }
     }
 
-    /// Sees that the log's name leads to the file that is written. If not, what is written may be lost, and nothing more is written.
+    /// Checks that the log's name leads to the file that is written. If not, what is written may be lost, and nothing more is written.
     pub fn see_name(&mut self) -> io::Result<()> {
         if self.rt.is_named(&self.places, self.output) {
             return Ok(());
@@ -89,7 +90,7 @@ impl<'a, C: Clock + Copy, R: Eprint + LogFolder> StoredLog<'a, C, &'a R> {
         Err(Error::new(ErrorKind::NotFound, MOVED))
     }
 
-    // Sees so once a second at most.
+    // Checks it as `see_name` does, once a second at most.
     fn see_name_again(&mut self) -> io::Result<()> {
         let second = match self.clock.monotonic() {
             Ok(time) => Some(time.as_secs()),
@@ -132,7 +133,7 @@ impl<'a, C: Clock + Copy, R: Eprint + LogFolder> StoredLog<'a, C, &'a R> {
         }
     }
 
-    // What the bytes of the new file are held in: its lines end in checksums, unless those of the old one don't and that is to stay so.
+    // The buffer of the new file's bytes: its lines end in checksums, unless those of the old one don't and that is to stay so.
     fn seals(&self, alloc: Global) -> Result<Option<SealBuffer>, ProgramError> {
         if self.plan.keeps_version && !self.file.stream().is_sealed() {
             return Ok(None);
@@ -162,7 +163,7 @@ impl<'a, C: Clock + Copy, R: Eprint + LogFolder> StoredLog<'a, C, &'a R> {
         self.rt.replace(&self.places, old, self.output, new, made)
     }
 
-    // Flushes the new file's name to the disk. Where that fails and is wanted, nothing more is written: after a crash the name might lead to the old
+    // Flushes the new file's name to the disk. If that fails and is wanted, nothing more is written: after a crash the name might lead to the old
     // file.
     fn sync_name(&mut self) {
         if let Err(error) = self.rt.sync_name(&self.places) {
@@ -173,7 +174,7 @@ impl<'a, C: Clock + Copy, R: Eprint + LogFolder> StoredLog<'a, C, &'a R> {
         }
     }
 
-    // Tells why it can't be made anew, or that it was, and that its name may not be on the disk.
+    // Reports why it can't be made anew, or that it was, and that its name may not be on the disk.
     fn tell(&self, error: ProgramError) {
         let files = [self.places.name];
         let error = ProgramError::new(error.fault, error.reason, 0);
@@ -185,7 +186,7 @@ impl<'a, C: Clock + Copy, R: Eprint + LogFolder> StoredLog<'a, C, &'a R> {
     }
 }
 
-/// Before a flush is done, it is seen once a second at most that the log's name leads to the file: so no reply tells of what is written to another.
+/// Before a flush is done, it is checked, once a second at most, that the log's name leads to the file. So no reply says what was written to another.
 impl<'a, C: Clock + Copy, R: Eprint + LogFolder> Write for StoredLog<'a, C, &'a R> {
     fn write(&mut self, buf: &[u8]) -> io::Result<usize> {
         if self.is_lost {

@@ -10,16 +10,16 @@ use std::io::{Error, ErrorKind, Read};
 
 const LF: u8 = 10;
 
-/// How a stream of lines ends: what is handed on behind a last line that has no LF, and whether more may come behind its end.
+/// How a stream of lines ends: what is passed on after a last line that has no LF, and whether more may come after its end.
 #[derive(Clone, Copy)]
 pub struct StreamEnd {
-    // What is handed on behind such a line: nothing where it counts.
+    // The bytes that are passed on after such a line: none if it counts.
     mark: &'static [u8],
-    // What of that is still to be handed on.
+    // The part of them that is still to be passed on.
     owed: &'static [u8],
     // Whether the last byte of the stream was no LF.
     is_within: bool,
-    // Whether more may come behind the end.
+    // Whether more may come after the end.
     goes_on: bool,
 }
 
@@ -34,7 +34,7 @@ impl StreamEnd {
         }
     }
 
-    /// The end of a pipe whose writer may have been cut off: a last line without LF is torn, and is made a bad line. Where it goes on, another
+    /// The end of a pipe whose writer may have been cut off: a last line without LF is torn, and is made a bad line. If the pipe goes on, another
     /// writer may come.
     pub fn torn(goes_on: bool) -> StreamEnd
         // Whatever a torn line has, it is no line of a script.
@@ -49,10 +49,11 @@ impl StreamEnd {
         }
     }
 
-    /// Reads from a stream, and hands on the mark behind a torn line at its end. Behind the end of one that goes on it answers that it would block.
+    /// Reads from a stream, and passes on the mark after a torn line at its end. After the end of a stream that goes on it answers that it would
+    /// block.
     pub fn read<R: Read>(&mut self, stream: &mut R, buf: &mut [u8]) -> io::Result<usize>
         ensures bound { ReadsAtMost result buf.new }
-        // The stream's own bytes, in order, and nothing but the mark behind a torn line.
+        // The stream's own bytes, in order, and nothing but the mark after a torn line.
         ensures bytes { ReadConsumes (handed_on self.old (R.remaining stream.old)) (handed_on self.new (R.remaining stream.new)) result buf.new }
     {
         if !self.owed.is_empty() {
@@ -72,7 +73,7 @@ impl StreamEnd {
         self.read_end(buf)
     }
 
-    // Reads behind the end of the stream.
+    // Reads after the end of the stream.
     fn read_end(&mut self, buf: &mut [u8]) -> io::Result<usize>
         requires { self.old.owed.now ≡ [] }
         ensures bound { ReadsAtMost result buf.new }
@@ -89,7 +90,7 @@ impl StreamEnd {
     }
 }
 
-// Whether some bytes end within a line, where a line was begun before them or not.
+// Whether some bytes end within a line, if a line was begun before them or not.
 fn is_within(bytes: &[u8], begun: bool) -> bool
     ensures { result ≡ ends_within begun bytes.now }
 {

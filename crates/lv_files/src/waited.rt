@@ -10,9 +10,9 @@ const NAP_MICROSECONDS: u64 = 100;
 
 const GROWING_NAPS: u64 = 500;
 
-/// A stream that is waited for. One that is shared may be set by another process to answer at once that it would block: it is asked
-/// again after naps that grow, until it gives or takes bytes, ends or fails. So is one whose call a signal has interrupted, and a pipe behind
-/// whose end another writer may come.
+/// A stream that is waited for. Another process may set a shared stream to answer at once that it would block. Such a stream is asked again, after
+/// naps that grow, until it gives or takes bytes, ends or fails. It is also asked again if a signal has interrupted the call, or if it is a pipe
+/// after whose end another writer may come.
 #[derive(Drop)]
 pub struct Waited<C: Copy, S: Drop> {
     clock: C,
@@ -30,7 +30,7 @@ impl<C: Clock + Copy, S: Drop> Waited<C, S> {
         &self.stream
     }
 
-    /// The stream alone.
+    /// The underlying stream.
     pub fn into_stream(self) -> S {
         let Waited { stream, .. } = self;
         stream
@@ -43,7 +43,7 @@ impl<C: Clock + Copy, S: Drop> Waited<C, S> {
     }
 }
 
-// Whether a stream that answers so is to be asked again.
+// Whether a stream that answers with this error is to be asked again.
 fn is_passing(error: &Error) -> bool {
     let kind = error.kind();
     kind == ErrorKind::WouldBlock || kind == ErrorKind::Interrupted

@@ -30,7 +30,7 @@ one_highest n h k a b =
       | inr above ↦ above
     ]
 
--- the index at a cell lies there
+-- a place with an existing cell is the place of its index
 pub place_of_cell : (p : Place) → IsCell p → IsPlaceOf (index_of p) p
 place_of_cell p h = record {
   bucket = record {
@@ -40,15 +40,15 @@ place_of_cell p h = record {
   cell = omega (arith, times_eight p.bucket, pow_pos p.bucket);
 }
 
--- where an index lies is a cell of its bucket
+-- the place of an index is an existing cell of its bucket
 pub cell_of_place : (i : ℕ) (p : Place) → IsPlaceOf i p → IsCell p
 cell_of_place i p h = omega (arith, h.bucket.last, h.cell, times_eight p.bucket, twice (p.bucket + 3))
 
--- and it is the index of that place
+-- an index is the index of its place
 pub index_of_place : (i : ℕ) (p : Place) → IsPlaceOf i p → index_of p ≡ i
 index_of_place i p h = omega (arith, h.cell, times_eight p.bucket, pow_pos p.bucket)
 
--- an index lies at one place
+-- an index has only one place
 pub one_place : (i : ℕ) (p q : Place) → IsPlaceOf i p → IsPlaceOf i q → p ≡ q
 one_place i p q a b =
     let up : p.bucket + 3 ≤ q.bucket + 3 = one_highest (i + 8) (p.bucket + 3) (q.bucket + 3) a.bucket b.bucket in
@@ -66,7 +66,7 @@ bucket_of_last n fewer p h enough =
       | inr above ↦ let small : 2 ^ fewer ≤ 2 ^ p.bucket = pow_mono above in absurd (omega (arith, h.cell, times_eight p.bucket))
     ]
 
--- the greatest index lies in the last of 17 buckets
+-- each index below 1048568 is in one of the first 17 buckets
 pub few_buckets : (i : ℕ) (p : Place) → IsPlaceOf i p → i < 1048568 → p.bucket ≤ 16
 few_buckets i p h small =
     elim (cases_lt p.bucket 17) [

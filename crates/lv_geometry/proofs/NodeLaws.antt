@@ -91,7 +91,7 @@ width_by_shift level low = one_shl (3 * level) 32 (omega arith) ∙ sym (width_i
 pub node_by_shift : (at level : ℕ) → record { level = level; number = at / 2 ^ (3 * level) } ≡ over level at
 node_by_shift at level = ap (λ w. record { level = level; number = at / w }) (sym (width_in_twos level))
 
--- one more than a number fits into a quotient where the number is below it
+-- a number is below a quotient if and only if one more of it, times the divisor, is within the dividend
 lt-quotient : (number size width : ℕ) → 0 < width → nat_lt number (size / width) ≡ nat_le ((number + 1) * width) size
 lt-quotient number size width some =
     elim (cases_lt number (size / width)) [
@@ -103,7 +103,7 @@ lt-quotient number size width some =
           le-ltb _ _ above ∙ sym (lt-leb ((number + 1) * width) size (omega (arith, lt-div-mul-add {a = size} {b = width} some)))
     ]
 
--- a node ends below a size where its number is below the size shifted by three bits a level
+-- a node ends within a size if and only if its number is below the size shifted by three bits a level
 pub below_by_shift : (n : Node) (size : ℕ) → nat_lt n.number (size / 2 ^ (3 * n.level)) ≡ is_below n size
 below_by_shift n size =
     ap (λ width. nat_lt n.number (size / width)) (sym (width_in_twos n.level)) ∙ lt-quotient n.number size (8 ^ n.level) (some_width n.level)

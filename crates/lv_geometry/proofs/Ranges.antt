@@ -16,15 +16,15 @@ there_is xs i inside =
 pub range_more : (a n : ℕ) → range_with_len a (n + 1) ≡ range_with_len a n ++ (a + n) ∷ []
 range_more a n = sym (map-id _) ∙ map-range_with_len_more (λ x. x) a n (a + n) refl ∙ ap (λ xs. xs ++ (a + n) ∷ []) (map-id _)
 
--- the same of the numbers below n
+-- the numbers below n + 1 are those below n, and then n
 pub below_more : (n : ℕ) → range_with_len 0 (n + 1) ≡ range_with_len 0 n ++ n ∷ []
 below_more n = sym (map-id _) ∙ map-range_with_len_more (λ x. x) 0 n n (omega arith) ∙ ap (λ xs. xs ++ n ∷ []) (map-id _)
 
--- the greatest value of a function at n numbers from a on, 0 where there are none
+-- the greatest value of a function at the n numbers from a on, or 0 if there are none
 unfoldable pub greatest : (ℕ → ℕ) → ℕ → ℕ → ℕ
 greatest f a n = fold (λ most j. max most (f j)) 0 (range_with_len a n)
 
--- it is 0 where there are none
+-- the greatest value is 0 if there are no numbers
 pub greatest-none : (f : ℕ → ℕ) (a : ℕ) → greatest f a 0 ≡ 0
 unfolding greatest
 greatest-none f a = refl
@@ -34,7 +34,7 @@ pub greatest-next : (f : ℕ → ℕ) (a n : ℕ) → greatest f a (n + 1) ≡ m
 unfolding greatest
 greatest-next f a n = ap (fold (λ most j. max most (f j)) 0) (range_more a n) ∙ fold_push _ 0 (range_with_len a n) (a + n)
 
--- the same at a successor
+-- the greatest value with one more number, stated with `suc n`
 greatest-more : (f : ℕ → ℕ) (a n : ℕ) → greatest f a (suc n) ≡ max (greatest f a n) (f (a + n))
 greatest-more f a n = rw add-one at (greatest-next f a n)
 
@@ -59,11 +59,11 @@ greatest_least f a zero c all = omega (arith, greatest-none f a)
 greatest_least f a (suc n) c all =
     omega (arith, greatest_least f a n c (λ j from h. all j from (omega arith)), all (a + n) (omega arith) (omega arith), greatest-more f a n)
 
--- the last place below k that passes a test, counted from 1, and 0 where none does
+-- the last place below k that passes a test, counted from 1, or 0 if none does
 unfoldable pub last_pass : (ℕ → Bool) → ℕ → ℕ
 last_pass p k = fold (λ last j. if p j then j + 1 else last) 0 (range_with_len 0 k)
 
--- there is none where no place is looked at
+-- there is no such place below 0
 pub last_pass-none : (p : ℕ → Bool) → last_pass p 0 ≡ 0
 unfolding last_pass
 last_pass-none p = refl
@@ -73,7 +73,7 @@ pub last_pass-next : (p : ℕ → Bool) (k : ℕ) → last_pass p (k + 1) ≡ co
 unfolding last_pass
 last_pass-next p k = ap (fold (λ last j. if p j then j + 1 else last) 0) (below_more k) ∙ fold_push _ 0 (range_with_len 0 k) k
 
--- the same at a successor
+-- the last place with one place more, stated with `suc k`
 pub last_pass-more : (p : ℕ → Bool) (k : ℕ) → last_pass p (suc k) ≡ cond (p k) (suc k) (last_pass p k)
 last_pass-more p k = rw add-one at (last_pass-next p k)
 

@@ -1,9 +1,9 @@
--- The numbers of the refusals.
+-- The numbers of the errors (*refusals*).
 use Rattle.std.specs.Prelude.{ℕ}
 use Rattle.lv_geometry.specs.declared.refusals.Refusal.{Refusal}
 use Rattle.lv_geometry.specs.declared.refusals.Refusal.TheVariants.{Worn, Empty, OutOfRange, TooLarge, Full, NoMemory, BadRange, BadLimits, BadTable, NameTaken, NoSuchName, TooMany, ReadFault, WriteFault, Stranger, TooWide, Contended, Overtaken, NoJob, NotNow}
 
--- the number that a refusal is shown by
+-- the number by which an error is shown in scripts and transcripts
 abbrev pub number_of : Refusal → ℕ
 number_of Worn = 1
 number_of Empty = 2

@@ -1,4 +1,4 @@
-//! Where an index lies in the buckets, and how many cells so many buckets hold.
+//! The place of an index in the buckets, and how many cells a number of buckets hold.
 ghost use Rattle.std.specs.Prelude.{◌≡◌, ◌+◌, ◌*◌, ◌^◌, ◌<◌, ◌≤◌};
 ghost use Rattle.lv_geometry.specs.Cells.{capacity_of, index_of, IsCell, IsPlaceOf, AreFewest};
 
@@ -21,7 +21,7 @@ pub fn place(i: u32) -> Place
     }
 }
 
-/// The index that lies at a place: the inverse of `place`.
+/// The index that is stored at a place. It is the inverse of `place`.
 pub fn index(place: Place) -> u32
     requires bucket { place.bucket ≤ 16 }
     requires cell { IsCell place }
@@ -41,7 +41,7 @@ pub fn capacity(k: u32) -> u32
     8 * ((1 << k) - 1)
 }
 
-/// The fewest buckets that hold `n` cells.
+/// The least number of buckets that hold `n` cells.
 pub fn buckets_for(n: u32) -> u32
     requires { n ≤ 1048568 }
     ensures fewest { AreFewest n result }

@@ -1,4 +1,4 @@
-//! One thing for each of the six levels of nodes.
+//! A record with one value for each of the six levels of nodes.
 ghost use Rattle.std.specs.Prelude.{◌≡◌, ℕ, ◌+◌, ◌*◌, ◌^◌, ◌<◌, ◌≤◌};
 ghost use Rattle.std.specs.Borrow.{Lends, sem};
 ghost use Rattle.std.specs.Int.{div_ceil};
@@ -7,7 +7,7 @@ ghost use Rattle.lv_geometry.specs.contracts.levels.Levels.{the_row};
 
 use crate::nodes::parents_of;
 
-/// One thing for each of the six levels of nodes.
+/// One value for each of the six levels of nodes.
 #[derive(Drop)]
 pub struct Levels<T> {
     pub level_1: T,
@@ -19,7 +19,7 @@ pub struct Levels<T> {
 }
 
 impl<T> Levels<T> {
-    /// The thing of a level.
+    /// The value of a level.
     #[inline(always)]
     pub fn at(&self, level: u32) -> &T
         requires low { 1 ≤ level }
@@ -36,7 +36,7 @@ impl<T> Levels<T> {
         }
     }
 
-    /// The thing of a level, to be changed.
+    /// The value of a level, which the caller may change.
     #[inline(always)]
     pub fn at_mut(&mut self, level: u32) -> &mut T
         requires low { 1 ≤ level }
@@ -55,8 +55,8 @@ impl<T> Levels<T> {
     }
 }
 
-/// How many rows each level needs for so many blocks: one for each block, and above one for each eight below, and for
-/// those that are left over.
+/// How many rows each level needs for a number of blocks. Level 1 has one row for each block. Each higher level has an eighth of
+/// the rows of the level below it, rounded up.
 pub fn rows_of(blocks: u32) -> Levels<u32>
     ensures blocks { result.level_1 ≡ blocks }
     ensures above { (level : ℕ) → 1 ≤ level → level < 6 → thing_at result (level + 1) ≡ div_ceil (thing_at result level) 8 }

@@ -1,8 +1,8 @@
-//! The geometry of the vector: in which bucket and cell an index lies, how much the buckets hold, the
-//! nodes that summaries are kept for, the limits of a vector, and every refusal by its number.
+//! The geometry of the vector: the bucket and cell of an index, how much the buckets hold, the nodes for which
+//! aggregates (*summaries*) are stored, the limits of a vector, and every error (*refusal*) with its number.
 //!
-//! Nothing here keeps state or takes memory. The model is plain numbers: `place` and `index` are inverse
-//! to each other, and `k` open buckets hold `8 * (2 ^ k - 1)` cells. It does not store elements.
+//! Nothing here keeps state or takes memory, and no element is stored. The model is plain numbers: `place` and
+//! `index` are inverse to each other, and `k` open buckets hold `8 * (2 ^ k - 1)` cells.
 #![tactic(auto)]
 
 mod cells;

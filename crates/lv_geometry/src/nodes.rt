@@ -1,10 +1,10 @@
-//! Nodes: the indices that one summary stands for, and the block of an index.
+//! Nodes: aligned ranges of indices, each with one stored aggregate (*summary*), and the block of an index.
 ghost use Rattle.std.specs.Prelude.{◌≡◌, ◌+◌, ◌*◌, ◌/◌, ◌^◌, ◌<◌, ◌≤◌, ◌&&◌};
 ghost use Rattle.std.specs.Int.{div_ceil};
 ghost use Rattle.lv_geometry.specs.Nodes.{child, first_index, is_below, is_node, over, parent};
 
-/// The indices that one summary stands for: those from `number * 8 ^ level` on, `8 ^ level` of them, for
-/// a level from 1 to 6. A node of level 1 is also called a block.
+/// The range of indices that one stored aggregate covers: the `8 ^ level` indices from `number * 8 ^ level` on, for a
+/// level from 1 to 6. A node of level 1 is also called a block.
 #[derive(Clone, Copy, PartialEq, Eq)]
 pub struct Node {
     pub level: u32,
@@ -12,7 +12,7 @@ pub struct Node {
 }
 
 impl Node {
-    /// The node of a level that has index `i`.
+    /// The node of a level that contains index `i`.
     #[inline(always)]
     pub fn over(level: u32, i: u32) -> Node
         requires { level ≤ 6 }
@@ -24,7 +24,7 @@ impl Node {
         }
     }
 
-    /// The node one level up that has this node's indices among its own.
+    /// The node one level up that contains this node's indices.
     #[inline(always)]
     pub fn parent(self) -> Node
         requires { self.level ≤ 6 }
@@ -59,7 +59,7 @@ impl Node {
         self.number * width(self.level)
     }
 
-    /// Whether a node is of a level that summaries are kept for, and all its indices are below a size.
+    /// Whether a node is of a level from 1 to 6, for which aggregates are stored, and all its indices are below a size.
     #[inline(always)]
     pub fn is_whole(self, size: u32) -> bool
         ensures { result ≡ (is_node self && is_below self size) }
@@ -80,7 +80,7 @@ pub fn width(level: u32) -> u32
     1 << (3 * level)
 }
 
-/// How many nodes one level up have so many nodes below them, if these are the first ones of their level.
+/// How many nodes of the next level up are needed to cover the first `nodes` nodes of a level.
 #[inline(always)]
 pub fn parents_of(nodes: u32) -> u32
     ensures { result ≡ div_ceil nodes 8 }

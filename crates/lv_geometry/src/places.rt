@@ -1,4 +1,4 @@
-/// Where an element lies in the two-level array: cell `cell` of bucket `bucket`, both counted from 0.
+/// The place of an element in the two-level array: cell `cell` of bucket `bucket`, both counted from 0.
 #[derive(Clone, Copy, PartialEq, Eq)]
 pub struct Place {
     pub bucket: u32,

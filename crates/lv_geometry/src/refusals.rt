@@ -1,23 +1,23 @@
-//! Refusals: why a call is refused, its number and its text.
+//! Errors (*refusals*): why a call is rejected, with a number and a text for each.
 ghost use Rattle.std.specs.Prelude.{◌≡◌};
 
 use std::error::Error;
 use std::fmt;
 
-/// Why a call was refused. A refused call changes nothing but what its own documentation names.
+/// Why a call was rejected. A rejected call changes nothing except what its own documentation names.
 #[derive(Clone, Copy, Debug, PartialEq, Eq)]
 pub enum Refusal {
-    /// As many edits are accepted as the limits allow.
+    /// The limit of edits is exhausted: the vector has accepted as many as its limits allow.
     Worn,
-    /// There is nothing to pop.
+    /// The vector has no element to pop.
     Empty,
     /// An index, or the end of a range, is past the end of the vector.
     OutOfRange { size: u32 },
-    /// More was to be reserved than the limits allow.
+    /// More cells were to be reserved than the limits allow.
     TooLarge { limit: u32 },
     /// The vector has as many elements as the limits allow.
     Full,
-    /// Memory was wanted, and there was none. Nothing has changed.
+    /// Out of memory. Nothing has changed.
     NoMemory,
     /// A range whose start is past its end.
     BadRange,
@@ -25,25 +25,25 @@ pub enum Refusal {
     BadLimits,
     /// An automaton's table with an entry above 7.
     BadTable,
-    /// The name stands for a query already.
+    /// A query already has the name.
     NameTaken,
     /// No query has the name.
     NoSuchName,
-    /// There are 64 names.
+    /// There are as many queries as are allowed: 64 at a vector.
     TooMany,
-    /// What was read ended in an error.
+    /// The input ended in an error.
     ReadFault,
-    /// What was written could not be.
+    /// The output could not be written.
     WriteFault,
     /// A result that was not computed from a job of this vector.
     Stranger,
     /// An element that does not fit 16 bits.
     TooWide,
-    /// Another edit came first. It is this one, or a later.
+    /// Another edit came first: this one, or a later one.
     Contended { edit: u32 },
-    /// The look is too old to answer from: a word of this later edit was found.
+    /// The snapshot of the descriptor (*look*) is too old to answer from: a word of this later edit was found.
     Overtaken { edit: u32 },
-    /// No job has the number.
+    /// No task (*job*) has the number.
     NoJob,
     /// The event does not fit what the actor is doing.
     NotNow,
@@ -81,7 +81,7 @@ impl Refusal {
     }
 }
 
-// The texts by number, each up to the number that it shows, where it shows one.
+// The texts in the order of the numbers. If a text shows a number, it ends before that number.
 const WORDS: [&str; 20] = [
     "the limit of edits is reached",
     "there is nothing to pop",

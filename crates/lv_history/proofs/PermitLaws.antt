@@ -1,4 +1,4 @@
--- Which edits a permit and those that took its place have added.
+-- Which updates were added with a permit and with those that took its place.
 use Rattle.std.proofs.Common.{◌≡◌, ◌≢◌, ℕ, List, [], ◌∷◌, ◌++◌, nat_eq, refl, sym, ap, ◌∙◌, subst, inl, inr, append-nil}
 use Rattle.std.proofs.lemmas.Bool.{cases_Bool, eq-eqb, ne_eqb}
 use Rattle.std.proofs.lemmas.List.Elements.{All-head, All-tail}
@@ -7,7 +7,7 @@ use Rattle.lv_edits.specs.declared.edit.Edit.{Edit}
 use Rattle.lv_history.specs.declared.entries.Entry.{Entry}
 use Rattle.lv_history.specs.Growing.{IsUnspent, edits_by, permit_after}
 
--- what is added behind some entries is added by the permit after them
+-- what is added after some entries is added with the permit after them
 edits_by-append : (p : ℕ) (xs ys : List Entry) → edits_by p (xs ++ ys) ≡ edits_by p xs ++ edits_by (permit_after p xs) ys
 edits_by-append p [] ys = refl
 edits_by-append p (x ∷ xs) ys =
@@ -24,7 +24,7 @@ permit_after-append p (x ∷ xs) ys =
       | inr apart ↦ rw apart (permit_after-append p xs ys)
     ]
 
--- a permit that isn't spent has added nothing
+-- nothing was added with a permit that isn't spent
 pub unspent_adds_nothing : (p : ℕ) (xs : List Entry) → IsUnspent p xs → (edits_by p xs ≡ []) × (permit_after p xs ≡ p)
 unspent_adds_nothing p [] free = (refl, refl)
 unspent_adds_nothing p (x ∷ xs) free =
@@ -35,15 +35,15 @@ unspent_rest : (p : ℕ) (xs ys : List Entry) → IsUnspent p (xs ++ ys) → IsU
 unspent_rest p [] ys free = free
 unspent_rest p (x ∷ xs) ys free = unspent_rest p xs ys (All-tail (λ entry. entry.by ≢ p) x (xs ++ ys) free)
 
--- an entry by a permit is the next edit
+-- an entry with the history's permit is the next update
 added_by : (p : ℕ) (entry : Entry) → entry.by ≡ p → (edits_by p (entry ∷ []) ≡ entry.edit ∷ []) × (permit_after p (entry ∷ []) ≡ entry.next)
 added_by p entry is = rw (eq-eqb entry.by p is) (refl, refl)
 
--- a beginning of a book has a beginning of each history
+-- a prefix of a book has a prefix of each history
 pub begins_so : (p : ℕ) (xs ys : List Entry) → IsPrefix xs ys → IsPrefix (edits_by p xs) (edits_by p ys)
 begins_so p xs ys pre = (edits_by (permit_after p xs) pre.0, sym (edits_by-append p xs pre.0) ∙ ap (edits_by p) pre.1)
 
--- while the permit after some entries isn't spent, the history has the edits that it had
+-- while the permit after some entries isn't spent, the history has the updates that it had
 pub record IsStill (p : ℕ) (xs ys : List Entry) : Type 0 where
   pub edits : edits_by p ys ≡ edits_by p xs
   pub permit : permit_after p ys ≡ permit_after p xs
@@ -56,7 +56,7 @@ still_unspent p xs ys pre free =
       permit = ap (permit_after p) (sym pre.1) ∙ permit_after-append p xs pre.0 ∙ nothing.1;
     }
 
--- an entry by that permit adds one edit
+-- an entry with that permit adds one update
 pub record HasAdded (p : ℕ) (xs ys : List Entry) (edit : Edit) (next : ℕ) : Type 0 where
   pub edits : edits_by p ys ≡ edits_by p xs ++ edit ∷ []
   pub permit : permit_after p ys ≡ next

@@ -1,17 +1,17 @@
--- Beginnings of one list.
+-- Prefixes of one list.
 use Rattle.std.proofs.Common.{◌≡◌, ◌≤◌, List, [], ◌∷◌, ◌++◌, length, take, refl, ap, sym, ◌∙◌, arith, append-nil, append_assoc, length-append}
 use Rattle.std.proofs.lemmas.List.{take_all, take-append-le}
 use mathlib.Core.List.{IsPrefix}
 
--- each list begins with itself
+-- each list is a prefix of itself
 pub prefix_self : {A : Type 0} (xs : List A) → IsPrefix xs xs
 prefix_self xs = ([], append-nil xs)
 
--- a beginning of a beginning is one
+-- a prefix of a prefix is one
 pub prefix_trans : {A : Type 0} (xs ys zs : List A) → IsPrefix xs ys → IsPrefix ys zs → IsPrefix xs zs
 prefix_trans xs ys zs p q = (p.0 ++ q.0, sym (append_assoc xs p.0 q.0) ∙ (ap (λ w. w ++ q.0) p.1 ∙ q.1))
 
--- of two beginnings of one list the shorter begins the longer
+-- of two prefixes of one list the shorter is a prefix of the longer
 pub prefix_shorter : {A : Type 0} (xs ys zs : List A) → IsPrefix xs zs → IsPrefix ys zs → length xs ≤ length ys → IsPrefix xs ys
 prefix_shorter [] ys zs p q le = (ys, refl)
 prefix_shorter (x ∷ xs) [] zs p q le = absurd (omega arith)
@@ -21,7 +21,7 @@ prefix_shorter (x ∷ xs) (y ∷ ys) (z ∷ zs) p q le =
     let rest = prefix_shorter xs ys zs (p.0, cc (p.1)) (q.0, cc (q.1)) (omega arith) in
     (rest.0, cc (heads, rest.1))
 
--- a beginning as long as the whole is the whole
+-- a prefix as long as the whole is the whole
 pub prefix_whole : {A : Type 0} (xs ys : List A) → IsPrefix xs ys → length ys ≤ length xs → xs ≡ ys
 prefix_whole [] [] p le = refl
 prefix_whole [] (y ∷ ys) p le = absurd (omega arith)
@@ -29,10 +29,10 @@ prefix_whole (x ∷ xs) [] p le = absurd (cc (p.1))
 prefix_whole (x ∷ xs) (y ∷ ys) p le =
     let rest = prefix_whole xs ys (p.0, cc (p.1)) (omega arith) in cc (p.1, rest)
 
--- a beginning is no longer than the whole
+-- a prefix is no longer than the whole
 pub prefix_length : {A : Type 0} (xs ys : List A) → IsPrefix xs ys → length xs ≤ length ys
 prefix_length xs ys p = omega (arith, sym (ap length p.1) ∙ length-append xs p.0)
 
--- a list has its beginning as its first elements
+-- a prefix of a list is its first elements
 pub prefix_take : {A : Type 0} (xs ys : List A) → IsPrefix xs ys → take (length xs) ys ≡ xs
 prefix_take xs ys more = ap (take (length xs)) (sym more.1) ∙ take-append-le (length xs) xs more.0 (omega arith) ∙ take_all (length xs) xs (omega arith)

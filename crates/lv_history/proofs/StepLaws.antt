@@ -12,7 +12,7 @@ use Rattle.lv_history.specs.Growing.{Adds, Grants, IsKept, IsSpent, IsUnspent, S
 abbrev pub shown : List Entry → List Entry
 shown log = []
 
--- and trade nothing
+-- and get nothing in return
 abbrev pub moved : List Entry → List Entry → ℕ → Type 0
 moved xs ys n = Unit {0}
 
@@ -22,7 +22,7 @@ spent_below [] k spent = absurd (true≢false (sym spent))
 spent_below (c ∷ cs) zero spent = omega arith
 spent_below (c ∷ cs) (suc k) spent = omega (arith, spent_below cs k spent)
 
--- it stays spent where a word is set
+-- it stays spent if a word is set
 spent_set : (cs : List Cell) (i k n : ℕ) → IsSpent cs k → IsSpent (slice_set cs i (n, true)) k
 spent_set [] i k n spent = absurd (true≢false (sym spent))
 spent_set (c ∷ cs) zero zero n spent = refl
@@ -30,7 +30,7 @@ spent_set (c ∷ cs) zero (suc k) n spent = spent
 spent_set (c ∷ cs) (suc i) zero n spent = spent
 spent_set (c ∷ cs) (suc i) (suc k) n spent = spent_set cs i k n spent
 
--- which is spent by that
+-- the permit is spent by that
 set_spends : (cs : List Cell) (i n : ℕ) → i < length cs → IsSpent (slice_set cs i (n, true)) i
 set_spends [] i n within = absurd (omega arith)
 set_spends (c ∷ cs) zero n within = refl
@@ -76,7 +76,7 @@ module _ (s : Step Entry) (v : List Entry) where
       )
 
   module _ (p : Nib) (holds : p.right ≡ may_write) where
-    -- a step that shows the book to who holds a permit
+    -- a step that shows the book to the holder of a permit
     pub shows_moves : Moves IsKept shown moved 0 (v, (p, None)) (λ n. either (n == 0) 0 n) (Shows s (v, (p, None)))
     shows_moves cs log kept pre away =
         let n = either ((cell cs 0).0 == 0) 0 (cell cs 0).0 in (
@@ -93,7 +93,7 @@ module _ (s : Step Entry) (v : List Entry) where
           ),
         )
 
-    -- a step that adds an edit by it
+    -- a step that adds an update with the permit
     pub adds_moves : Moves IsKept shown moved 0 (v, (p, None)) (λ n. either (n == 0) 0 n) (Adds s (v, (p, None)))
     adds_moves cs log kept pre away =
         let n = either ((cell cs 0).0 == 0) 0 (cell cs 0).0 in

@@ -1,7 +1,7 @@
 //! An entry of the history.
 use lv_edits::Edit;
 
-/// What a book lists: an edit, the permit by which it was added, and the one that takes its place. It exists in the proofs alone.
+/// An entry of a book: an update, the permit with which it was added, and the permit that takes its place. It exists only in the proofs.
 pub struct Entry {
     pub by: u64,
     pub next: u64,

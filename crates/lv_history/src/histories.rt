@@ -1,4 +1,4 @@
-//! The history of a hub: its edits in one list, to which only its head adds.
+//! The history of a hub: its updates in one list, to which only its head adds.
 ghost use Rattle.std.specs.Prelude.{◌≡◌, ◌<◌, ◌≤◌, ◌^◌, ◌++◌, ◌∷◌, ◌⊎◌, [], length, true};
 ghost use mathlib.Core.List.{IsPrefix};
 ghost use Rattle.logbook.specs.Pages.{may_write};
@@ -31,7 +31,7 @@ impl Rule<Entry, u64> for Law {
     ghost moves = { λ ask before after answer. Unit {0} };
 }
 
-// Callers trade nothing.
+// Callers get nothing in return for a step.
 pub struct Nothing;
 
 impl Gain<Entry, u64> for Nothing {
@@ -67,10 +67,10 @@ impl Plain<(), Entry, u64> for Look {
     ghost state = { λ x. None };
 }
 
-// A step that adds an edit.
+// A step that adds an update.
 pub struct Add;
 
-// The edit, and the permit that takes the place of the one it is added by.
+// The update, and the permit that takes the place of the one that is spent.
 pub struct Turn {
     edit: Edit,
     next: Pen,
@@ -90,7 +90,7 @@ impl Plain<Turn, Entry, u64> for Add {
     ghost state = { λ turn. None };
 }
 
-// A new permit, by which nothing was added up to what is seen then.
+// A new permit, with which nothing was added in the book as it is seen then.
 fn take_permit(word: &Word<Entry, u64, Law>, seen: &mut Seen<Entry, u64, Law>) -> Pen
     requires { word.now ≡ head_of seen.old.book }
     ensures book { result.book ≡ seen.old.book }
@@ -105,7 +105,7 @@ fn take_permit(word: &Word<Entry, u64, Law>, seen: &mut Seen<Entry, u64, Law>) -
     pen
 }
 
-/// An empty history of edits, which has no name yet. It exists in the proofs alone, but for its length.
+/// An empty history of updates, which has no name yet. Apart from its length it exists only in the proofs.
 pub struct Opened {
     word: Word<Entry, u64, Law>,
     pen: Pen,
@@ -125,7 +125,7 @@ impl Model for Opened {
 }
 
 impl Opened {
-    /// A new history. Takes no memory.
+    /// A new history. Allocates no memory.
     pub fn new() -> Opened {
         let (mut seen, mut first, _second) = Seen::open(Start::alone(), 0, 0);
         let word = Word::tracked(0, &mut first);
@@ -152,7 +152,7 @@ impl Opened {
     }
 }
 
-/// A whole history, with the one permit to add to it. Contracts see it as its edits.
+/// A whole history, with the only permit to add to it. Contracts see it as its updates.
 #[derive(Drop)]
 pub struct Head<N: Naming> {
     edits: u64,
@@ -175,7 +175,7 @@ impl<N: Naming> Model for Head<N> {
     ghost invariant = { λ h. (h.edits ≡ length (edits_by N.history.permit h.seen.log)) × (h.word ≡ head_of N.history.book) × (h.pen.book ≡ N.history.book) × (h.seen.book ≡ N.history.book) × (h.pen.nib.right ≡ may_write) × (h.pen.nib.key ≡ permit_after N.history.permit h.seen.log) × (h.edits ≤ 2 ^ 62) };
 }
 
-/// A beginning of a history that was seen. Contracts see it as its edits.
+/// A prefix of a history that was seen. Contracts see it as its updates.
 #[derive(Drop)]
 pub struct HistoryPrefix<N: Naming> {
     edits: u64,
@@ -196,14 +196,14 @@ impl<N: Naming> Model for HistoryPrefix<N> {
 }
 
 impl<N: Naming> Head<N> {
-    /// How many edits it has.
+    /// How many updates it has.
     pub fn count(&self) -> u64
         ensures { result ≡ length self.now }
     {
         self.edits
     }
 
-    // All of its edits, as a prefix.
+    // All of its updates, as a prefix.
     fn prefix(&self) -> HistoryPrefix<N>
         ensures { result ≡ self.now }
     {
@@ -214,7 +214,7 @@ impl<N: Naming> Head<N> {
         }
     }
 
-    /// The same, which a prefix that is handed in begins: by its permit nobody else has added to the history.
+    /// All of its updates, as a prefix that extends the one that is passed: only the holder of the head's permit has added to the history.
     pub fn grown(&mut self, prefix: &HistoryPrefix<N>) -> HistoryPrefix<N>
         ensures all { result ≡ self.old }
         ensures begins { IsPrefix prefix.now self.old }
@@ -229,7 +229,7 @@ impl<N: Naming> Head<N> {
         self.prefix()
     }
 
-    /// Adds an edit, and spends its permit by that. Another takes its place.
+    /// Adds an update, and spends the permit for that. Another one takes its place.
     pub fn append(&mut self, edit: Edit)
         requires { length self.old < 2 ^ 62 }
         ensures { self.new ≡ self.old ++ edit ∷ [] }
@@ -250,7 +250,7 @@ impl<N: Naming> Head<N> {
 }
 
 impl<N: Naming> HistoryPrefix<N> {
-    /// How many edits it has seen.
+    /// How many updates it has seen.
     pub fn count(&self) -> u64
         ensures count { result ≡ length self.now }
         ensures few { result ≤ 2 ^ 62 }
@@ -269,7 +269,7 @@ impl<N: Naming> HistoryPrefix<N> {
         }
     }
 
-    /// Whether it begins another prefix: if it has seen no more than that.
+    /// Whether it is a prefix of another one, which it is if it has seen no more.
     pub fn begins(&self, other: &HistoryPrefix<N>) -> bool
         ensures { result ≡ true → IsPrefix self.now other.now }
     {
@@ -281,7 +281,7 @@ impl<N: Naming> HistoryPrefix<N> {
         true
     }
 
-    /// The longer of two prefixes, which the other begins.
+    /// The longer of two prefixes. Both are prefixes of the result.
     pub fn longer(&self, other: &HistoryPrefix<N>) -> HistoryPrefix<N>
         ensures one { (result ≡ self.now) ⊎ (result ≡ other.now) }
         ensures this { IsPrefix self.now result }

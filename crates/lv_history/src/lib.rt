@@ -1,8 +1,7 @@
 //! The history of a hub's updates, in the proofs: who may add an update, and which prefix of the list a thread has seen.
 //!
-//! A history is one list to which only its head adds (`Opened`, `Head`). A `HistoryPrefix` is a prefix of it that was seen. `Naming`
-//! says of which hub they are, and by which numbers its updates are told. Nothing of a history but its length exists when the program
-//! runs.
+//! A history is one list to which only its head adds (`Opened`, `Head`). A `HistoryPrefix` is a prefix of it that was seen. `Naming` says to
+//! which hub they belong, and by which numbers its updates are reported. When the program runs, only the length of a history exists.
 #![tactic(auto)]
 
 mod entries;

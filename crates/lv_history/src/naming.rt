@@ -1,4 +1,4 @@
-//! Which hub it is: its ledger, its limits, its history, the numbers that its edits are told by, and its body.
+//! Which hub it is: its ledger, its limits, its history, the numbering of its updates, and its monoid instance.
 ghost use Rattle.std.specs.Prelude.{Bool, None, Option, true};
 ghost use Rattle.lv_geometry.specs.Bounds.{Bounds};
 ghost use Rattle.lv_transcript.specs.declared.log_heading.LogHeading.{LogHeading};
@@ -8,15 +8,14 @@ ghost use Rattle.lv_history.specs.Numbering.{from_the_first};
 use std::marker::Brand;
 use std::sync::ledger::Ledger;
 
-/// Which hub it is: the ledger that counts its edits, its limits, the history of its edits, the numbers that they are told by, and whether
-/// its sessions list what they are answered. A program takes `Brand`, and says at
-/// the call for which hub it stands.
+/// Which hub it is: the ledger that counts its updates, its limits, the history of its updates, the numbers by which they are reported, and
+/// whether its sessions list what they are answered. A program takes `Brand`, and says at the call which hub that is.
 pub trait Naming: Ledger {
     // The limits of the hub's vector.
     ghost limits: { Bounds };
-    // The history of the hub's edits.
+    // The history of the hub's updates.
     ghost history: { Beginning };
-    // The numbers that its edits are told by.
+    // The numbers by which its updates are reported.
     ghost numbers: { LogHeading };
     // Whether its sessions list the reductions that they are answered, for a transcript.
     ghost lists: { Bool };
@@ -32,9 +31,9 @@ impl Naming for Brand {
     ghost lists = { true };
 }
 
-/// The same, with the body of the hub's vector.
+/// Which hub it is, with the monoid instance of its vector.
 pub trait WithBody<B>: Naming {
-    // The body of the hub's vector.
+    // The monoid instance of the hub's vector.
     ghost body: { Option B };
 }
 

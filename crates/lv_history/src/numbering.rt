@@ -1,10 +1,10 @@
-//! The numbers that edits are told by.
+//! The numbers by which updates are reported.
 ghost use Rattle.std.specs.Prelude.{◌≡◌, ◌≤◌, ◌^◌};
 ghost use Rattle.lv_history.specs.Numbering.{from_the_first, told_number};
 
 use lv_transcript::LogHeading;
 
-/// No log came before: each edit of the hub is told by its own number.
+/// No log came before: each update of the hub has its own number.
 pub fn from_the_first() -> LogHeading
     ensures { result ≡ from_the_first }
 {
@@ -14,7 +14,7 @@ pub fn from_the_first() -> LogHeading
     }
 }
 
-/// The number that an edit of the hub is told by.
+/// The number by which an update of the hub is reported.
 #[inline(always)]
 pub fn told_number(numbers: LogHeading, edit: u64) -> u64
     requires base { numbers.base ≤ 2 ^ 62 }

@@ -1,4 +1,4 @@
--- A session's step is one of the plain interpreter of scripts.
+-- A step of a session is a step of the reference interpreter of scripts.
 use Rattle.std.proofs.Common.{◌≡◌, ◌↔◌, ℕ, ◌+◌, Option, Some, None, List, [], ◌∷◌, ◌++◌, refl, sym, ap, ◌∙◌, inl, inr, append-nil, arith, length}
 use Rattle.std.specs.Option.{option_map_or}
 use Rattle.std.proofs.lemmas.List.{length-append}
@@ -21,19 +21,19 @@ use Rattle.lv_history.specs.Numbering.{from_the_first, told_number}
 use Rattle.lv_hub.specs.PlainSession.{FindsNoMemory, PlainSessionStep, Seen, known_of, seen_after, session_reply}
 use Rattle.lv_hub.specs.AsScripts.{ScriptedStep, WantsMemory, made_since, plain_at}
 
--- what is kept after an edit, by what refuses it
+-- what the session has seen and made after an update, given why it is refused, if it is
 abbrev kept_after : Seen → List Edit → Edit → Option Refusal → Seen
 kept_after old edits e o = option_map_or (λ refusal. record old { edits = edits }) o record { edits = edits ++ e ∷ []; made = old.made + 1 }
 
--- nothing was made where what is kept was there
+-- nothing was made if the interpreter keeps the updates that there were
 none_made : (old : Seen) (edits : List Edit) → made_since old edits edits ≡ record { edits = edits; made = old.made }
 none_made old edits = ap (λ made. record { edits = edits; made = made }) (omega arith)
 
--- an edit more was
+-- one update was made if it keeps one more
 one_made : (old : Seen) (edits : List Edit) (e : Edit) → made_since old edits (edits ++ e ∷ []) ≡ record { edits = edits ++ e ∷ []; made = old.made + 1 }
 one_made old edits e = ap (λ made. record { edits = edits ++ e ∷ []; made = made }) (omega (arith, length-append edits (e ∷ [])))
 
--- where no log came before, each edit is told by its own number
+-- if no log came before, each update has its own number
 own_number : (n : ℕ) → told_number from_the_first n ≡ n
 own_number n = omega arith
 
@@ -47,11 +47,11 @@ own_receipt edits (Swap i j) = refl
 own_receipt edits (Truncate n) = refl
 
 module _ (limits : Bounds) (edits : List Edit) where
-  -- the interpreter there
+  -- the interpreter after these updates
   abbrev there : Plain
   there = plain_at limits edits
 
-  -- the replies are the same
+  -- the replies of both are equal
   command_reply : (n : ℕ) (c : Command) → session_reply limits from_the_first edits n (known_of (Do c)) ≡ plain_reply vector_script [] there n (known_of (Do c))
   command_reply n (command.Edit e) =
       ap (option_map_or refused_text (verdict_of limits edits e))
@@ -67,7 +67,7 @@ module _ (limits : Bounds) (edits : List Edit) where
   reply_is n Bad = refl
   reply_is n (Do c) = command_reply n c
 
-  -- so is what is kept
+  -- what the session has seen and made is that of the model
   edit_kept : (old : Seen) (e : Edit) (o : Option Refusal) → made_since old edits (option_map_or (λ refusal. there) o (after there (command.Edit e))).edits ≡ kept_after old edits e o
   edit_kept old e (Some refusal) = none_made old edits
   edit_kept old e None = one_made old edits e
@@ -87,7 +87,7 @@ module _ (limits : Bounds) (edits : List Edit) where
   kept_is old Bad = none_made old edits
   kept_is old (Do c) = command_kept old c
 
-  -- so is where memory may be wanting
+  -- the model and the interpreter agree on when the reply is `NoMemory`
   command_wants : (c : Command) (text : List ℕ) → FindsNoMemory limits edits (known_of (Do c)) text ↔ WantsMemory there (known_of (Do c)) text
   command_wants (command.Edit e) text = (λ f. f, λ f. f)
   command_wants (command.Reduce kind lo hi) text = (λ f. f, λ f. f)
@@ -99,7 +99,7 @@ module _ (limits : Bounds) (edits : List Edit) where
   wants_is Bad text = (λ f. f, λ f. f)
   wants_is (Do c) text = command_wants c text
 
--- what a session is answered is what the interpreter of scripts answers
+-- each reply of a session is one of the interpreter of scripts
 scripted : (limits : Bounds) (old : Seen) (n : ℕ) (line text : List ℕ) (new : Seen) → PlainSessionStep limits from_the_first old n line text new → ScriptedStep limits old n line text new
 scripted limits old n line text new step = record {
   before = step.before;
@@ -110,7 +110,7 @@ scripted limits old n line text new step = record {
   ];
 }
 
--- and the other way round
+-- and conversely
 unscripted : (limits : Bounds) (old : Seen) (n : ℕ) (line text : List ℕ) (new : Seen) → ScriptedStep limits old n line text new → PlainSessionStep limits from_the_first old n line text new
 unscripted limits old n line text new step = record {
   before = step.before;

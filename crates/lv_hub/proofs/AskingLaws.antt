@@ -1,4 +1,4 @@
--- What was read of a subscriber's file.
+-- The questions that were read from a subscriber's file.
 use Rattle.std.proofs.Common.{ℕ, Option, Result, Ok, Err, List, subst}
 use Rattle.std.specs.Prelude.{Vec}
 use Rattle.lv_standing.specs.declared.queries.Query.{Query}
@@ -7,7 +7,7 @@ use Rattle.lv_hub.specs.declared.questions.Damage as damages
 use Rattle.lv_hub.specs.declared.questions.Unasked.{Unasked}
 use Rattle.lv_hub.specs.declared.questions.Unasked.TheVariants.{Damage, Fault}
 
--- what is found of it
+-- the result of reading
 pub read_so : {Z : Type 0} (old new : Option (List ℕ)) (asked : Asked) (result : Result (Vec Query Z) Unasked) → Finds asked result → AsksAll {T = Unit {0}} old new asked (Ok tt) → ReadsQuestions old new result
 read_so old new asked (Ok questions) found all = subst (λ (asked : Asked). AsksAll {T = Unit {0}} old new asked (Ok tt)) found all
 read_so old new asked (Err (Damage damage)) found all =

@@ -1,4 +1,4 @@
--- What the calls of a desk tell of its hub, by what its vector answers.
+-- What the results of a desk's calls say of its hub, given the results of its vector.
 use Rattle.std.proofs.Common.{◌≡◌, ◌⊎◌, ℕ, ◌≤◌, Option, Some, None, Result, Ok, Err, IfOk, IfErr, IfSome, option_map, List, [], ◌∷◌, ◌++◌, All, length, map, refl, sym, ap, subst, ◌∙◌, inl, inr, arith}
 use Rattle.std.specs.Prelude.{if◌then◌else◌, nat_lt}
 use Rattle.std.specs.List.{slice_range}
@@ -34,7 +34,7 @@ use Rattle.lv_hub.proofs.RenewalLaws.{EditStands, HasEditsLeft, stands_alone, ve
 
 -- ---- edits
 
--- more open cells make no other work
+-- a greater capacity in a receipt makes no other work
 pub same_work : (least : ℕ) (receipt : Receipt) → makes_work (Ok (receipt_with least receipt)) ≡ makes_work (Ok receipt)
 same_work least (Pushed edit index) = refl
 same_work least (Popped edit value) = refl
@@ -43,7 +43,7 @@ same_work least (Reserved edit capacity) = refl
 same_work least (Swapped edit first second) = refl
 same_work least (Truncated edit dropped) = refl
 
--- an edit that was accepted is answered as the hub's
+-- an update that the vector accepts is accepted in the hub, with the hub's number
 pub accepts_told : (limits : Bounds) (renewed capacity : ℕ) (edits more : List Edit) (e : Edit) (receipt told : Receipt) (new : History) → EditStands limits renewed capacity edits e receipt new → more ≡ edits ++ e ∷ [] → told ≡ receipt_with capacity receipt
     → Accepts (history_of limits edits) e (numbered (length more) told) (history_of limits more)
 accepts_told limits renewed capacity edits more e receipt told new made is tells = record {
@@ -57,7 +57,7 @@ pub number_told : (limits : Bounds) (renewed capacity : ℕ) (edits more : List 
 number_told limits renewed capacity edits more e receipt told new made is tells one =
     tells ∙ made.number one ∙ sym (ap (λ n. numbered n told) (ap length is) ∙ ap (numbered (length (edits ++ e ∷ []))) tells)
 
--- one that was refused is refused as the hub's
+-- an update that the vector refuses is refused in the hub
 pub refuses_told : (most : ℕ) (limits : Bounds) (renewed capacity : ℕ) (edits : List Edit) (old : History) (e : Edit) (refusal : Refusal) → most ≤ 16777215 → StandsFor limits renewed capacity edits old → HasEditsLeft most limits edits old → IsRefusal (verdict_of old.limits old.journal e) refusal
     → IsRefusal (verdict_of limits edits e) refusal
 refuses_told most limits renewed capacity edits old e refusal few stands left verdict =
@@ -70,11 +70,11 @@ refused_answer limits edits after e refusal result verdict is same =
 
 -- ---- values
 
--- lists that are alike refuse the same ranges
+-- two lists of updates with the same elements refuse the same ranges
 pub range_alike : (es fs : List Edit) (lo hi : ℕ) → list_of es ≡ list_of fs → range_refusal es lo hi ≡ range_refusal fs lo hi
 range_alike es fs lo hi same = ap (λ xs. if nat_lt hi lo then Some BadRange else (if nat_lt (length xs) hi then Some (OutOfRange (length xs)) else None)) same
 
--- and have the same values
+-- they have the same values
 value_alike : (es fs : List Edit) (kind : Kind) (lo hi : ℕ) (answered : Answered) → list_of es ≡ list_of fs → IsValue es kind lo hi answered → IsValue fs kind lo hi (valued_at (length fs) answered)
 value_alike es fs kind lo hi answered same is = record {
   granted = sym (range_alike es fs lo hi same) ∙ is.granted;
@@ -90,18 +90,18 @@ pub refused_values_alike : (es fs : List Edit) (lo hi : ℕ) (result : Result An
 refused_values_alike es fs lo hi (Ok answered) same is = tt
 refused_values_alike es fs lo hi (Err refusal) same is = sym (range_alike es fs lo hi same) ∙ is
 
--- the number of a value is the hub's where its vector has as many edits
+-- the number of a value is the hub's if its vector has as many updates
 pub value_number : (es fs : List Edit) (kind : Kind) (lo hi : ℕ) (result : Result Answered Refusal) → length es ≡ length fs → IfOk result (λ answered. IsValue es kind lo hi answered) → IfOk result (λ answered. answered.edit ≡ length fs)
 value_number es fs kind lo hi (Ok answered) same is = is.edit ∙ same
 value_number es fs kind lo hi (Err refusal) same is = tt
 
--- as that of a hub which is never made anew
+-- the vector of a hub that is never made anew has as many updates
 pub as_many_edits : (limits : Bounds) (renewed capacity : ℕ) (edits : List Edit) (h : History) → StandsFor limits renewed capacity edits h → IsOfOneVector limits → length h.journal ≡ length edits
 as_many_edits limits renewed capacity edits h stands one = ap (λ h. length h.journal) (stands_alone limits renewed capacity edits h stands one)
 
 -- ---- what came for a log
 
--- what was handed over came since the edit of the hub's vector
+-- what was handed over came since that number of the vector's updates
 pub came_after : (from : Option ℕ) (renewed given : ℕ) (result : Option Came) (journal edits : List Edit) (entries : List LogEntry) → result ≡ option_map (λ from. record { from = from; renewed = renewed; given = given }) from → journal ≡ renewed_after renewed edits
     → IfSome from (λ from. CameSince journal from (map entry_of entries)) → IfSome result (λ came. CameSince (renewed_after came.renewed edits) came.from (map entry_of entries))
 came_after None renewed given result journal edits entries is journal_is came =
@@ -120,7 +120,7 @@ renewed_before (Some from) renewed given result edits is some = subst (λ (o : O
 all_granted : (es : List Edit) (n : ℕ) → n ≡ length (list_of es) → range_refusal es 0 n ≡ None
 all_granted es n all = cond-false _ _ _ (le-ltb n 0 (omega arith)) ∙ cond-false _ _ _ (le-ltb (length (list_of es)) n (omega (arith, all)))
 
--- the copy of all elements has the hub's
+-- the copy of all elements has the elements of the hub
 pub copied_all : {B : Type 0} (es fs : List Edit) (n : ℕ) (result : Result (StretchState B) Refusal) → n ≡ length (list_of es) → list_of es ≡ list_of fs → IfOk result (λ stretch. IsStretch es 0 n stretch) → IfOk result (λ copied. copied.elements ≡ list_of fs)
 copied_all es fs n (Ok stretch) all same is = is.elements ∙ ap (slice_range (list_of es) 0) all ∙ slice_range-whole (list_of es) ∙ same
 copied_all es fs n (Err refusal) all same is = tt
@@ -141,6 +141,6 @@ pub copy_refused : {B : Type 0} (es : List Edit) (n : ℕ) (result : Result (Str
 copy_refused es n (Ok stretch) all is = tt
 copy_refused es n (Err refusal) all is = inr (no_memory (range_refusal es 0 n) refusal (all_granted es n all) is)
 
--- a beginning of a list that is as long is the list
+-- a prefix of a list that is as long as the list is the list
 pub same_as_all : (seen edits : List Edit) (n m : ℕ) → IsPrefix seen edits → n ≡ length seen → m ≡ length edits → n ≡ m → seen ≡ edits
 same_as_all seen edits n m begins one other same = prefix_whole seen edits begins (omega (arith, one, other, same))

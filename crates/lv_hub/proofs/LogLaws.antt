@@ -1,4 +1,4 @@
--- What a log is given is true in the order of time.
+-- The entries that a log is given are true in the order of time.
 use Rattle.std.proofs.Common.{◌≡◌, ◌⊎◌, ℕ, ℤ, ◌+◌, ◌-◌, ◌^◌, ◌≤◌, Bool, false, true, is_some, Option, Some, None, Result, Ok, Err, IfSome, option_map, List, [], ◌∷◌, ◌++◌, All, length, map, take, drop, refl, sym, ap, ◌∙◌, subst, inl, inr, arith, append_assoc, append-nil, take-append-drop}
 use Rattle.std.proofs.lemmas.List.{drop-append-le, length-append, length-drop, length-map, length_push, map-append, take-append-le, take_all}
 use Rattle.std.proofs.lemmas.Grind.{flat_map-append}
@@ -35,26 +35,26 @@ use Rattle.lv_hub.proofs.RenewalLaws.{renewed_never, renewed_prefix}
 
 -- ---- entries
 
--- the edits among entries, and others behind them
+-- the updates among two lists of entries, one after the other
 pub edits_in_both : (first second : List Entry) → edits_in (first ++ second) ≡ edits_in first ++ edits_in second
 edits_in_both [] second = refl
 edits_in_both (inl e ∷ first) second = ap (λ (es : List Edit). e ∷ es) (edits_in_both first second)
 edits_in_both (inr answer ∷ first) second = edits_in_both first second
 
--- the last answer among entries, and others behind them
+-- the last answer among two lists of entries, one after the other
 pub last_of_both : (last : ℕ) (first second : List Entry) → last_after last (first ++ second) ≡ last_after (last_after last first) second
 last_of_both last [] second = refl
 last_of_both last (inl e ∷ first) second = last_of_both last first second
 last_of_both last (inr answer ∷ first) second = last_of_both answer.edit first second
 
--- what is true behind true entries is true with them
+-- entries that are true after true entries are true together with these
 pub true_both : (before : List Edit) (last : ℕ) (first second : List Entry) → AreTrueAfter before last first → AreTrueAfter (before ++ edits_in first) (last_after last first) second → AreTrueAfter before last (first ++ second)
 true_both before last [] second holds later = subst (λ (es : List Edit). AreTrueAfter es last second) (append-nil before) later
 true_both before last (inl e ∷ first) second holds later =
     (holds.0, holds.1, true_both (before ++ e ∷ []) last first second holds.2 (subst (λ (es : List Edit). AreTrueAfter es (last_after last first) second) (sym (append_assoc before (e ∷ []) (edits_in first))) later))
 true_both before last (inr answer ∷ first) second holds later = (holds.0, holds.1, true_both before answer.edit first second holds.2 later)
 
--- what is true behind an answer is true behind one that is no later
+-- entries that are true after an answer are also true after one of an earlier version
 pub true_sooner : (before : List Edit) (last sooner : ℕ) (entries : List Entry) → sooner ≤ last → AreTrueAfter before last entries → AreTrueAfter before sooner entries
 true_sooner before last sooner [] le holds = tt
 true_sooner before last sooner (inl e ∷ entries) le holds = (holds.0, holds.1, true_sooner (before ++ e ∷ []) last sooner entries le holds.2)
@@ -65,7 +65,7 @@ last_sooner last sooner [] le = le
 last_sooner last sooner (inl e ∷ entries) le = last_sooner last sooner entries le
 last_sooner last sooner (inr answer ∷ entries) le = omega arith
 
--- edits that are accepted behind the first
+-- the updates after the first ones are accepted after these
 accepted_later : (before first rest : List Edit) → AreAcceptedAfter greatest before (first ++ rest) → AreAcceptedAfter greatest (before ++ first) rest
 accepted_later before [] rest accepted = subst (λ (es : List Edit). AreAcceptedAfter greatest es rest) (sym (append-nil before)) accepted
 accepted_later before (e ∷ first) rest accepted =
@@ -77,11 +77,11 @@ accepted_later before (e ∷ first) rest accepted =
 pub all_edits : (journal : List Edit) (from : ℕ) (entries : List Entry) → CameSince journal from entries → take from journal ++ edits_in entries ≡ journal
 all_edits journal from entries came = ap (λ (es : List Edit). take from journal ++ es) came.edits_are ∙ take-append-drop from journal
 
--- nothing
+-- nothing came
 came_none : (journal : List Edit) → CameSince journal (length journal) []
 came_none journal = record { within = omega arith; edits_are = sym (drop-length journal); all_true = tt; in_time = omega arith }
 
--- an edit more
+-- one more update came
 came_edit : (journal : List Edit) (from : ℕ) (entries : List Entry) (e : Edit) → CarriesElement e → AreAccepted greatest (journal ++ e ∷ []) → CameSince journal from entries → CameSince (journal ++ e ∷ []) from (entries ++ inl e ∷ [])
 came_edit journal from entries e element accepted came =
     let same : take from (journal ++ e ∷ []) ≡ take from journal = take-append-le from journal (e ∷ []) came.within in
@@ -96,7 +96,7 @@ came_edit journal from entries e element accepted came =
       in_time = omega (arith, came.in_time, last_of_both from entries (inl e ∷ []), length_push journal e);
     }
 
--- an answer more, at the last edit
+-- one more answer came, at the last version
 came_answer : (journal : List Edit) (from : ℕ) (entries : List Entry) (answer : Claimed) → IsTrueAnswer journal answer → answer.edit ≡ length journal → CameSince journal from entries → CameSince journal from (entries ++ inr answer ∷ [])
 came_answer journal from entries answer holds now came = record {
   within = came.within;
@@ -107,41 +107,41 @@ came_answer journal from entries answer holds now came = record {
   in_time = omega (arith, now, last_of_both from entries (inr answer ∷ []));
 }
 
--- a tap takes up an edit
+-- a tap takes in an update
 pub taps_edit : (tap : Option TapState) (journal : List Edit) (e : Edit) → IfSome tap (λ _. CarriesElement e) → AreAccepted greatest (journal ++ e ∷ []) → IfSome tap (Taps journal) → IfSome (option_map (with_entry (logged.Edit e)) tap) (Taps (journal ++ e ∷ []))
 taps_edit None journal e element accepted taps = tt
 taps_edit (Some t) journal e element accepted taps =
     subst (CameSince (journal ++ e ∷ []) t.from) (sym (map-append entry_of t.entries (logged.Edit e ∷ []))) (came_edit journal t.from (map entry_of t.entries) e element accepted taps)
 
--- it takes up an answer
+-- it takes in an answer
 pub taps_answer : (tap : Option TapState) (journal : List Edit) (answer : Claimed) → IsTrueAnswer journal answer → answer.edit ≡ length journal → IfSome tap (Taps journal) → IfSome (option_map (with_entry (logged.Answer answer)) tap) (Taps journal)
 taps_answer None journal answer holds now taps = tt
 taps_answer (Some t) journal answer holds now taps =
     subst (CameSince journal t.from) (sym (map-append entry_of t.entries (logged.Answer answer ∷ []))) (came_answer journal t.from (map entry_of t.entries) answer holds now taps)
 
--- a tap without entries, from the last edit on
+-- a tap without entries, from the last version on
 pub taps_none : (tap : Option TapState) (journal : List Edit) (edits : ℕ) → edits ≡ length journal → IfSome tap (λ t. t ≡ record { from = edits; entries = []; room = t.room; given = t.given }) → IfSome tap (Taps journal)
 taps_none None journal edits last none = tt
 taps_none (Some t) journal edits last none =
     subst (Taps journal) (sym none) (subst (λ (n : ℕ). CameSince journal n []) (sym last) (came_none journal))
 
--- what a tap handed over came since its edit
+-- what a tap handed over came since its version
 pub came_by : (tap : Option TapState) (journal : List Edit) (entries : List LogEntry) (result : Option ℕ) → result ≡ option_map (λ t. t.from) tap → IfSome tap (λ t. entries ≡ t.entries) → IfSome tap (Taps journal) → IfSome result (λ from. CameSince journal from (map entry_of entries))
 came_by None journal entries result is same taps = subst (λ (o : Option ℕ). IfSome o (λ from. CameSince journal from (map entry_of entries))) (sym is) tt
 came_by (Some t) journal entries result is same taps =
     subst (λ (o : Option ℕ). IfSome o (λ from. CameSince journal from (map entry_of entries))) (sym is)
     (subst (λ (es : List LogEntry). CameSince journal t.from (map entry_of es)) (sym same) taps)
 
--- ---- what goes on behind a log
+-- ---- what continues a log
 
--- no answer among true entries is of a later edit than the last of them
+-- no answer among true entries has a later version than the last one
 last_within : (before : List Edit) (last : ℕ) (entries : List Entry) → last ≤ length before → AreTrueAfter before last entries → last_after last entries ≤ length (before ++ edits_in entries)
 last_within before last [] le holds = omega (arith, le, ap length (append-nil before))
 last_within before last (inl e ∷ entries) le holds =
     omega (arith, last_within (before ++ e ∷ []) last entries (omega (arith, le, length_push before e)) holds.2, ap length (append_assoc before (e ∷ []) (edits_in entries)))
 last_within before last (inr answer ∷ entries) le holds = last_within before answer.edit entries holds.1.edit holds.2
 
--- what is true behind the edits of a log is true of it
+-- what is true after the updates of a log is true as a whole
 true_behind : (log : Option LogThere) (entries : List Entry) → MayGoOn log → AreTrueAfter (edits_there log) (length (edits_there log)) entries → AreTrueOf (heading_of log) (all_entries (there_of log) entries)
 true_behind None entries goes holds = holds
 true_behind (Some log) entries goes holds =
@@ -152,13 +152,13 @@ true_behind (Some log) entries goes holds =
       pushes = subst (All IsPush) (sym (take-append-le log.heading.elements log.entries entries goes.elements)) goes.all_true.pushes;
     }
 
--- the text of entries behind that of others is that of both
+-- the text of entries after the text of others is the text of both
 text_of_both : (heading : Option LogHeading) (there entries : List Entry) → front_bytes_of heading there ++ ended (map entry_line entries) ≡ front_bytes_of heading (there ++ entries)
 text_of_both heading there entries =
     sym (flat_map-append (λ line. line ++ 10 ∷ []) (heading_line heading ∷ map entry_line there) (map entry_line entries))
     ∙ ap (λ (lines : List (List ℕ)). ended (heading_line heading ∷ lines)) (sym (map-append entry_line there entries))
 
--- so a sound log stays one
+-- a valid log remains one
 pub stays_a_log : (heading : LogHeading) (there entries : List Entry) (edits : List Edit) → IsWholeFront (Some heading) (front_bytes_of (Some heading) there) there → edits ≡ edits_in there → AreTrueAfter edits (length edits) entries
     → IsWholeFront (Some heading) (front_bytes_of (Some heading) there ++ ended (map entry_line entries)) (there ++ entries)
 stays_a_log heading there entries edits sound same holds =
@@ -171,7 +171,7 @@ stays_a_log heading there entries edits sound same holds =
 
 -- ---- the log
 
--- the beginning of a list, taken
+-- the prefix of a list, taken by its length
 pub take_begin : (xs ys : List Edit) → IsPrefix xs ys → take (length xs) ys ≡ xs
 take_begin xs ys more =
     ap (take (length xs)) (sym more.1) ∙ take-append-le (length xs) xs more.0 (omega arith) ∙ take_length xs
@@ -180,7 +180,7 @@ take_begin xs ys more =
     take_length [] = refl
     take_length (x ∷ xs) = ap (λ (es : List Edit). x ∷ es) (take_length xs)
 
--- where nothing is held, and no write has failed, a text was written
+-- if nothing is buffered, and no write has failed, the text was written
 pub all_written : (start : Option (List ℕ)) (s : WritingState) (text : List ℕ) → s.failed ≡ false → s.held ≡ [] → WroteOrHolds s.failed start s.contents s.held text → Appends start s.contents text
 all_written start s text fine none wrote =
     Writes-all start s.contents text (subst (λ (held : List ℕ). Writes start [] s.contents held text) none (sent s.failed fine wrote))
@@ -189,7 +189,7 @@ all_written start s text fine none wrote =
     sent failed ok wrote = rw ok at wrote
 
 module _ (log : Option LogThere) (start : Option (List ℕ)) where
-  -- of a hub that has the edits that were there
+  -- the log of a hub that has the updates that were there
   unfoldable pub log_begins : (written : WritingState) (seen : List Edit) (taken : ℕ) → MayGoOn log → seen ≡ edits_there log → WasGivenOf (heading_of log) (there_of log) start [] written → IsLogOf log start record { written = written; seen = seen; taken = taken }
   log_begins written seen taken goes same given = record {
     entries = [];
@@ -200,7 +200,7 @@ module _ (log : Option LogThere) (start : Option (List ℕ)) where
     in_time = omega (arith, ap length same);
   }
 
-  -- what came since was given
+  -- what came since was given to the log
   unfoldable pub log_more : (s : LogState) (journal : List Edit) (entries : List Entry) (written : WritingState) (taken : ℕ) → IsLogOf log start s → IsPrefix s.seen journal → CameSince journal (length s.seen) entries → Adds s.written entries written → IsLogOf log start record { written = written; seen = journal; taken = taken }
   log_more s journal entries written taken was more came gives =
       let there : List Edit = edits_there log in
@@ -219,7 +219,7 @@ module _ (log : Option LogThere) (start : Option (List ℕ)) where
         in_time = omega (arith, ap (λ (n : ℕ). n) (last_of_both (length there) was.entries entries), last_sooner (length s.seen) (last_after (length there) was.entries) entries was.in_time, came.in_time);
       }
 
-  -- what is held was written, or that failed
+  -- what was buffered is written, or the write failed
   unfoldable pub log_rests : (s : LogState) (written : WritingState) → IsLogOf log start s → Adds s.written [] written → IsLogOf log start record s { written = written }
   log_rests s written was rests = record {
     entries = was.entries;
@@ -230,7 +230,7 @@ module _ (log : Option LogThere) (start : Option (List ℕ)) where
     in_time = was.in_time;
   }
 
-  -- what a log has written is a front
+  -- what a log has written is a prefix
   pub log_front : (s : LogState) → IsLogOf log start s → HasFront log start s.written.contents s.seen
   log_front s was = record {
     entries = was.entries;
@@ -238,7 +238,7 @@ module _ (log : Option LogThere) (start : Option (List ℕ)) where
     got = was.given.front (true_behind log was.entries was.goes_on was.all_true);
   }
 
-  -- where nothing is held and no write has failed, all that it was given is written
+  -- if nothing is buffered and no write has failed, all that the log was given is written
   unfoldable pub log_all : (s : LogState) → s.written.failed ≡ false → s.written.held ≡ [] → IsLogOf log start s → HasAll log start s.written.contents s.seen
   log_all s fine none was = record {
     entries = was.entries;
@@ -248,19 +248,19 @@ module _ (log : Option LogThere) (start : Option (List ℕ)) where
 
 -- ---- its end
 
--- a transcript has its last line then
+-- a transcript then has its last line
 ends_transcript : (start contents : Option (List ℕ)) (entries : List Entry) (result : Result Unit Fault) → EndsWhole start contents entries result → EndsText None start contents entries result
 ends_transcript start contents entries (Ok u) ends = ends
 ends_transcript start contents entries (Err fault) ends = ends.1
 
--- what goes on behind a log ends where all that was held is written
+-- what continues a log is complete once all that was buffered is written
 ends_log : (log : LogThere) (start : Option (List ℕ)) (s : WritingState) (entries : List Entry) → s.failed ≡ false → s.held ≡ [] → WasGivenOf (Some log.heading) (Some log.entries) start entries s → EndsText (Some log) start s.contents entries (Ok tt)
 ends_log log start s entries fine none given = (
   all_written start s (ended (map entry_line entries)) fine none given.text,
   λ holds. subst (λ (bytes : List ℕ). IsFrontOf (Some log.heading) bytes (log.entries ++ entries)) (sym (text_of_both (Some log.heading) log.entries entries)) (entry_lines_front (Some log.heading) (log.entries ++ entries) holds),
 )
 
--- what was given before the last write was given after it
+-- what was given before the last write is still given after it
 given_still : (log : Option LogThere) (start : Option (List ℕ)) (entries : List Entry) (old new : WritingState) → Adds old [] new → WasGivenOf (heading_of log) (there_of log) start entries old → WasGivenOf (heading_of log) (there_of log) start entries new
 given_still log start entries old new rests given =
     subst (λ (es : List Entry). WasGivenOf (heading_of log) (there_of log) start es new) (append-nil entries) (rests (heading_of log) (there_of log) start entries given)
@@ -273,7 +273,7 @@ pub log_unfinished : (old new : WritingState) → Adds old [] new → (log : Log
     → WasGivenOf (Some log.heading) (Some log.entries) start entries old → EndsText (Some log) start new.contents entries (Err WriteFault)
 log_unfinished old new rests log start entries given = (given_still (Some log) start entries old new rests given).front
 
--- which of the two it is
+-- the end of a log, and that of a transcript
 pub finished_log : (is_log : Bool) (old : WritingState) (contents : Option (List ℕ)) (result : Result Unit Fault) → is_log ≡ true
     → ((log : LogThere) (start : Option (List ℕ)) (entries : List Entry) → WasGivenOf (Some log.heading) (Some log.entries) start entries old → EndsText (Some log) start contents entries result)
     → (log : Option LogThere) (start : Option (List ℕ)) (entries : List Entry) → is_log ≡ is_some log → WasGivenOf (heading_of log) (there_of log) start entries old → EndsText log start contents entries result
@@ -286,7 +286,7 @@ pub finished_transcript : (is_log : Bool) (old : WritingState) (contents : Optio
 finished_transcript is_log old contents result so ends None start entries same given = ends_transcript start contents entries result (ends start entries given)
 finished_transcript is_log old contents result so ends (Some log) start entries same given = absurd (cc (so, same))
 
--- what writes either, and was given nothing
+-- a writer of either, which was given nothing
 pub unused_log : (is_log : Bool) → is_log ≡ true → (s : WriterState) → GoesOn s → (log : Option LogThere) → is_log ≡ is_some log → IsUnusedOf (heading_of log) (there_of log) s
 unused_log is_log so s goes None same = absurd (cc (so, same))
 unused_log is_log so s goes (Some log) same = goes (Some log.heading) log.entries
@@ -295,7 +295,7 @@ pub unused_transcript : (is_log : Bool) → is_log ≡ false → (s : WriterStat
 unused_transcript is_log so s unused None same = unused
 unused_transcript is_log so s unused (Some log) same = absurd (cc (so, same))
 
--- how a log ends that has all edits, or not all
+-- the end of a log that has all updates, or that hasn't
 ended_so : (log : Option LogThere) (start contents : Option (List ℕ)) (s : LogState) (journal : List Edit) (result : Result Unit Fault) (was : IsLogOf log start s) → s.seen ≡ journal → EndsText log start contents was.entries result → LogEnds log start contents journal result
 ended_so log start contents s journal (Ok u) was all ends = record {
   entries = was.entries;
@@ -314,13 +314,13 @@ pub log_ends : (log : Option LogThere) (start : Option (List ℕ)) (s : LogState
     → ((entries : List Entry) → WasGivenOf (heading_of log) (there_of log) start entries s.written → EndsText log start contents entries result) → LogEnds log start contents journal result
 log_ends log start s journal contents result was begins all ends = ended_so log start contents s journal result was (prefix_whole s.seen journal begins (omega (arith, all))) (ends was.entries was.given)
 
--- what was written at an end is a front
+-- what was written at the end is a prefix
 got_at_end : (log : Option LogThere) (start contents : Option (List ℕ)) (entries : List Entry) (result : Result Unit Fault) → AreTrueOf (heading_of log) (all_entries (there_of log) entries) → EndsText log start contents entries result → GotFrontOf (heading_of log) (there_of log) start contents entries
 got_at_end None start contents entries (Ok u) holds ends = record { bytes = _; got = ends.0; some = entries; first = prefix_self entries; front = ends.1 holds }
 got_at_end (Some log) start contents entries (Ok u) holds ends = record { bytes = _; got = ends.0; some = entries; first = prefix_self entries; front = ends.1 holds }
 got_at_end log start contents entries (Err fault) holds ends = ends holds
 
--- how one ends that hasn't
+-- the end of a log that hasn't all updates
 pub log_ends_short : (log : Option LogThere) (start : Option (List ℕ)) (s : LogState) (journal : List Edit) (contents : Option (List ℕ)) (result : Result Unit Fault) → IsLogOf log start s → IsPrefix s.seen journal
     → ((entries : List Entry) → WasGivenOf (heading_of log) (there_of log) start entries s.written → EndsText log start contents entries result) → HasFront log start contents journal
 log_ends_short log start s journal contents result was begins ends = record {
@@ -331,12 +331,12 @@ log_ends_short log start s journal contents result was begins ends = record {
 
 -- ---- a vector that was made anew
 
--- how many it has
+-- how many updates it has
 pub renewed_length : (n : ℕ) (edits : List Edit) → length (renewed_after n edits) ≡ length (list_of (take n edits)) + (length edits - n)
 renewed_length n edits =
     omega (arith, length-append (map Push (list_of (take n edits))) (drop n edits), length-map (list_of (take n edits)) Push, length-drop n edits)
 
--- it was made anew after all edits
+-- it was made anew after all updates
 renewed_all : (edits : List Edit) → renewed_after (length edits) edits ≡ map Push (list_of (take (length edits) edits))
 renewed_all edits = ap (λ (es : List Edit). map Push (list_of (take (length edits) edits)) ++ es) (drop-length edits) ∙ append-nil (map Push (list_of (take (length edits) edits)))
 
@@ -351,7 +351,7 @@ edits_in_pushes : (elements : List ℤ) → edits_in (pushes_of_elements element
 edits_in_pushes [] = refl
 edits_in_pushes (x ∷ elements) = ap (λ (es : List Edit). Push x ∷ es) (edits_in_pushes elements)
 
--- how the file begins that comes after all edits
+-- the first line of the file that begins after all updates
 abbrev heading_by : ℕ → ℕ → LogHeading
 heading_by base elements = record { base = base; elements = elements }
 
@@ -367,7 +367,7 @@ pub count_of_all : (numbers heading : LogHeading) (edits : List Edit) (elements 
 count_of_all numbers heading edits elements is list = ap (λ (h : LogHeading). h.elements) is ∙ ap length (ap list_of (take_all (length edits) edits (omega arith)) ∙ sym list)
 
 module _ (made : Option (List ℕ)) (limits : Bounds) (numbers : LogHeading) (log : Option LogThere) (start : Option (List ℕ)) where
-  -- which file it is, from the edits after which the vector was made anew
+  -- which file it is, given the number of updates after which the vector was made anew
   abbrev Which : ℕ → Option LogThere → Option (List ℕ) → ℕ → List Edit → Type 0
   Which renewed there begun earlier taken =
       ((renewed ≡ 0) × (there ≡ log) × (begun ≡ start) × (earlier ≡ 0))
@@ -375,7 +375,7 @@ module _ (made : Option (List ℕ)) (limits : Bounds) (numbers : LogHeading) (lo
       × (there ≡ Some (log_of_edits record { base = told_number numbers renewed; elements = length (list_of taken) } (map Push (list_of taken))))
       × HasLog made record { base = told_number numbers renewed; elements = length (list_of taken) } (list_of taken) begun)
 
-  -- it stays the same while edits come
+  -- it is the same file after further updates
   file_more : (seen edits : List Edit) → IsPrefix seen edits → LogFile made limits numbers log start seen → LogFile made limits numbers log start edits
   file_more seen edits more file = record {
     renewed = file.renewed;
@@ -389,7 +389,7 @@ module _ (made : Option (List ℕ)) (limits : Bounds) (numbers : LogHeading) (lo
       same_taken : (n : ℕ) (seen edits : List Edit) → n ≤ length seen → IsPrefix seen edits → take n edits ≡ take n seen
       same_taken n seen edits le more = ap (take n) (sym more.1) ∙ take-append-le n seen more.0 le
 
-  -- the first one begins
+  -- the first file begins
   pub in_file_begins : (is_log : Bool) (written : WritingState) (seen : List Edit) → is_log ≡ is_some log → MayGoOn log → seen ≡ edits_there log → WasGivenOf (heading_of log) (there_of log) start [] written
       → IsLogInFile made limits numbers log start 0 0 0 is_log record { written = written; seen = seen; taken = 0 }
   unfolding log_begins
@@ -403,14 +403,14 @@ module _ (made : Option (List ℕ)) (limits : Bounds) (numbers : LogHeading) (lo
     counted = refl;
   }
 
-  -- what the log keeps in numbers of its file
+  -- the numbers that the log keeps of its file
   pub in_file_some : (renewed elements earlier : ℕ) (is_log : Bool) (s : LogState) → IsLogInFile made limits numbers log start renewed elements earlier is_log s → renewed ≤ length s.seen
   in_file_some renewed elements earlier is_log s was = omega (arith, was.file.some, was.renewed_is)
 
   pub in_file_elements : (renewed elements earlier : ℕ) (is_log : Bool) (s : LogState) → IsLogInFile made limits numbers log start renewed elements earlier is_log s → elements ≡ length (list_of (take renewed s.seen))
   in_file_elements renewed elements earlier is_log s was = sym was.elements_are ∙ ap (λ (n : ℕ). length (list_of (take n s.seen))) was.renewed_is
 
-  -- what came since was given
+  -- what came since was given to the file
   pub in_file_more : (renewed elements earlier : ℕ) (is_log : Bool) (s : LogState) (edits : List Edit) (entries : List Entry) (written : WritingState) → IsLogInFile made limits numbers log start renewed elements earlier is_log s → IsPrefix s.seen edits
       → CameSince (renewed_after renewed edits) (length (renewed_after renewed s.seen)) entries → Adds s.written entries written
       → IsLogInFile made limits numbers log start renewed elements earlier is_log record { written = written; seen = edits; taken = s.taken + length entries }
@@ -429,7 +429,7 @@ module _ (made : Option (List ℕ)) (limits : Bounds) (numbers : LogHeading) (lo
         counted = many;
       }
 
-  -- what is held was written, or that failed
+  -- what was buffered is written, or the write failed
   pub in_file_rests : (renewed elements earlier : ℕ) (is_log : Bool) (s : LogState) (written : WritingState) → IsLogInFile made limits numbers log start renewed elements earlier is_log s → Adds s.written [] written
       → IsLogInFile made limits numbers log start renewed elements earlier is_log record { written = written; seen = s.seen; taken = s.taken }
   unfolding log_rests
@@ -443,7 +443,7 @@ module _ (made : Option (List ℕ)) (limits : Bounds) (numbers : LogHeading) (lo
     counted = was.counted;
   }
 
-  -- a file was begun anew, and what writes it holds nothing
+  -- a file was begun anew, and its writer has nothing buffered
   pub in_file_anew : (is_log : Bool) (heading : LogHeading) (elements : List ℤ) (edits : List Edit) (taken : ℕ) (contents : Option (List ℕ)) (s : WriterState) → is_log ≡ true
       → BeginsAnew limits numbers edits heading elements → HasLog made heading elements contents → s.held ≡ [] → s.failed ≡ false
       → IsLogInFile made limits numbers log start (length edits) heading.elements taken is_log record { written = state_with contents s; seen = edits; taken = taken }
@@ -474,14 +474,14 @@ module _ (made : Option (List ℕ)) (limits : Bounds) (numbers : LogHeading) (lo
         counted = omega arith;
       }
 
-  -- what a log has written is a front
+  -- what a log has written is a prefix
   pub in_file_front : (renewed elements earlier : ℕ) (is_log : Bool) (s : LogState) → IsLogInFile made limits numbers log start renewed elements earlier is_log s → HasFrontOfFile made limits numbers log start s.written.contents s.seen
   in_file_front renewed elements earlier is_log s was = record {
     file = was.file;
     front = log_front was.file.there was.file.begun record { written = s.written; seen = renewed_after was.file.renewed s.seen; taken = s.taken } was.given;
   }
 
-  -- once nothing is held, and no write has failed, it has written all edits
+  -- once nothing is buffered, and no write has failed, all updates are written
   pub in_file_all : (renewed elements earlier : ℕ) (is_log : Bool) (s : LogState) → s.written.failed ≡ false → s.written.held ≡ [] → IsLogInFile made limits numbers log start renewed elements earlier is_log s
       → HasAllOfFile made limits numbers log start s.written.contents s.seen s.taken
   unfolding log_all
@@ -491,11 +491,11 @@ module _ (made : Option (List ℕ)) (limits : Bounds) (numbers : LogHeading) (lo
     counted = was.counted;
   }
 
-  -- so these edits were recorded
+  -- therefore these updates were recorded
   pub were_recorded : (edits all : List Edit) (entries taken : ℕ) (contents : Option (List ℕ)) → IsPrefix edits all → entries ≤ taken → HasAllOfFile made limits numbers log start contents all taken → WereRecorded made limits numbers log start edits entries
   were_recorded edits all entries taken contents begins many has = record { then_all = all; contents = contents; taken = taken; begins = begins; many = many; has = has }
 
-  -- how it ends that has all edits, or that hasn't
+  -- the end of a log that has all updates, or that hasn't
   pub in_file_ends : (renewed elements earlier : ℕ) (is_log : Bool) (s : LogState) (edits : List Edit) (contents : Option (List ℕ)) (result : Result Unit Fault) (was : IsLogInFile made limits numbers log start renewed elements earlier is_log s) → IsPrefix s.seen edits
       → length s.seen ≡ length edits → ((entries : List Entry) → WasGivenOf (heading_of was.file.there) (there_of was.file.there) was.file.begun entries s.written → EndsText was.file.there was.file.begun contents entries result)
       → EndsInFile made limits numbers log start contents edits result

@@ -1,4 +1,4 @@
--- What a subscriber is told goes on, and so does what is written of it.
+-- How the notifications of a subscriber continue, and the text that is written of them.
 use Rattle.std.proofs.Common.{◌≡◌, ℕ, ◌≤◌, Option, Some, None, List, [], ◌∷◌, ◌++◌, length, map, take, refl, sym, ap, ◌∙◌, subst, arith, append-nil, append_assoc, get_or, ◌+◌, ◌<◌, false}
 use Rattle.std.proofs.lemmas.Grind.{flat_map-append}
 use Rattle.std.proofs.lemmas.List.{map-append, take_more}
@@ -45,11 +45,11 @@ module _ (limits : Bounds) where
       prefix_trans old.share.seen told.0.share.seen new.share.seen told.1.seen (seen_grows told.0 new tolds told.2)
 
 module _ (limits : Bounds) (numbers : LogHeading) where
-  -- nothing was told
+  -- there was no notification
   pub watches_nothing : (w : WatcherState) → Watches limits numbers w w
   watches_nothing w = record { tolds = []; told = refl; written = writes_no_more w.notices }
 
-  -- one thing was
+  -- there was one notification
   pub watches_one : (old new : WatcherState) (told : Told) → HasTold limits old.subscriber new.subscriber told → WritesMore (told_text numbers told) old.notices new.notices → Watches limits numbers old new
   watches_one old new told has wrote = record {
     tolds = told ∷ [];
@@ -57,7 +57,7 @@ module _ (limits : Bounds) (numbers : LogHeading) where
     written = subst (λ text. WritesMore text old.notices new.notices) (sym (text_of_one numbers told)) wrote;
   }
 
-  -- some things, and then others
+  -- some notifications, and then others
   pub watches_both : (old mid new : WatcherState) → Watches limits numbers old mid → Watches limits numbers mid new → Watches limits numbers old new
   watches_both old mid new first second = record {
     tolds = first.tolds ++ second.tolds;
@@ -66,11 +66,11 @@ module _ (limits : Bounds) (numbers : LogHeading) where
         (writes_both old.notices mid.notices new.notices (all_told_text numbers first.tolds) (all_told_text numbers second.tolds) first.written second.written);
   }
 
--- the first so many of a list that goes on
+-- the prefix of a longer list, taken by its length
 taken : (n : ℕ) (xs all : List Edit) → n ≡ length xs → IsPrefix xs all → take n all ≡ xs
 taken n xs all many begun = ap (λ n. take n all) many ∙ prefix_take xs all begun
 
--- the same things told, said by other words for them
+-- notifications of the same list of updates, with other terms that equal the first ones
 told_as : (edits : List Edit) (questions asked : List Query) (since from : ℕ) (before told : List Shown) (tolds : List Told) (after : List Shown)
     → questions ≡ asked → since ≡ from → before ≡ told → AreToldOf edits questions since before tolds after → AreToldOf edits asked from told tolds after
 told_as edits questions asked since from before told tolds after questions_are since_is before_is are =
@@ -78,7 +78,7 @@ told_as edits questions asked since from before told tolds after questions_are s
     (subst (λ n. AreToldOf edits questions n told tolds after) since_is (subst (λ bs. AreToldOf edits questions since bs tolds after) before_is are))
 
 module _ (limits : Bounds) (edits : List Edit) where
-  -- what a subscriber was told is plain, of any list of edits that goes on from what it has seen
+  -- the notifications of a subscriber are plain, of any list of updates that extends what it has seen
   pub told_of : (old new : SubscriberState) (tolds : List Told) → AreTold limits old tolds new → IsPrefix new.share.seen edits
       → AreToldOf edits old.questions (length old.share.seen) old.told tolds new.told × (new.questions ≡ old.questions)
   told_of old new [] told begun = (ap (λ s. s.told) told, ap (λ s. s.questions) told)
@@ -98,7 +98,7 @@ module _ (limits : Bounds) (edits : List Edit) where
         rest.1 ∙ has.questions,
       )
 
--- the last was told too, at the end of the edits
+-- the last notification was made too, at the end of the updates
 pub told_last : (edits : List Edit) (questions : List Query) (since : ℕ) (before mid : List Shown) (tolds : List Told) (last : Told)
     → AreToldOf edits questions since before tolds mid → since ≤ length edits → last.edit ≡ length edits → AreNotesOf questions mid (map (watch_answer edits) questions) last.notes.items
     → AreToldOf edits questions since before (tolds ++ last ∷ []) (map (watch_answer edits) questions)
@@ -113,21 +113,21 @@ told_last edits questions since before mid [] last told within edit notes =
 told_last edits questions since before mid (t ∷ tolds) last told within edit notes =
     (told.0, told.1, told.2, told_last edits questions t.edit (answers_at edits t.edit questions) mid tolds last told.3 told.1 edit notes)
 
--- a subscriber that may have been told has its part, and counts what it did
+-- after a look, a subscriber has the part that it had, and its count
 pub told_keeps : (limits : Bounds) (old new : SubscriberState) (found : Option Told) → IsToldIf limits old new found → (new.share.parts ≡ old.share.parts) × (new.share.count ≡ old.share.count)
 told_keeps limits old new None told = (ap (λ s. s.share.parts) told, ap (λ s. s.share.count) told)
 told_keeps limits old new (Some t) told = (ap (λ share. share.parts) told.share, ap (λ share. share.count) told.share)
 
--- nothing was told, and nothing written
+-- there was no notification, and nothing was written
 pub watches_still : (limits : Bounds) (numbers : LogHeading) (old : WatcherState) (subscriber : SubscriberState) → subscriber ≡ old.subscriber → Watches limits numbers old (record { subscriber = subscriber; notices = old.notices })
 watches_still limits numbers old subscriber same = subst (λ s. Watches limits numbers old (record { subscriber = s; notices = old.notices })) (sym same) (watches_nothing limits numbers old)
 
--- one question more is asked
+-- one more question is asked
 pub asks_more : (questions asked more : List Query) (i : ℕ) (d q : Query) → i < length questions → q ≡ get_or questions i d → asked ≡ take i questions → more ≡ asked ++ q ∷ [] → more ≡ take (i + 1) questions
 asks_more questions asked more i d q within is so_far pushed =
     pushed ∙ ap (λ qs. qs ++ q ∷ []) so_far ∙ ap (λ q. take i questions ++ q ∷ []) is ∙ sym (take_more questions i d within)
 
--- and counts as told its answer of no elements
+-- its first last answer is that on no elements
 pub told_more : (questions : List Query) (told more : List Shown) (i : ℕ) (d q : Query) → i < length questions → q ≡ get_or questions i d → told ≡ map (watch_answer []) (take i questions) → more ≡ told ++ watch_answer [] q ∷ []
     → more ≡ map (watch_answer []) (take (i + 1) questions)
 told_more questions told more i d q within is so_far pushed =

@@ -1,4 +1,4 @@
--- A stable sort by the edit keeps the order of what is at each edit.
+-- A stable sort by version keeps the order of the reductions at each version.
 use Rattle.std.proofs.Common.{◌≡◌, ℕ, Bool, ◌&&◌, not, List, filter, nat_eq, nat_lt, sym, ap, ◌∙◌, inl, inr, arith}
 use Rattle.std.specs.List.Sorted.{IsStableByKey}
 use Rattle.std.specs.Ordering.{is_lt, nat_cmp}
@@ -9,7 +9,7 @@ use Rattle.lv_bodies.specs.declared.kinds.Shown.TheVariants as shown
 use Rattle.lv_transcript.specs.declared.claimed.Claimed.{Claimed}
 use Rattle.lv_hub.specs.Session.{KeepTies}
 
--- neither of two numbers is below the other where they are one
+-- neither of two numbers is less than the other if and only if they are equal
 ties_are_equal : (a b : ℕ) → (not (is_lt (nat_cmp a b)) && not (is_lt (nat_cmp b a))) ≡ nat_eq b a
 ties_are_equal a b =
     (λ i. not (nat_cmp-ltb a b i) && not (nat_cmp-ltb b a i))
@@ -21,7 +21,7 @@ ties_are_equal a b =
       ]
     ]
 
--- a stable sort by the edit keeps the order of the reductions at each edit
+-- a stable sort by version keeps the order of the reductions at each version
 pub ties_kept : (old new : List Claimed) → IsStableByKey (λ (reduction : Claimed). reduction.edit) nat_cmp old new → KeepTies old new
 ties_kept old new stable = λ edit.
     let one : Claimed = record { edit = edit; kind = Sum; lo = 0; hi = 0; value = shown.Sum 0 } in

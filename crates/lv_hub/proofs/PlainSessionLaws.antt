@@ -1,4 +1,4 @@
--- Each line of a session is answered as the plain interpreter answers it, at some edits of the hub's.
+-- Each line of a session has the reply of the reference model, after some updates of the hub.
 use Rattle.std.proofs.Common.{◌≡◌, ◌⊎◌, ℕ, ◌+◌, Bool, true, false, Option, Some, None, Result, Ok, Err, IfOk, List, [], ◌∷◌, ◌++◌, length, refl, sym, ap, ap₂, arith, ◌∙◌, subst, inl, inr, length-append}
 use Rattle.std.specs.Option.{option_map_or}
 use mathlib.Core.List.{IsPrefix}
@@ -36,7 +36,7 @@ use Rattle.lv_hub.specs.Told.{EditTold, StretchTold, ValueTold, valued_at}
 use Rattle.lv_history.proofs.PrefixLaws.{prefix_length, prefix_self, prefix_take, prefix_trans}
 use Rattle.lv_hub.proofs.TruthLaws.{edit_lists_nothing}
 
--- a receipt with two numbers, one after the other, tells the last
+-- a receipt that gets two numbers, one after the other, has the last one
 numbered_again : (m n : ℕ) (receipt : Receipt) → numbered m (numbered n receipt) ≡ numbered m receipt
 numbered_again m n (Pushed edit index) = refl
 numbered_again m n (Popped edit value) = refl
@@ -45,24 +45,24 @@ numbered_again m n (Reserved edit capacity) = refl
 numbered_again m n (Swapped edit first second) = refl
 numbered_again m n (Truncated edit dropped) = refl
 
--- what is listed is what has the hub's own number, where anything is
+-- the listed reduction is the one with the hub's own number, if reductions are listed
 listed_as : (listing : Bool) (answers : List Claimed) (kind : Kind) (lo hi : ℕ) (answered : Valued) (edits : List Edit) → (listing ≡ true → answered.edit ≡ length edits) → answered.value ≡ plain_value kind (slice_of edits lo hi)
     → listed_if listing answers (listed_of kind lo hi answered) ≡ listed_if listing answers (claim_at edits kind lo hi)
 listed_as true answers kind lo hi answered edits number value = ap₂ (λ edit shown. answers ++ record { edit = edit; kind = kind; lo = lo; hi = hi; value = shown } ∷ []) (number refl) value
 listed_as false answers kind lo hi answered edits number value = refl
 
--- what is kept after an edit, by what refuses it
+-- what the model keeps after an update, given why it is refused, if it is
 abbrev kept_after : Seen → List Edit → Edit → Option Refusal → Seen
 kept_after old before e o = option_map_or (λ refusal. record old { edits = before }) o record { edits = before ++ e ∷ []; made = old.made + 1 }
 
 module _ (limits : Bounds) (numbers : LogHeading) (listing : Bool) where
-  -- one line, by what it says, where the hub had come to some edits
+  -- the model's step for a line, if the hub had reached these updates
   abbrev PlainAt : List Edit → Seen → ℕ → Line Command → List ℕ → Seen → Type 0
   PlainAt before old n line text new =
       ((text ≡ session_reply limits numbers before n line) × (new ≡ seen_after limits before old line))
       ⊎ (FindsNoMemory limits before line text × (new ≡ record old { edits = before }))
 
-  -- so it was answered, and listed
+  -- a line was answered by the model's step, and listed
   record SaidLine (old : SessionState) (n : ℕ) (line : Line Command) (text : List ℕ) (new : SessionState) : Type 0 where
     before : List Edit
     grown : IsPrefix old.seen before
@@ -155,7 +155,7 @@ module _ (limits : Bounds) (numbers : LogHeading) (listing : Bool) where
         | inr want ↦ inr ((want.0, is ∙ ap refused_text want.1), same)
       ]
 
-  -- what is bad, or says nothing
+  -- a bad line, or an empty one
   unmoved : (old new : SessionState) → new ≡ old → kept_by new ≡ record { edits = old.seen; made = old.count }
   unmoved old new stays = seen_more old new old.seen (ap (λ s. s.seen) stays) (ap (λ s. s.count) stays)
 
@@ -192,7 +192,7 @@ module _ (limits : Bounds) (numbers : LogHeading) (listing : Bool) where
       let told : SessionStep limits numbers listing s n line text u = record { plain = record { before = said.before; grown = said.grown; answer = said.answer }; within = said.within; lists = said.lists } in
       (u, refl, subst (λ p. SessionStep limits numbers listing p n line text u) (sym is) told)
 
-  -- the conversation that the code answers is that of a session
+  -- the conversation that the code holds is that of a session
   pub session_said : {R : Type 0} (first last : SessionState) (a b k l : Option (List ℕ)) (result : Result R Fault) → LinesServed (TellsLine limits numbers listing) first last a b k l result
       → LinesServed (SessionStep limits numbers listing) first last a b k l result
   session_said first last a b k l result c =
@@ -202,7 +202,7 @@ module _ (limits : Bounds) (numbers : LogHeading) (listing : Bool) where
   step_plain : (s : SessionState) (p : Seen) (n : ℕ) (line text : List ℕ) (u : SessionState) → p ≡ kept_by s → SessionStep limits numbers listing s n line text u → (q : Seen) × (q ≡ kept_by u) × PlainSessionStep limits numbers p n line text q
   step_plain s p n line text u is step = (kept_by u, refl, subst (λ p. PlainSessionStep limits numbers p n line text (kept_by u)) (sym is) step.plain)
 
-  -- the conversation of a session is one of the interpreter
+  -- the conversation of a session is one of the reference model
   pub session_plain : {R : Type 0} (first last : SessionState) (a b k l : Option (List ℕ)) (result : Result R Fault) → LinesServed (SessionStep limits numbers listing) first last a b k l result
       → LinesServed (PlainSessionStep limits numbers) (kept_by first) (kept_by last) a b k l result
   session_plain first last a b k l result c =
@@ -212,7 +212,7 @@ module _ (limits : Bounds) (numbers : LogHeading) (listing : Bool) where
 -- ---- what is true of the whole list
 
 module _ (limits : Bounds) (numbers : LogHeading) where
-  -- an edit or nothing more is kept
+  -- what is kept has one more update, or none
   edit_grows : (old : Seen) (before : List Edit) (e : Edit) (o : Option Refusal) → IsPrefix before (kept_after old before e o).edits
   edit_grows old before e (Some refusal) = prefix_self before
   edit_grows old before e None = (e ∷ [], refl)
@@ -226,7 +226,7 @@ module _ (limits : Bounds) (numbers : LogHeading) where
   line_grows old before Bad = prefix_self before
   line_grows old before (Do c) = command_grows old before c
 
-  -- the edits at which a line was answered begin those that are seen then
+  -- the updates at which a line was answered are a prefix of those that are seen then
   step_goes_on : (old : Seen) (n : ℕ) (line text : List ℕ) (new : Seen) → (step : PlainSessionStep limits numbers old n line text new) → IsPrefix step.before new.edits
   step_goes_on old n line text new step =
       elim step.answer [
@@ -239,7 +239,7 @@ module _ (limits : Bounds) (numbers : LogHeading) where
   said_no_memory edits Bad text f = absurd f
   said_no_memory edits (Do c) text f = f.1
 
-  -- what a step answers is true of each list that goes on from what it leaves
+  -- the reply of a step is true of each list that extends what the step leaves
   step_true : (edits : List Edit) (old : Seen) (n : ℕ) (line text : List ℕ) (new : Seen) → PlainSessionStep limits numbers old n line text new → IsPrefix new.edits edits → IsTrueReply limits numbers edits n line text
   step_true edits old n line text new step on =
       let more = prefix_trans step.before new.edits edits (step_goes_on old n line text new step) on in
@@ -258,7 +258,7 @@ module _ (limits : Bounds) (numbers : LogHeading) where
   lines_go_on old new n (line ∷ lines) text a =
       prefix_trans old.edits a.2.edits new.edits (prefix_trans old.edits a.3.before a.2.edits a.3.grown (step_goes_on old n line a.0 a.2 a.3)) (lines_go_on a.2 new (n + 1) lines a.1 a.4)
 
-  -- each reply is true of each list that goes on from what the session has seen at its end
+  -- each reply is true of each list that extends what the session has seen at its end
   pub lines_true : (edits : List Edit) (old new : Seen) (n : ℕ) (lines : List (List ℕ)) (text : List ℕ) → Answered (PlainSessionStep limits numbers) old n lines text new → IsPrefix new.edits edits
       → Answered (TrueReply limits numbers edits) tt n lines text tt
   lines_true edits old new n [] text a on = (a.0, refl)

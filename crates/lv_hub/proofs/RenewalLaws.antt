@@ -1,4 +1,5 @@
--- A vector that was made anew has the elements of its hub, answers edits as one of the hub's edits does, and goes on to stand for it.
+-- A vector that was made anew has the elements of its hub, answers updates as a vector with the hub's own updates would, and continues to
+-- represent the hub.
 use Rattle.std.proofs.Common.{◌≡◌, ◌≢◌, ◌⊎◌, Bool, true, false, ◌&&◌, ◌||◌, nat_le, ℕ, ℤ, pos, ◌+◌, ◌-◌, ◌<◌, ◌≤◌, ◌^◌, max, min, Some, None, option_and_then, unwrap_or, List, [], ◌∷◌, ◌++◌, All, length, take, drop, map, refl, sym, ap, ap₂, subst, ◌∙◌, inl, inr, arith, append-nil, append_assoc, take-append-drop}
 use Rattle.std.proofs.lemmas.Bool.{cases_lt, cond-false, cond-true, eq-eqb, false≢true, leb-false, leb-true, ne_eqb}
 use Rattle.std.proofs.lemmas.List.{drop-append-le, drop_all, length_push, length-map, take_all, take-append-le}
@@ -23,9 +24,9 @@ use Rattle.lv_edits.proofs.HistoryLaws.{accepted_is_possible, legal_beginnings, 
 use Rattle.lv_lines.specs.Texts.{numbered}
 use Rattle.lv_hub.specs.Renewing.{IsOfOneVector, IsRun, LastsAs, StandsFor, lasting, opened_limits, receipt_with, renewed_after, vector_limits}
 
--- ---- edits that make the same list
+-- ---- updates that make the same list
 
--- lists that are alike stay so with the same edits behind them
+-- lists that are equal remain so after the same updates
 pub replayed_alike : (es fs more : List Edit) → replayed es ≡ replayed fs → replayed (es ++ more) ≡ replayed (fs ++ more)
 replayed_alike es fs [] same = ap replayed (append-nil es) ∙ same ∙ ap replayed (sym (append-nil fs))
 replayed_alike es fs (e ∷ more) same =
@@ -53,7 +54,7 @@ list_of_pushes xs = list_of_replayed (map Push xs) xs (replayed_pushes xs)
 
 -- ---- the edits of a vector that was made anew
 
--- they make what the hub's make
+-- they make the list that the hub's updates make
 pub renewed_replayed : (n : ℕ) (edits : List Edit) → replayed edits ≡ Some (list_of edits) → replayed (renewed_after n edits) ≡ replayed edits
 renewed_replayed n edits legal =
     let front = list_of (take n edits) in
@@ -63,7 +64,7 @@ renewed_replayed n edits legal =
 pub renewed_list : (n : ℕ) (edits : List Edit) → replayed edits ≡ Some (list_of edits) → list_of (renewed_after n edits) ≡ list_of edits
 renewed_list n edits legal = list_alike (renewed_after n edits) edits (renewed_replayed n edits legal)
 
--- they go on as the hub's do
+-- they grow with the hub's updates
 pub renewed_more : (n : ℕ) (edits more : List Edit) → n ≤ length edits → renewed_after n (edits ++ more) ≡ renewed_after n edits ++ more
 renewed_more n edits more some =
     ap (λ es. map Push (list_of es) ++ drop n (edits ++ more)) (take-append-le n edits more some)
@@ -74,20 +75,20 @@ renewed_more n edits more some =
 pub renewed_never : (edits : List Edit) → renewed_after 0 edits ≡ edits
 renewed_never edits = ap (λ xs. map Push xs ++ edits) (list_of_replayed [] [] replayed-nil)
 
--- a vector that is made anew now has the pushes of what there is, and as many edits as there are elements
+-- a vector that is made anew now has a push of each element that there is
 pub renewed_now : (n : ℕ) (edits : List Edit) → n ≡ length edits → renewed_after n edits ≡ map Push (list_of edits)
 renewed_now n edits all =
     ap (λ es. map Push (list_of es) ++ drop n edits) (take_all n edits (omega (arith, all)))
     ∙ ap (λ es. map Push (list_of edits) ++ es) (drop_all n edits (omega (arith, all)))
     ∙ append-nil (map Push (list_of edits))
 
--- those of a beginning of the hub's edits begin those of the hub's
+-- for a prefix of the hub's updates, those of the vector that was made anew are a prefix too
 pub renewed_prefix : (n : ℕ) (edits more : List Edit) → n ≤ length edits → IsPrefix edits more → IsPrefix (renewed_after n edits) (renewed_after n more)
 renewed_prefix n edits more some begins = (begins.0, sym (renewed_more n edits begins.0 some) ∙ ap (renewed_after n) begins.1)
 
 -- ---- how many cells are open
 
--- as many as edits ever needed
+-- how many cells updates ever needed
 abbrev needed : List Edit → ℕ
 needed es = max (longest es) (most_reserved es)
 
@@ -116,7 +117,7 @@ pushes_need es (x ∷ xs) legal so_far =
     ∙ pushes_need (es ++ Push x ∷ []) xs (next.0 ∙ ap Some (sym next.1)) here
     ∙ omega (arith, long)
 
--- edits that make the same list, of which the first need what the second do, or so many, go on so
+-- two lists of updates make the same elements, and the first needs what the second does or n cells; both hold after further updates
 needed_alike : (es fs more : List Edit) (n : ℕ) → replayed es ≡ replayed fs → needed es ≡ max (needed fs) n → needed (es ++ more) ≡ max (needed (fs ++ more)) n
 needed_alike es fs [] n same so_far = ap needed (append-nil es) ∙ so_far ∙ ap (λ es. max (needed es) n) (sym (append-nil fs))
 needed_alike es fs (e ∷ more) n same so_far =
@@ -126,7 +127,7 @@ needed_alike es fs (e ∷ more) n same so_far =
     ∙ needed_alike (es ++ e ∷ []) (fs ++ e ∷ []) more n next (omega (arith, needed-snoc es e, needed-snoc fs e, so_far, list))
     ∙ ap (λ es. max (needed es) n) (append_assoc fs (e ∷ []) more)
 
--- what the hub's edits need is what those of its vector do, or those before it was made anew did
+-- the cells that the hub's updates need are those that its vector's need, or those that were needed before it was made anew
 needed_renewed : (n : ℕ) (edits : List Edit) → replayed edits ≡ Some (list_of edits) → needed edits ≡ max (needed (renewed_after n edits)) (needed (take n edits))
 needed_renewed n edits legal =
     let front = take n edits in
@@ -152,7 +153,7 @@ least_capacity_of_max n m first second =
     ∙ capacity_of_greater one.0 other.0
     ∙ ap₂ max (sym (least_capacity_is n one.0 one.2 one.1)) (sym (least_capacity_is m other.0 other.2 other.1))
 
--- how many cells are open at the hub's edits: as many as at its vector's, or when it was made anew
+-- the capacity after the hub's updates is that of its vector, or that when it was made anew
 pub renewed_capacity : (n : ℕ) (edits : List Edit) → replayed edits ≡ Some (list_of edits) → max (longest edits) (most_reserved edits) ≤ 1048568 → capacity_after edits ≡ max (capacity_after (renewed_after n edits)) (capacity_after (take n edits))
 unfolding capacity_after
 renewed_capacity n edits legal few =
@@ -165,9 +166,9 @@ pub capacity_of_none : capacity_after (take 0 []) ≡ 0
 unfolding capacity_after longest most_reserved list_of replayed least_capacity
 capacity_of_none = refl
 
--- ---- what an edit is answered
+-- ---- the result of an update
 
--- two vectors with as many buckets and the same list refuse an edit alike, while both have edits left
+-- two vectors with as many buckets and the same list refuse the same updates, while both have updates left
 refused_alike : (one two : Bounds) (xs : List ℤ) (e : Edit) → one.buckets ≡ two.buckets → refused_on one xs e ≡ refused_on two xs e
 refused_alike one two xs (Push x) same = ap (λ buckets. refused_on (record { buckets = buckets; edits = 0 }) xs (Push x)) same
 refused_alike one two xs Pop same = refl
@@ -183,7 +184,7 @@ verdict_alike one two es fs e buckets list left left_too =
     ∙ ap (λ xs. refused_on two xs e) list
     ∙ sym (cond-false _ _ _ (ne_eqb (length fs) two.edits left_too))
 
--- and tell the same of one that they accept, but for its number, and for the cells that are open
+-- their receipts of an accepted update are equal, except for its number and the capacity
 pub receipt_alike : (es fs : List Edit) (e : Edit) (least : ℕ) → list_of fs ≡ list_of es → capacity_after (es ++ e ∷ []) ≡ max (capacity_after (fs ++ e ∷ [])) least → numbered (length es + 1) (receipt_with least (receipt_of fs e)) ≡ receipt_of es e
 receipt_alike es fs (Push x) least list cells = ap (λ xs. Pushed (length es + 1) (length xs)) list
 receipt_alike es fs Pop least list cells = ap (λ xs. Popped (length es + 1) (slice_index_or xs (length xs - 1) (pos 0))) list
@@ -192,7 +193,7 @@ receipt_alike es fs (Reserve n) least list cells = ap (Reserved (length es + 1))
 receipt_alike es fs (Swap i j) least list cells = ap (λ xs. Swapped (length es + 1) (slice_index_or xs j (pos 0)) (slice_index_or xs i (pos 0))) list
 receipt_alike es fs (Truncate n) least list cells = ap (λ xs. Truncated (length es + 1) (length xs - n)) list
 
--- its number is that of the edit
+-- the receipt's number is that of the update
 own_number : (es : List Edit) (e : Edit) (least : ℕ) → numbered (length es + 1) (receipt_with least (receipt_of es e)) ≡ receipt_with least (receipt_of es e)
 own_number es (Push x) least = refl
 own_number es Pop least = refl
@@ -201,31 +202,31 @@ own_number es (Reserve n) least = refl
 own_number es (Swap i j) least = refl
 own_number es (Truncate n) least = refl
 
--- ---- a vector that stands for its hub
+-- ---- a vector that represents its hub
 
 module _ (limits : Bounds) (renewed capacity : ℕ) where
   -- its list is the hub's
   pub stands_list : (edits : List Edit) (h : History) → StandsFor limits renewed capacity edits h → list_of h.journal ≡ list_of edits
   stands_list edits h stands = ap list_of stands.journal ∙ renewed_list renewed edits stands.run.legal
 
-  -- its history is that of the hub where it is never made anew
+  -- its history is that of the hub if it is never made anew
   pub stands_alone : (edits : List Edit) (h : History) → StandsFor limits renewed capacity edits h → IsOfOneVector limits → h ≡ record { limits = limits; journal = edits }
   stands_alone edits h stands one =
       let journal : h.journal ≡ edits = stands.journal ∙ ap (λ n. renewed_after n edits) (stands.never one) ∙ renewed_never edits in
       let same : min limits.edits 16777215 ≡ limits.edits = omega (arith, one) in
       λ i. record { limits = (stands.vector.limits_are ∙ ap (λ n. record limits { edits = n }) same) i; journal = journal i }
 
--- neither of two is so
+-- neither of two is true
 neither_true : (a b : Bool) → (a || b) ≡ false → (a ≡ false) × (b ≡ false)
 neither_true false b none = (refl, none)
 neither_true true b none = absurd (false≢true (sym none))
 
--- a hub has edits left while its vector has made fewer than so many, or it is of one vector
+-- a hub has updates left while its vector has made fewer than `most`, or if it is of one vector
 pub data HasEditsLeft (most : ℕ) (limits : Bounds) (edits : List Edit) (h : History) : Type 0 where
   IsOne : IsOfOneVector limits → HasEditsLeft most limits edits h
   Lasts : limits ≡ lasting limits → length h.journal < most → length edits < 2 ^ 62 → HasEditsLeft most limits edits h
 
--- its vector refuses an edit as it does
+-- its vector refuses the updates that the hub refuses
 pub verdict_stands : (most : ℕ) (limits : Bounds) (renewed capacity : ℕ) (edits : List Edit) (h : History) (e : Edit) → most ≤ 16777215 → StandsFor limits renewed capacity edits h → HasEditsLeft most limits edits h → verdict_of h.limits h.journal e ≡ verdict_of limits edits e
 verdict_stands most limits renewed capacity edits h e some stands (IsOne one) = ap (λ h. verdict_of h.limits h.journal e) (stands_alone limits renewed capacity edits h stands one)
 verdict_stands most limits renewed capacity edits h e some stands (Lasts lasts few left) =
@@ -234,12 +235,12 @@ verdict_stands most limits renewed capacity edits h e some stands (Lasts lasts f
     (λ worn. omega (arith, worn, ap (λ l. l.edits) stands.vector.limits_are, few, all, some))
     (λ worn. omega (arith, worn, left, all))
 
--- there are fewer edits than the hub numbers then
+-- then there are fewer updates than the hub can number
 pub few_edits : (most : ℕ) (limits : Bounds) (edits : List Edit) (h : History) → IsRun limits edits → HasEditsLeft most limits edits h → length edits < 2 ^ 62
 few_edits most limits edits h run (IsOne one) = omega (arith, one, run.edits)
 few_edits most limits edits h run (Lasts lasts few left) = left
 
--- a hub that isn't worn has edits left
+-- a hub that isn't worn has updates left
 pub edits_left : (limits : Bounds) (lasts : Bool) (edits : List Edit) (h : History) (made all : ℕ) → LastsAs lasts limits → made ≡ length h.journal → all ≡ length edits → (lasts && (nat_le 16777214 made || nat_le (2 ^ 62) all)) ≡ false → HasEditsLeft 16777214 limits edits h
 edits_left limits false edits h made all one is are left = IsOne one
 edits_left limits true edits h made all lasts is are left =
@@ -250,18 +251,18 @@ kept_by : (limits : Bounds) (edits : List Edit) (h : History) → limits ≡ las
 kept_by limits edits h lasts (inl one) left = IsOne one
 kept_by limits edits h lasts (inr few) left = Lasts lasts few left
 
--- one that has not made all edits that it numbers has one left, which its vector keeps for it
+-- a hub that has not made all updates that it can number has one left, which its vector holds in reserve
 pub edit_kept : (limits : Bounds) (lasts : Bool) (renewed capacity : ℕ) (edits : List Edit) (h : History) (all : ℕ) → LastsAs lasts limits → StandsFor limits renewed capacity edits h → all ≡ length edits → (lasts && nat_le (2 ^ 62) all) ≡ false → HasEditsLeft 16777215 limits edits h
 edit_kept limits false renewed capacity edits h all one stands are left = IsOne one
 edit_kept limits true renewed capacity edits h all lasts stands are left = kept_by limits edits h lasts stands.spare (omega (arith, leb-false (2 ^ 62) all left, are))
 
--- one that has made them is worn
+-- a hub that has made all of them is worn
 pub is_worn_out : (limits : Bounds) (lasts : Bool) (edits : List Edit) (e : Edit) (all : ℕ) → LastsAs lasts limits → IsRun limits edits → all ≡ length edits → (lasts && nat_le (2 ^ 62) all) ≡ true → verdict_of limits edits e ≡ Some Worn
 is_worn_out limits false edits e all one run are used = absurd (false≢true used)
 is_worn_out limits true edits e all lasts run are used =
     cond-true _ _ _ (eq-eqb (length edits) limits.edits (omega (arith, leb-true (2 ^ 62) all used, are, ap (λ l. l.edits) lasts, run.edits)))
 
--- an edit that is accepted reserves no more than 17 buckets have
+-- an accepted update reserves no more cells than 17 buckets have
 reserved_few : (limits : Bounds) (xs : List ℤ) (e : Edit) → limits.buckets ≤ 17 → refused_on limits xs e ≡ None → reserved_by e ≤ 1048568
 reserved_few limits xs (Push x) few free = omega arith
 reserved_few limits xs Pop few free = omega arith
@@ -270,14 +271,14 @@ reserved_few limits xs (Reserve n) few free = omega (arith, unrefused_reserve li
 reserved_few limits xs (Swap i j) few free = omega arith
 reserved_few limits xs (Truncate n) few free = omega arith
 
--- what is so of a hub and its vector once an edit was accepted that its vector answers so
+-- what holds of a hub and its vector after an update that the vector accepted
 pub record EditStands (limits : Bounds) (renewed capacity : ℕ) (edits : List Edit) (e : Edit) (receipt : Receipt) (new : History) : Type 0 where
   pub stands : StandsFor limits renewed capacity (edits ++ e ∷ []) new
   pub verdict : verdict_of limits edits e ≡ None
   pub receipt_is : numbered (length (edits ++ e ∷ [])) (receipt_with capacity receipt) ≡ receipt_of edits e
   pub number : IsOfOneVector limits → receipt_with capacity receipt ≡ numbered (length (edits ++ e ∷ [])) (receipt_with capacity receipt)
 
--- the edit was made of the hub's list too, and the same list came of it
+-- the update was applied to the hub's list too, with the same result
 record HasMade (edits : List Edit) (e : Edit) (new : History) : Type 0 where
   legal : replayed (edits ++ e ∷ []) ≡ Some (list_of (edits ++ e ∷ []))
   list : list_of new.journal ≡ list_of (edits ++ e ∷ [])
@@ -308,7 +309,7 @@ module _ (limits : Bounds) (renewed capacity : ℕ) (edits : List Edit) (e : Edi
   still_spare (IsOne one) longer = inl one
   still_spare (Lasts lasts few left) longer = inr (omega (arith, few, longer))
 
-  -- the vector goes on to stand for it
+  -- after an update the vector still represents its hub
   stands_more : (receipt : Receipt) → StandsFor limits renewed capacity edits old → HasEditsLeft 16777214 limits edits old → Accepts old e receipt new → IsLegalInLimits new → HasMade edits e new → StandsFor limits renewed capacity (edits ++ e ∷ []) new
   stands_more receipt stands left accepts within made =
       let limits_are : new.limits ≡ vector_limits limits = ap (λ h. h.limits) accepts.journal ∙ stands.vector.limits_are in
@@ -334,7 +335,7 @@ module _ (limits : Bounds) (renewed capacity : ℕ) (edits : List Edit) (e : Edi
         cells = made.few;
       }
 
-  -- and what it answers is what the hub does
+  -- the vector's receipt is that of the hub
   pub edit_stands : (receipt : Receipt) → StandsFor limits renewed capacity edits old → HasEditsLeft 16777214 limits edits old → Accepts old e receipt new → IsLegalInLimits new → EditStands limits renewed capacity edits e receipt new
   edit_stands receipt stands left accepts within =
       let made = has_made receipt stands accepts within in
@@ -357,7 +358,7 @@ module _ (limits : Bounds) (renewed capacity : ℕ) (edits : List Edit) (e : Edi
 
 -- ---- a vector that is made anew
 
--- one that has just what there is, as pushes, stands for the hub from then on
+-- a vector that has just the hub's elements, as pushes, represents the hub from then on
 pub stands_anew : (limits : Bounds) (renewed capacity : ℕ) (edits : List Edit) (old new : History) (n c : ℕ) → StandsFor limits renewed capacity edits old → limits ≡ lasting limits → IsLegalInLimits new
     → new ≡ record { limits = vector_limits limits; journal = map Push (list_of edits) } → n ≡ length edits → c ≡ max (capacity_after old.journal) capacity → StandsFor limits n c edits new
 stands_anew limits renewed capacity edits old new n c stands lasts within is all cells =
@@ -376,7 +377,7 @@ stands_anew limits renewed capacity edits old new n c stands lasts within is all
       cells = stands.cells;
     }
 
--- an empty one stands for a hub without edits
+-- an empty vector represents a hub without updates
 pub stands_at_first : (limits : Bounds) (h : History) (c : ℕ) → IsLegalInLimits h → h ≡ record { limits = vector_limits limits; journal = [] } → c ≡ 0 → StandsFor limits 0 c [] h
 stands_at_first limits h c within is none =
     let list : list_of [] ≡ [] = list_of_replayed [] [] replayed-nil in
@@ -397,7 +398,7 @@ stands_at_first limits h c within is none =
       cells = omega (arith, needed-nil);
     }
 
--- limits that a vector may have are those of its hub
+-- the limits of a hub that are those of a vector are its vector's
 pub vector_limits_are : (limits : Bounds) → IsOfOneVector limits → vector_limits limits ≡ limits
 vector_limits_are limits one = let same : min limits.edits 16777215 ≡ limits.edits = omega (arith, one) in ap (λ n. record limits { edits = n }) same
 
@@ -409,7 +410,7 @@ lasting_limits_are limits vector is many = λ i. record { buckets = ap (λ l. l.
 pub lasts_so : (limits vector : Bounds) → limits ≡ lasting vector → limits ≡ lasting limits
 lasts_so limits vector is = is ∙ ap lasting (sym is)
 
--- a hub opened for such a vector has those limits, and lasts as it was told
+-- a hub that is opened for such a vector has these limits, and lasts if that was asked for
 pub opened_vector : (limits vector : Bounds) (lasts : Bool) → limits ≡ opened_limits lasts vector → (lasts ≡ true → vector.edits ≡ 16777215) → vector.edits ≤ 16777215 → vector ≡ vector_limits limits
 opened_vector limits vector true is many few = lasting_limits_are limits vector is (many refl)
 opened_vector limits vector false is many few = sym is ∙ sym (vector_limits_are limits (subst IsOfOneVector (sym is) few))

@@ -1,4 +1,4 @@
--- What a look of a subscriber comes to.
+-- The result of a subscriber's look.
 use Rattle.std.proofs.Common.{◌≡◌, ◌≢◌, ◌≤◌, ◌∙◌, List, [], ◌++◌, length, map, ap, subst, sym, arith}
 use Rattle.std.proofs.lemmas.List.{length-map}
 use mathlib.Core.List.{IsPrefix}
@@ -18,7 +18,7 @@ use Rattle.lv_history.proofs.PrefixLaws.{prefix_length, prefix_whole}
 pub each_answered : (set asked : QuerySetState Query) (answer : Query → Shown) → asked ≡ with_answers set (map answer set.queries) → length asked.answers ≡ length asked.queries
 each_answered set asked answer is = ap (λ s. length s.answers) is ∙ length-map set.queries answer ∙ sym (ap (λ s. length s.queries) is)
 
--- a set puts notes of its last answers behind those of a list
+-- a set appends notes of its last answers to a list
 abbrev pub PutsNotes : QuerySetState Query → List Note → List Note → Type 0
 PutsNotes s = AddsNotesOf s.queries s.told s.answers
 
@@ -34,13 +34,13 @@ abbrev pub subscriber_of : ShareState → QuerySetState Query → SubscriberStat
 subscriber_of share set = record { share = share; questions = set.queries; told = set.told }
 
 module _ (before share : ShareState) (is : share ≡ having_seen before share.seen) (begins : IsPrefix before.seen share.seen) (set asked : QuerySetState Query) (asked_is : asked ≡ with_answers set (map (watch_answer share.seen) set.queries)) where
-  -- where there are no more edits, all is as it was
+  -- if there are no more updates, nothing has changed
   pub looked_in_vain : length share.seen ≤ length before.seen → subscriber_of share asked ≡ subscriber_of before set
   looked_in_vain few =
       let same : share ≡ before = is ∙ ap (having_seen before) (sym (prefix_whole before.seen share.seen begins few)) in
       ap (λ s. subscriber_of s asked) same ∙ ap (subscriber_of before) asked_is
 
-  -- else it is told
+  -- otherwise the subscriber gets a notification
   pub looked : (limits : Bounds) (told : Told) (none : List Note) (new : QuerySetState Query) → new ≡ with_told asked → none ≡ [] → IsRun limits share.seen → told.edit ≡ length share.seen → told.edit ≢ length before.seen
       → PutsNotes asked none told.notes.items → HasTold limits (subscriber_of before set) (subscriber_of share new) told
   looked limits told none new new_is empty within edit other adds =

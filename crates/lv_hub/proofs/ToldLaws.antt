@@ -1,4 +1,4 @@
--- What the vector in the lock answers is what the hub tells.
+-- The results of the vector in the lock are those of the hub.
 use Rattle.std.proofs.Common.{◌≡◌, ◌⊎◌, ℕ, ℤ, Option, Some, None, IfSome, option_map, Result, Ok, Err, IfOk, IfErr, List, length, nat_lt, if◌then◌else◌, refl, sym, ap, ◌∙◌, subst}
 use mathlib.Core.List.{IsPrefix}
 use Rattle.std.specs.List.{slice_range}
@@ -29,7 +29,7 @@ use Rattle.lv_standing.specs.declared.notes.Answered.{Answered}
 use Rattle.lv_hub.specs.Renewing.{IsClosed, IsOfOneVector, IsRun}
 use Rattle.lv_hub.specs.Told.{ClaimTold, EditTold, Delivers, DeliveryTold, IsVector, ReadsTold, ReductionTold, StretchTold, ValueTold, VouchedBy, answer_at, history_of, receipt_at, stretch_at, valued_at}
 
--- an edit, and its number
+-- an update, and its number
 pub edit_told : (limits : Bounds) (before after old new : List Edit) (e : Edit) (result : Result Receipt Refusal) → IsRun limits before → IsPrefix old before → new ≡ after
     → Answers (history_of limits before) e (receipt_at (length after) result) (history_of limits after) → EditTold limits old new e result
 edit_told limits before after old new e result within seen is answers = record {
@@ -55,7 +55,7 @@ value_told limits edits old new kind lo hi result within seen is answered refuse
 pub value_number : (limits : Bounds) (edits new : List Edit) (result : Result Answered Refusal) → new ≡ edits → (IsOfOneVector limits → IfOk result (λ answered. answered.edit ≡ length edits)) → IsOfOneVector limits → IfOk result (λ answered. answered.edit ≡ length new)
 value_number limits edits new result is number one = subst (λ es. IfOk result (λ answered. answered.edit ≡ length es)) (sym is) (number one)
 
--- ---- what a vector with the same elements answers
+-- ---- results of a vector with the same elements
 
 -- why a range of a list is refused
 abbrev refusal_on : ℕ → ℕ → List ℤ → Option Refusal
@@ -76,7 +76,7 @@ module _ (journal edits : List Edit) (same : list_of journal ≡ list_of edits) 
   alike_uncopied : {B : Type 0} (result : Result (StretchState B) Refusal) → IfErr result (λ refusal. IsScanRefusal journal lo hi refusal) → IfErr result (λ refusal. IsScanRefusal edits lo hi refusal)
   alike_uncopied result is = subst (λ known. IfErr result (λ refusal. (known ≡ Some refusal) ⊎ ((known ≡ None) × (refusal ≡ NoMemory)))) alike_refused is
 
--- the number that a vector tells is that of its edits
+-- the number that a vector returns is that of its updates
 answer_numbered : {S : Type 0} (o : Operations S) (edits : List Edit) (lo hi : ℕ) (result : Result (Answer S) Refusal) → IfOk result (λ answer. IsAnswer o edits lo hi answer) → IfOk result (λ answer. answer.edit ≡ length edits)
 answer_numbered o edits lo hi (Ok answer) is = is.edit
 answer_numbered o edits lo hi (Err refusal) is = tt
@@ -85,7 +85,7 @@ stretch_numbered : {B : Type 0} (edits : List Edit) (lo hi : ℕ) (result : Resu
 stretch_numbered edits lo hi (Ok stretch) is = is.edit
 stretch_numbered edits lo hi (Err refusal) is = tt
 
--- what a reduction answers, and the reads that it makes
+-- the answer of a reduction, and the reads that it makes
 answered_of : {S : Type 0} (o : Operations S) (r : Record) (lo hi : ℕ) (result : Result (Answer S) Refusal) → Reduces o r lo hi result → IfOk result (λ answer. IsAnswer o r.edits lo hi answer)
 answered_of o r lo hi (Ok answer) reduces = reduces.0
 answered_of o r lo hi (Err refusal) reduces = tt
@@ -98,7 +98,7 @@ reads_of : {S : Type 0} (o : Operations S) (r : Record) (lo hi : ℕ) (result : 
 reads_of o r lo hi (Ok answer) reduces = reduces.1
 reads_of o r lo hi (Err refusal) reduces = tt
 
--- a hub that has come to some edits, and shows them, has a vector with their elements
+-- a hub that has reached some updates, and shows them, has a vector with their elements
 module _ (limits : Bounds) (edits old new : List Edit) (within : IsRun limits edits) (seen : IsPrefix old new) (is : new ≡ edits) (lo hi : ℕ) where
   within_new : IsRun limits new
   within_new = subst (IsRun limits) (sym is) within
@@ -143,11 +143,11 @@ module _ (limits : Bounds) (edits old new : List Edit) (within : IsRun limits ed
 
 -- ---- the end
 
--- what was handed over is what was closed
+-- what was returned is what was closed
 pub closed_as : {B S : Type 0} (limits : Bounds) (edits own : List Edit) (live vector : LiveState B S) → edits ≡ own → live ≡ vector → IsClosed limits own vector.history → IsClosed limits edits live.history
 closed_as limits edits own live vector edits_are live_is closed = subst (λ v. IsClosed limits edits v.history) (sym live_is) (subst (λ es. IsClosed limits es vector.history) (sym edits_are) closed)
 
--- where the hub is of one vector, that is closed as it is
+-- the vector of a hub of one vector is closed with as many updates as are counted
 pub closed_counted : (limits : Bounds) (edits : List Edit) (h : History) (n : ℕ) → IsClosed limits edits h → length edits ≡ n → IsOfOneVector limits → length h.journal ≡ n
 closed_counted limits edits h n closed many one = ap (λ h. length h.journal) (closed.one one) ∙ many
 

@@ -33,13 +33,13 @@ use Rattle.lv_standing.specs.Queries.{IsValue}
 use Rattle.lv_standing.specs.declared.notes.Answered.{Answered as Valued}
 use Rattle.lv_history.proofs.PrefixLaws.{prefix_length, prefix_self, prefix_trans}
 
--- an edit leaves a beginning of what there is
+-- what was seen before an update is a prefix of what is seen after it
 pub edit_grows : (limits : Bounds) (old new : List Edit) (e : Edit) (result : Result Receipt Refusal) → EditTold limits old new e result → IsPrefix old new
 edit_grows limits old new e (Ok receipt) told =
     prefix_trans old told.before new told.seen (e ∷ [], sym (ap (λ h. h.journal) told.answers.journal))
 edit_grows limits old new e (Err refusal) told = subst (IsPrefix old) (sym (ap (λ h. h.journal) told.answers.same)) told.seen
 
--- what is true of a beginning is true of the whole
+-- an answer that is true of a prefix is true of the whole
 pub true_of_more : (xs ys : List Edit) (reduction : Claimed) → IsPrefix xs ys → IsTrueAnswer xs reduction → IsTrueAnswer ys reduction
 true_of_more xs ys reduction more holds =
     let same : take reduction.edit ys ≡ take reduction.edit xs = ap (take reduction.edit) (sym more.1) ∙ take-append-le reduction.edit xs more.0 holds.edit in
@@ -50,11 +50,11 @@ true_of_more xs ys reduction more holds =
       value = subst (λ es. reduction.value ≡ plain_value reduction.kind (slice_range (list_of es) reduction.lo reduction.hi)) (sym same) holds.value;
     }
 
--- so it is with many
+-- answers that are true of a prefix are true of the whole
 pub all_true_of_more : (xs ys : List Edit) (answers : List Claimed) → IsPrefix xs ys → All (IsTrueAnswer xs) answers → All (IsTrueAnswer ys) answers
 all_true_of_more xs ys answers more = All-weaker (IsTrueAnswer xs) (IsTrueAnswer ys) (λ reduction. true_of_more xs ys reduction more) answers
 
--- a range that isn't refused lies in the list
+-- a range that isn't refused is within the list
 record IsRange (edits : List Edit) (lo hi : ℕ) : Type 0 where
   range : lo ≤ hi
   end : hi ≤ length (list_of edits)
@@ -76,14 +76,14 @@ order_push xs ys answers reduction more last holds rises =
     IsNonDecreasingBy-push (λ reduction. reduction.edit) answers reduction rises (λ d some.
     let one = All-get_or (IsTrueAnswer xs) answers (length answers - 1) d (omega (arith, some)) holds in omega (arith, one.edit, prefix_length xs ys more, last))
 
--- what a session's step keeps: it has seen more, and where all that is listed was true of what was seen, it is still; and it stands in
--- the order of time
+-- What a step of a session keeps. It has seen no less. If all listed reductions were true of what it had seen, they still are, and the list is in
+-- the order of time.
 pub record Keeps (old new : SessionState) : Type 0 where
   pub seen : IsPrefix old.seen new.seen
   pub all_true : All (IsTrueAnswer old.seen) old.answers → All (IsTrueAnswer new.seen) new.answers
   pub order : All (IsTrueAnswer old.seen) old.answers → AreInOrder old.answers → AreInOrder new.answers
 
--- an edit lists nothing
+-- an update lists nothing
 pub edit_lists_nothing : (s : SessionState) (result : Result Receipt Refusal) → (having_counted s result).answers ≡ s.answers
 edit_lists_nothing s (Ok receipt) = refl
 edit_lists_nothing s (Err refusal) = refl
@@ -100,7 +100,7 @@ value_true edits kind lo hi answered last is =
       value = subst (λ es. answered.value ≡ plain_value kind (slice_range (list_of es) lo hi)) (sym all) is.value;
     }
 
--- what is listed, or not, behind true answers stays true and in order
+-- the list after a true answer is still true and in order
 listed_true : (listing : Bool) (edits : List Edit) (answers : List Claimed) (reduction : Claimed) → All (IsTrueAnswer edits) answers → (listing ≡ true → IsTrueAnswer edits reduction) → All (IsTrueAnswer edits) (listed_if listing answers reduction)
 listed_true true edits answers reduction holds one = All-push (IsTrueAnswer edits) answers reduction holds (one refl)
 listed_true false edits answers reduction holds one = holds
@@ -111,7 +111,7 @@ listed_order true xs ys answers reduction more last holds rises = order_push xs 
 listed_order false xs ys answers reduction more last holds rises = rises
 
 module _ (limits : Bounds) (numbers : LogHeading) (listing : Bool) where
-  -- who has seen more, and lists nothing more, keeps
+  -- a step that has seen more, and lists nothing more, keeps all this
   keeps_by_more : (old new : SessionState) → IsPrefix old.seen new.seen → new.answers ≡ old.answers → Keeps old new
   keeps_by_more old new more same =
       record {
@@ -120,7 +120,7 @@ module _ (limits : Bounds) (numbers : LogHeading) (listing : Bool) where
         order = λ holds rises. subst AreInOrder (sym same) rises;
       }
 
-  -- so does who changes nothing
+  -- a step that changes nothing keeps all this
   keeps_same : (old new : SessionState) → new ≡ old → Keeps old new
   keeps_same old new same = keeps_by_more old new (subst (IsPrefix old.seen) (sym (ap (λ s. s.seen) same)) (prefix_self old.seen)) (ap (λ s. s.answers) same)
 
@@ -168,7 +168,7 @@ module _ (limits : Bounds) (numbers : LogHeading) (listing : Bool) where
   answered_keeps P Q old new n line (Ok u) ok err = (line_keeps old new n line ok.0 ok.1).all_true
   answered_keeps P Q old new n line (Err fault) ok err = (line_keeps old new n line err.1 err.2).all_true
 
-  -- one after the other
+  -- steps one after the other
   keeps_both : (old mid new : SessionState) → Keeps old mid → Keeps mid new → Keeps old new
   keeps_both old mid new first second =
       record {

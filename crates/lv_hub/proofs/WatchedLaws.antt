@@ -1,4 +1,4 @@
--- What is so of each subscriber is so of all of them, from their beginning to the close of the hub.
+-- What holds of each subscriber holds of all of them, from their beginning to the close of the hub.
 use Rattle.std.proofs.Common.{◌≡◌, ℕ, suc, Option, List, [], ◌∷◌, ◌++◌, All, length, map, refl, sym, ap, ◌∙◌, subst, arith, length-append}
 use Rattle.std.proofs.KnownBytes.{Appends-nil}
 use Rattle.std.proofs.lemmas.List.{map-append}
@@ -28,7 +28,7 @@ takes_no_watchers numbers share = record {
   left_are = refl;
 }
 
--- one more was
+-- one more was taken back
 pub takes_watcher : (numbers : LogHeading) (old mid new : ShareState) (watchers : List WatcherState) (left more : List LeftState) (w : WatcherState) (part : ShareState) (one : LeftState)
     → TakesWatchers numbers old mid watchers left → AreTogether mid part new → part ≡ w.subscriber.share → part.parts ≡ 1 → part.count ≡ 0 → one ≡ left_by numbers w → more ≡ left ++ one ∷ []
     → TakesWatchers numbers old new (watchers ++ w ∷ []) more
@@ -42,7 +42,7 @@ takes_watcher numbers old mid new watchers left more w part one t both part_is p
   left_are = more_is ∙ ap (λ left. left ++ one ∷ []) t.left_are ∙ ap (λ one. map (left_by numbers) watchers ++ one ∷ []) one_is ∙ sym (map-append (left_by numbers) watchers (w ∷ []));
 }
 
--- what one has left was told of every list that goes on from what was seen
+-- the notifications of a subscriber that has ended are of every list that extends what was seen
 left_so : (limits : Bounds) (numbers : LogHeading) (seen : List Edit) (watch : WatchState) (w : WatcherState) → Watches limits numbers (watcher_at watch) w → IsPrefix w.subscriber.share.seen seen
     → (w.subscriber.questions ≡ watch.questions) × ((edits : List Edit) → IsPrefix seen edits → ToldOf numbers edits watch w.subscriber.told w.notices)
 left_so limits numbers seen watch w watches begun = (
@@ -67,7 +67,7 @@ left_each limits numbers seen (watch ∷ watches) (w ∷ watchers) are begun =
       left_each limits numbers seen watches watchers (record { len = omega (arith, are.len); each = λ i o n within. are.each (suc i) o n (omega arith) }) (All-tail (λ w. IsPrefix w.subscriber.share.seen seen) w watchers begun),
     )
 
--- the same, of what was begun for each of some files
+-- watchers that were begun for each of some files are those that were begun for the questions of these files
 begun_watches : {S : Type 0} (watch : S → WatchState) (files : List S) → map (λ f. watcher_at (watch f)) files ≡ map watcher_at (map watch files)
 begun_watches watch [] = refl
 begun_watches watch (f ∷ files) = ap (λ begun. watcher_at (watch f) ∷ begun) (begun_watches watch files)
@@ -78,7 +78,7 @@ all_left watch limits numbers old new files begun watchers left begun_is are t =
     subst (AreLeft numbers new.seen (map watch files)) (sym t.left_are)
     (left_each limits numbers new.seen (map watch files) watchers (subst (λ begun. AreWatchedFrom limits numbers begun watchers) (begun_is ∙ begun_watches watch files) are) t.seen)
 
--- one more was begun
+-- one more subscriber was begun
 pub begun_more : {S : Type 0} (begun : S → WatcherState) (watchers more : List WatcherState) (w : WatcherState) (files : List S) (f : S) → watchers ≡ map begun files → more ≡ watchers ++ w ∷ [] → w ≡ begun f → more ≡ map begun (files ++ f ∷ [])
 begun_more begun watchers more w files f are pushed is =
     pushed ∙ ap (λ ws. ws ++ w ∷ []) are ∙ ap (λ w. map begun files ++ w ∷ []) is ∙ sym (map-append begun files (f ∷ []))
@@ -93,11 +93,11 @@ tells_more edits [] (t ∷ told) one new all last = absurd all
 tells_more edits (l ∷ left) [] one new all last = absurd all
 tells_more edits (l ∷ left) (t ∷ told) one new all last = (all.0, tells_more edits left told one new all.1 last)
 
--- so they do at every list of edits that is as long as this, and has the elements of a vector
+-- all write their last notifications, for every list of updates of this length that has the elements of a vector
 abbrev pub AllTellLastAt : List Edit → ℕ → List LeftState → List NoticesState → Type 0
 AllTellLastAt journal many left told = (edits : List Edit) → length edits ≡ many → list_of journal ≡ list_of edits → AllTellLast edits left told
 
--- one tells the last by a vector with the elements that there are after the edits
+-- a subscriber writes its last notification, from a vector with the elements that there are after the updates
 pub tells_last : (journal edits : List Edit) (many : ℕ) (l : LeftState) (told : Told) (new : NoticesState) → told.edit ≡ many → length edits ≡ many → list_of journal ≡ list_of edits
     → AreNotesOf l.ended.questions l.ended.told (map (watch_answer journal) l.ended.questions) told.notes.items → WritesMore (told_text l.numbers told) l.notices new → TellsLast edits l new
 tells_last journal edits many l told new last as_many same notes written = record {
@@ -107,12 +107,12 @@ tells_last journal edits many l told new last as_many same notes written = recor
   written = written;
 }
 
--- one more told the last
+-- one more has written its last notification
 pub tells_one_more : (edits : List Edit) (left : List LeftState) (told more : List NoticesState) (one : LeftState) (new : NoticesState) → AllTellLast edits left told → TellsLast edits one new → more ≡ told ++ new ∷ []
     → AllTellLast edits (left ++ one ∷ []) more
 tells_one_more edits left told more one new all last is = subst (AllTellLast edits (left ++ one ∷ [])) (sym is) (tells_more edits left told one new all last)
 
--- what was told up to the end, and then the last
+-- the notifications up to the end, and then the last one
 watched_so : (numbers : LogHeading) (edits : List Edit) (watch : WatchState) (l : LeftState) (new : NoticesState) → l.numbers ≡ numbers → l.ended.questions ≡ watch.questions → ToldOf numbers edits watch l.ended.told l.notices → TellsLast edits l new → IsWatched numbers edits watch new
 watched_so numbers edits watch l new same questions told last =
     let wrote : WritesMore (told_text numbers last.told) l.notices new = subst (λ numbers. WritesMore (told_text numbers last.told) l.notices new) same last.written in
@@ -132,7 +132,7 @@ watched_each numbers seen edits (w ∷ watches) (l ∷ left) [] begun are last =
 watched_each numbers seen edits (w ∷ watches) (l ∷ left) (n ∷ news) begun are last =
     (watched_so numbers edits w l n are.0 are.1 (are.2 edits begun) last.0, watched_each numbers seen edits watches left news begun are.3 last.1)
 
--- subscribers were served with the sessions, where the hub was closed
+-- subscribers were served together with sessions, if the hub was closed
 pub served_watched : (numbers : LogHeading) (share : ShareState) (watches : List WatchState) (left : List LeftState) (news : List NoticesState) (contents_old contents_new : Option (List ℕ)) → AreLeft numbers share.seen watches left → ClosesTelling share left news contents_old contents_new
     → ServedWatched numbers watches news contents_old contents_new
 served_watched numbers share watches left news contents_old contents_new are closed = record {
@@ -142,7 +142,7 @@ served_watched numbers share watches left news contents_old contents_new are clo
   watched = watched_each numbers share.seen closed.journal watches left news closed.seen are closed.last;
 }
 
--- from their beginning to the last, subscribers were told of one list
+-- from their beginning to the last, the notifications of subscribers are of one list
 pub watched_of_one_list : (limits : Bounds) (numbers : LogHeading) (old new : ShareState) (edits : List Edit) (watches : List WatchState) (watchers : List WatcherState) (left : List LeftState) (told : List NoticesState)
     → AreWatchedFrom limits numbers (map watcher_at watches) watchers → TakesWatchers numbers old new watchers left → IsPrefix new.seen edits → AllTellLast edits left told → AreWatched numbers edits watches told
 watched_of_one_list limits numbers old new edits watches watchers left told are taken begun last =

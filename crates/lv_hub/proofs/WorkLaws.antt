@@ -1,4 +1,4 @@
--- An edit that is not said to make work makes no node want a job.
+-- After an update that is said to make no work, no further node needs a job.
 use Rattle.std.proofs.Common.{◌≡◌, ℕ, ◌+◌, ◌-◌, ◌*◌, ◌/◌, ◌%◌, ◌^◌, ◌<◌, ◌≤◌, true, false, Some, Result, Ok, Err, List, [], ◌∷◌, ◌++◌, length, refl, sym, ap, ◌∙◌, inl, inr, arith}
 use Rattle.std.specs.Prelude.{ℤ}
 use Rattle.std.proofs.lemmas.Bool.{and_parts, cases_Bool, eq-eqb, eqb-true, leb-true, true≢false}
@@ -34,7 +34,7 @@ ends_a_block i level above number is at whole =
     let end : i + 1 ≡ (number + 1) * 8 ^ above * 8 = omega (arith, ap (λ w. (number + 1) * w) width) in
     omega (arith, end)
 
--- an edit that makes no work touches no node that is whole after it
+-- an update that makes no work touches no node that is full after it
 touches_none_whole : (es : List Edit) (e : Edit) (ys : List ℤ) (n : Node) → replayed es ≡ Some (list_of es) → applied (list_of es) e ≡ Some ys → makes_work (Ok (receipt_of es e)) ≡ false → is_whole (es ++ e ∷ []) n ≡ true → touches (list_of es) e n ≡ false
 touches_none_whole es (Push x) ys n legal possible no_work whole =
     elim (cases_Bool (covers n (length (list_of es)))) [
@@ -51,7 +51,7 @@ touches_none_whole es (Reserve k) ys n legal possible no_work whole = refl
 touches_none_whole es (Swap i j) ys n legal possible no_work whole = absurd (true≢false no_work)
 touches_none_whole es (Truncate k) ys n legal possible no_work whole = refl
 
--- no node wants a job where there is no block
+-- no node needs a job if there is no full block
 pub nothing_without_a_block : (r : Record) (n : Node) → length (list_of r.edits) < 8 → wants_job r n ≡ false
 nothing_without_a_block r n few =
     elim (cases_Bool (wants_job r n)) [
@@ -65,7 +65,7 @@ nothing_without_a_block r n few =
       | inr idle ↦ idle
     ]
 
--- a node that wants a job after an edit that makes no work wanted one before
+-- a node that needs a job after an update that makes no work needed one before
 pub no_new_wants : {B S : Type 0} (limits : Bounds) (s t : LiveState B S) (e : Edit) (result : Result Receipt Refusal) → IsVector limits s.history → Answers s.history e result t.history → SameRefresh s t → makes_work result ≡ false → (n : Node) → wants_job (recorded t) n ≡ true → wants_job (recorded s) n ≡ true
 no_new_wants limits s t e (Ok receipt) vector answers refresh no_work n wants =
     let able = accepted_is_possible s.history.limits s.history.journal e answers.verdict in

@@ -1,4 +1,4 @@
--- The log of a hub: what came since it was written last, where its file begins, and what it has.
+-- The log of a hub: the entries that came since it was last written, how its file begins, and what the file has.
 use Rattle.std.proofs.Common.{inl, inr}
 use Rattle.std.specs.Prelude.{◌≡◌, ◌⊎◌, ℕ, ℤ, ◌+◌, ◌<◌, ◌≤◌, ◌^◌, All, Bool, true, false, is_some, Option, Some, None, Result, Ok, Err, List, [], ◌∷◌, ◌++◌, drop, length, map, take}
 use Rattle.lv_geometry.specs.Bounds.{Bounds}
@@ -21,62 +21,64 @@ use Rattle.lv_hub.specs.Renewing.{lasting, renewed_after}
 
 -- ---- what came since
 
--- an entry, as a transcript has it
+-- An entry as a transcript has it.
 abbrev pub entry_of : LogEntry → Entry
 entry_of (logged.Edit edit) = inl edit
 entry_of (logged.Answer answer) = inr answer
 
--- the edit of the last answer among some entries, behind one at edit last
+-- The version of the last answer among some entries, or `last` if there is no answer.
 abbrev pub last_after : ℕ → List Entry → ℕ
 last_after last [] = last
 last_after last (inl edit ∷ entries) = last_after last entries
 last_after last (inr answer ∷ entries) = last_after answer.edit entries
 
--- entries are what came since the first edits of a journal, so many of them: the edits that came since, in order, and answers at their time
+-- These entries came after the first `from` updates of a journal: the later updates, in order, and the answers at their time.
 pub record CameSince (journal : List Edit) (from : ℕ) (entries : List Entry) : Type 0 where
   pub within : from ≤ length journal
   pub edits_are : edits_in entries ≡ drop from journal
   pub all_true : AreTrueAfter (take from journal) from entries
   pub in_time : last_after from entries ≤ length journal
 
--- a tap: from which edit on it has entries, those, for how many it has room, and how many entries came in all, with those that others had before
+-- A tap, which collects entries for a log: after how many updates it began, its entries, for how many it has room, and how many entries came in
+-- all, including those of earlier taps.
 pub record TapState : Type 0 where
   pub from : ℕ
   pub entries : List LogEntry
   pub room : ℕ
   pub given : ℕ
 
--- there is room for one more
+-- There is room for one more entry.
 abbrev pub HasPlace : TapState → Type 0
 HasPlace t = (length t.entries + 1 ≤ t.room) × (t.given + 1 < 2 ^ 64)
 
--- a tap with one entry more
+-- The tap, with one more entry.
 abbrev pub with_entry : LogEntry → TapState → TapState
 with_entry entry t = record t { entries = t.entries ++ entry ∷ []; given = t.given + 1 }
 
--- a tap of a journal has what came since its edit
+-- The tap has what came since it began, of this journal.
 abbrev pub Taps : List Edit → TapState → Type 0
 Taps journal t = CameSince journal t.from (map entry_of t.entries)
 
 -- ---- what the file has
 
--- a log: what was written and is held, the beginning of the hub's edits that it was given, and how many entries it was given in all: edits, and answers
+-- A log: what was written and what is still buffered, the prefix of the hub's updates that it was given, and how many entries (updates and
+-- answers) it was given in all.
 pub record LogState : Type 0 where
   pub written : WritingState
   pub seen : List Edit
   pub taken : ℕ
 
--- nothing is held back, unless a write has failed
+-- Nothing is buffered, unless a write has failed.
 abbrev pub HoldsNothing : WritingState → Type 0
 HoldsNothing s = s.failed ≡ false → s.held ≡ []
 
--- the text that is written behind what was there, with these entries: that of a transcript has its last line too
+-- The text that is written for these entries after what was there. A transcript also gets its last line.
 abbrev pub text_behind : Option LogThere → List Entry → List ℕ
 text_behind None entries = whole_bytes entries
 text_behind (Some log) entries = ended (map entry_line entries)
 
--- how the writing of a log ended that was given these entries behind what was there: their text was written, and it goes on; or a write has
--- failed, after what is a front of them
+-- How the writing of a log ended that was given these entries after what was there. Either their text was written, and the whole is then a log.
+-- Or a write has failed, and what was written is a prefix.
 abbrev pub EndsText : Option LogThere → Option (List ℕ) → Option (List ℕ) → List Entry → Result Unit Fault → Type 0
 EndsText log start contents entries (Ok _) =
     Appends start contents (text_behind log entries)
@@ -84,8 +86,8 @@ EndsText log start contents entries (Ok _) =
 EndsText log start contents entries (Err fault) = AreTrueOf (heading_of log) (all_entries (there_of log) entries) → GotFrontOf (heading_of log) (there_of log) start contents entries
 
 module _ (log : Option LogThere) (start : Option (List ℕ)) where
-  -- what a log was given behind what was there, whose writer had got what it had at the start: it is true in the order of time, and all edits
-  -- are those that were seen
+  -- What a log was given after what was there, with `start` as the contents of its writer at the beginning. The entries are true in the order of
+  -- time, and their updates are all that were seen.
   pub record IsLogOf (s : LogState) : Type 0 where
     pub entries : List Entry
     pub goes_on : MayGoOn log
@@ -94,19 +96,20 @@ module _ (log : Option LogThere) (start : Option (List ℕ)) where
     pub edits_are : edits_there log ++ edits_in entries ≡ s.seen
     pub in_time : last_after (length (edits_there log)) entries ≤ length s.seen
 
-  -- what a writer has got since the start is, behind what was there, a front of a transcript, or a log, with true answers, whose edits begin these
+  -- What the writer has got since the start is a prefix of a transcript, or of a log, after what was there. Its answers are true, and its updates
+  -- are a prefix of these.
   pub record HasFront (contents : Option (List ℕ)) (edits : List Edit) : Type 0 where
     pub entries : List Entry
     pub begins : IsPrefix (edits_there log ++ edits_in entries) edits
     pub got : GotFrontOf (heading_of log) (there_of log) start contents entries
 
-  -- all edits of a journal were written: entries with just these, behind what was there
+  -- All updates of a journal were written: entries with just these updates, after what was there.
   pub record HasAll (contents : Option (List ℕ)) (journal : List Edit) : Type 0 where
     pub entries : List Entry
     pub edits_are : edits_there log ++ edits_in entries ≡ journal
     pub written : Appends start contents (bytes_behind (heading_of log) (there_of log) entries)
 
-  -- a log was written whole: entries that go on behind what was there, true in the order of time, with all edits of a journal
+  -- A log was written completely: entries after what was there, true in the order of time, with all updates of a journal.
   pub record WroteWhole (contents : Option (List ℕ)) (journal : List Edit) : Type 0 where
     pub entries : List Entry
     pub edits_are : edits_there log ++ edits_in entries ≡ journal
@@ -114,27 +117,28 @@ module _ (log : Option LogThere) (start : Option (List ℕ)) where
     pub written : Appends start contents (text_behind log entries)
     pub front : IsFrontOf (heading_of log) (bytes_before (heading_of log) (there_of log) ++ text_behind log entries) (entries_there log ++ entries)
 
-  -- how a log ends: whole; or a write has failed, and what was written is a front of edits that begin the journal
+  -- How a log ends. Either it is complete, or a write has failed and what was written is a prefix, whose updates are a prefix of the journal.
   abbrev pub LogEnds : Option (List ℕ) → List Edit → Result Unit Fault → Type 0
   LogEnds contents journal (Ok _) = WroteWhole contents journal
   LogEnds contents journal (Err fault) = HasFront contents journal
 
 -- ---- a file that takes the place of another
 
--- a hub with these limits goes on when the edits of its vector are used up, which has the other ones
+-- A hub with these limits continues when the updates of its vector are used up. The vector has the other limits.
 pub record AreLasting (limits vector : Bounds) : Type 0 where
   pub lasts : limits ≡ lasting vector
   pub many : vector.edits ≡ 16777215
 
--- how the log begins that comes after the first n edits of a hub which tells them by these numbers
+-- The first line of the log that begins after the first n updates of a hub with this numbering.
 abbrev pub heading_after : LogHeading → ℕ → List Edit → LogHeading
 heading_after numbers n edits = record { base = told_number numbers n; elements = length (list_of (take n edits)) }
 
--- what that log has at first: the elements that there were, each as the push of it
+-- The contents of that log at first: a push of each element that there was.
 abbrev pub log_after : LogHeading → ℕ → List Edit → LogThere
 log_after numbers n edits = log_of_edits (heading_after numbers n edits) (map Push (list_of (take n edits)))
 
--- what a file begins with that takes the place of another: the elements that there are after all edits of the hub, behind a first line that has the number of the last of these
+-- How a file begins that replaces another: with the elements after all updates of the hub, behind a first line with the number of the last of
+-- these updates.
 pub record BeginsAnew (limits : Bounds) (numbers : LogHeading) (edits : List Edit) (heading : LogHeading) (elements : List ℤ) : Type 0 where
   pub lasts : limits ≡ lasting limits
   pub heading_is : heading ≡ heading_after numbers (length edits) edits
@@ -143,14 +147,15 @@ pub record BeginsAnew (limits : Bounds) (numbers : LogHeading) (edits : List Edi
   pub few : length elements ≤ 1048568
   pub all : All IsElement elements
 
--- a log goes on behind what was there, holds nothing that is to be written, and no write has failed
+-- A log that continues one that was there, has nothing buffered, and has had no failed write.
 pub record MayBeginAnew (log : Option LogThere) (s : LogState) : Type 0 where
   pub behind : is_some log ≡ true
   pub sent : s.written.held ≡ []
   pub fine : s.written.failed ≡ false
 
--- the file of the log of a hub that has come to some edits: what was there already, what its writer had got then, and how many entries the files before it were given. It is
--- the one that the hub began with; or else the vector was made anew after the first so many edits, and with it the file
+-- The file of the log of a hub that has reached these updates: what was there already, what its writer had got then, and how many entries the
+-- earlier files were given. Either it is the file that the hub began with. Or it was begun anew when the vector was, after the first `renewed`
+-- updates.
 pub record LogFile (made : Option (List ℕ)) (limits : Bounds) (numbers : LogHeading) (log : Option LogThere) (start : Option (List ℕ)) (edits : List Edit) : Type 0 where
   pub renewed : ℕ
   pub some : renewed ≤ length edits
@@ -160,8 +165,8 @@ pub record LogFile (made : Option (List ℕ)) (limits : Bounds) (numbers : LogHe
   pub which : ((renewed ≡ 0) × (there ≡ log) × (begun ≡ start) × (earlier ≡ 0))
       ⊎ ((limits ≡ lasting limits) × (there ≡ Some (log_after numbers renewed edits)) × HasLog made (heading_after numbers renewed edits) (list_of (take renewed edits)) begun)
 
--- a log that was given what a hub has come to: its file was begun anew after so many of those edits, with so many elements, and after so many entries, and was given what the
--- vector has since. All that it was given was counted
+-- A log that was given all that a hub has reached. Its file was begun anew after `renewed` updates, with this number of elements and after
+-- `earlier` entries, and was given the vector's updates since then. All entries that the log was given are counted.
 pub record IsLogInFile (made : Option (List ℕ)) (limits : Bounds) (numbers : LogHeading) (log : Option LogThere) (start : Option (List ℕ)) (renewed elements earlier : ℕ) (is_log : Bool) (s : LogState) : Type 0 where
   pub file : LogFile made limits numbers log start s.seen
   pub renewed_is : file.renewed ≡ renewed
@@ -171,18 +176,20 @@ pub record IsLogInFile (made : Option (List ℕ)) (limits : Bounds) (numbers : L
   pub given : IsLogOf file.there file.begun record { written = s.written; seen = renewed_after file.renewed s.seen; taken = s.taken }
   pub counted : file.earlier + length given.entries ≡ s.taken
 
--- what the writer of that file has got is a front, whose edits begin those of the vector
+-- The contents of that file are a prefix, and its updates are a prefix of those of the vector.
 pub record HasFrontOfFile (made : Option (List ℕ)) (limits : Bounds) (numbers : LogHeading) (log : Option LogThere) (start contents : Option (List ℕ)) (edits : List Edit) : Type 0 where
   pub file : LogFile made limits numbers log start edits
   pub front : HasFront file.there file.begun contents (renewed_after file.renewed edits)
 
--- all edits of the hub were written in that file, or are among those that it was begun anew after; and with the entries of the files before, all that it has are so many
+-- All updates of the hub were written to that file, or are among those after which it was begun anew. `taken` is the number of its entries and
+-- those of the earlier files.
 pub record HasAllOfFile (made : Option (List ℕ)) (limits : Bounds) (numbers : LogHeading) (log : Option LogThere) (start contents : Option (List ℕ)) (edits : List Edit) (taken : ℕ) : Type 0 where
   pub file : LogFile made limits numbers log start edits
   pub all : HasAll file.there file.begun contents (renewed_after file.renewed edits)
   pub counted : file.earlier + length all.entries ≡ taken
 
--- there was a time when all edits of the hub were written, and these begin them; and so many entries at least, edits and answers
+-- At some time all updates of the hub had been written, and these are a prefix of them. At least this many entries (updates and answers) had been
+-- written then.
 pub record WereRecorded (made : Option (List ℕ)) (limits : Bounds) (numbers : LogHeading) (log : Option LogThere) (start : Option (List ℕ)) (edits : List Edit) (entries : ℕ) : Type 0 where
   pub then_all : List Edit
   pub contents : Option (List ℕ)
@@ -191,7 +198,7 @@ pub record WereRecorded (made : Option (List ℕ)) (limits : Bounds) (numbers : 
   pub many : entries ≤ taken
   pub has : HasAllOfFile made limits numbers log start contents then_all taken
 
--- how the log of a hub with these edits ends: in its last file
+-- How the log of a hub with these updates ends, in its last file.
 pub record EndsInFile (made : Option (List ℕ)) (limits : Bounds) (numbers : LogHeading) (log : Option LogThere) (start contents : Option (List ℕ)) (edits : List Edit) (result : Result Unit Fault) : Type 0 where
   pub file : LogFile made limits numbers log start edits
   pub ends : LogEnds file.there file.begun contents (renewed_after file.renewed edits) result

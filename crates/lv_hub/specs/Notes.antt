@@ -1,4 +1,4 @@
--- Questions by name at a hub, and what a subscriber is told of them.
+-- Named questions at a hub, and what a subscriber is notified of.
 use Rattle.std.specs.Prelude.{◌≡◌, ◌<◌, Option, Some, None, List, length, map}
 use mathlib.Core.List.{IsPrefix}
 use Rattle.lv_geometry.specs.Bounds.{Bounds}
@@ -10,23 +10,23 @@ use Rattle.lv_hub.specs.declared.told.Told.{Told}
 use Rattle.lv_hub.specs.Counting.{ShareState, having_seen}
 use Rattle.lv_hub.specs.Renewing.{IsRun}
 
--- why a subscriber refuses a query, want of memory apart: it has at most 64
+-- The precondition check of a new question: a subscriber has at most 64. Running out of memory is not covered here.
 abbrev pub question_refusal : List Query → Query → Option Refusal
 question_refusal queries q = query_refusal 64 queries q
 
--- a subscriber: its share of the hub, its questions in the order that they came, and what each was told last
+-- A subscriber: its share of the hub, its questions in the order that they came, and the last answer that was reported for each.
 pub record SubscriberState : Type 0 where
   pub share : ShareState
   pub questions : List Query
   pub told : List Shown
 
--- a subscriber that has ended
+-- A subscriber that has ended.
 pub record EndedState : Type 0 where
   pub questions : List Query
   pub told : List Shown
 
--- a subscriber was told of a hub with these limits: it came to a later edit, its answers there are what it was told, and the notes
--- are those that were due
+-- A subscriber of a hub with these limits was notified. It has seen a later version, its last answers are those at that version, and the notes
+-- are those that were due.
 pub record HasTold (limits : Bounds) (old new : SubscriberState) (told : Told) : Type 0 where
   pub seen : IsPrefix old.share.seen new.share.seen
   pub later : length old.share.seen < told.edit
@@ -37,7 +37,7 @@ pub record HasTold (limits : Bounds) (old new : SubscriberState) (told : Told) :
   pub answers : new.told ≡ map (watch_answer new.share.seen) old.questions
   pub notes : AreNotesOf old.questions old.told new.told told.notes.items
 
--- either there was nothing to tell, and nothing has changed; or it was told
+-- Either there was nothing to report, and nothing has changed, or the subscriber was notified.
 abbrev pub IsToldIf : Bounds → SubscriberState → SubscriberState → Option Told → Type 0
 IsToldIf limits old new None = new ≡ old
 IsToldIf limits old new (Some told) = HasTold limits old new told

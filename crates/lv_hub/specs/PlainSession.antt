@@ -1,5 +1,6 @@
--- Sessions by lists alone: each line is answered at some edits of the hub's one list, to which other sessions add between.
--- Kept is which edits a session has seen, and how many of them it made.
+-- A reference model of sessions at a hub. All sessions share one list of updates, and each line is answered after some prefix of it. Other
+-- sessions may append updates between two lines of a session. The model keeps only the updates that a session has seen, and how many of them the
+-- session made.
 use Rattle.std.specs.Prelude.{◌≡◌, ◌⊎◌, ℕ, ◌+◌, ◌≤◌, Option, None, List, [], ◌∷◌, ◌++◌, length, take}
 use Rattle.std.specs.Option.{option_map_or}
 use mathlib.Core.List.{IsPrefix}
@@ -22,7 +23,7 @@ use Rattle.lv_hub.specs.Counting.{ShareState}
 use Rattle.lv_history.specs.Numbering.{told_number}
 use Rattle.lv_script.specs.PlainScript.{scan_by}
 
--- a line as a session reads it, by its bytes: it knows edits, reductions and scans, and any other command is bad
+-- A line as a session reads it. A session accepts updates, reductions and scans, and any other command is a bad line.
 abbrev pub known_of : Line Command → Line Command
 known_of (Do (command.Edit e)) = Do (command.Edit e)
 known_of (Do (Reduce kind lo hi)) = Do (Reduce kind lo hi)
@@ -33,16 +34,17 @@ known_of _ = Bad
 abbrev pub session_line_of : List ℕ → Line Command
 session_line_of bytes = known_of (line_of bytes)
 
--- what is kept of a session: the edits that it has seen, a beginning of the hub's, and how many of them it made
+-- What the model keeps of a session: the updates that it has seen, which are a prefix of the hub's, and how many of them it made.
 pub record Seen : Type 0 where
   pub edits : List Edit
   pub made : ℕ
 
--- so of a session by its share of the hub
+-- `Seen` of a session, taken from its share of the hub.
 abbrev pub seen_by : ShareState → Seen
 seen_by share = record { edits = share.seen; made = share.count }
 
--- what an edit, a reduction or a scan is answered after some edits, where nothing refuses it: it tells the number of its edit, or of the last one
+-- The reply to an update, a reduction or a scan that no precondition refuses, after these updates. It carries the version: the number of the
+-- update that was made, or otherwise of the last one.
 abbrev pub reply_after : LogHeading → List Edit → Command → List ℕ
 reply_after numbers edits (command.Edit e) = receipt_text (numbered (told_number numbers (length edits + 1)) (receipt_of edits e))
 reply_after numbers edits (Reduce kind lo hi) = answer_text (told_number numbers (length edits)) kind (plain_value kind (slice_of edits lo hi))
@@ -50,45 +52,48 @@ reply_after numbers edits (Scan inclusive kind lo hi) = scan_text (told_number n
 reply_after numbers edits _ = []
 
 module _ (limits : Bounds) where
-  -- why it is refused there, want of memory apart, or nothing
+  -- The precondition check: why a command is refused after these updates, or `None`. Running out of memory is not covered here.
   abbrev pub refusal_after : List Edit → Command → Option Refusal
   refusal_after edits (command.Edit e) = verdict_of limits edits e
   refusal_after edits (Reduce kind lo hi) = range_refusal edits lo hi
   refusal_after edits (Scan inclusive kind lo hi) = range_refusal edits lo hi
   refusal_after edits _ = None
 
-  -- what a session has seen and made then: an edit that nothing refuses is one more, and its own
+  -- What a session has seen and made after a line. An update that is not refused is appended, and counts as made by the session. Any other line
+  -- only leaves the session having seen these updates.
   abbrev pub seen_after : List Edit → Seen → Line Command → Seen
   seen_after edits old (Do (command.Edit e)) =
       option_map_or (λ refusal. record old { edits = edits }) (verdict_of limits edits e) record { edits = edits ++ e ∷ []; made = old.made + 1 }
   seen_after edits old _ = record old { edits = edits }
 
-  -- a command that nothing else refuses was refused for want of memory
+  -- The reply is the error `NoMemory`, for a command that the precondition check does not refuse.
   abbrev pub FindsNoMemory : List Edit → Line Command → List ℕ → Type 0
   FindsNoMemory edits (Do c) text = (refusal_after edits c ≡ None) × (text ≡ refused_text NoMemory)
   FindsNoMemory edits _ text = ⊥
 
 module _ (limits : Bounds) (numbers : LogHeading) where
-  -- what line n is answered there: nothing where it says nothing, its number where it says nothing known; a command by its refusal, or its reply
+  -- The reply to line n after these updates. An empty line has no reply, and a bad line is answered by its number. A command is answered by its
+  -- refusal if the precondition check refuses it, and otherwise by its reply.
   abbrev pub session_reply : List Edit → ℕ → Line Command → List ℕ
   session_reply edits n Nothing = []
   session_reply edits n Bad = bad_text n
   session_reply edits n (Do c) = option_map_or refused_text (refusal_after limits edits c) (reply_after numbers edits c)
 
-  -- line n of a session. The hub came to a list that begins with what the session has seen, and there the line has its reply; the session
-  -- has then seen that list, with its own edit. Or memory was wanting, and nothing was made
+  -- One step of a session, at line n. The hub had reached a list of updates that begins with those that the session had seen. Either the line has
+  -- its reply after that list, and the session has then seen the list and the update that it made, if any. Or the reply is `NoMemory`, and no
+  -- update was made.
   pub record PlainSessionStep (old : Seen) (n : ℕ) (line text : List ℕ) (new : Seen) : Type 0 where
     pub before : List Edit
     pub grown : IsPrefix old.edits before
     pub answer : ((text ≡ session_reply before n (session_line_of line)) × (new ≡ seen_after limits before old (session_line_of line)))
         ⊎ (FindsNoMemory limits before (session_line_of line) text × (new ≡ record old { edits = before }))
 
-  -- what line n was answered is true of a list of edits: it is the reply after the first so many of them, or `refused 6`
+  -- The reply to line n is true of a list of updates: it is the reply after some prefix of the list, or the error `NoMemory`.
   pub record IsTrueReply (edits : List Edit) (n : ℕ) (line text : List ℕ) : Type 0 where
     pub many : ℕ
     pub within : many ≤ length edits
     pub answer : (text ≡ session_reply (take many edits) n (session_line_of line)) ⊎ (text ≡ refused_text NoMemory)
 
-  -- so of a line, in a run that keeps nothing
+  -- `IsTrueReply` as a step of a run that keeps no state.
   abbrev pub TrueReply : List Edit → Unit {0} → ℕ → List ℕ → List ℕ → Unit {0} → Type 0
   TrueReply edits old n line text new = IsTrueReply edits n line text

@@ -1,4 +1,4 @@
--- What the code of sessions passes on: how a line was answered by what the hub told.
+-- What the code of sessions passes on: how a line was answered from the result of a hub's call.
 use Rattle.std.specs.Prelude.{◌≡◌, ◌⊎◌, ℕ, ◌+◌, Bool, true, IfOk, Result, Ok, Err, List, [], length}
 use Rattle.lv_geometry.specs.Bounds.{Bounds}
 use Rattle.lv_geometry.specs.declared.refusals.Refusal.{Refusal}
@@ -23,56 +23,57 @@ use Rattle.lv_history.specs.Numbering.{told_number}
 use Rattle.lv_hub.specs.Session.{SessionState, listed_if}
 use Rattle.lv_hub.specs.Told.{EditTold, StretchTold, ValueTold}
 
--- the state once the hub's edits were seen up to these
+-- The state once the hub's updates were seen up to these.
 abbrev pub up_to : SessionState → List Edit → SessionState
 up_to s edits = record s { seen = edits }
 
--- the state after an edit: it is counted where it was accepted
+-- The state after an update, which is counted if it was accepted.
 abbrev pub having_counted : SessionState → Result Receipt Refusal → SessionState
 having_counted s (Ok receipt) = record s { count = s.count + 1 }
 having_counted s (Err refusal) = s
 
--- a reduction as it is listed
+-- A reduction as it is listed.
 abbrev pub listed_of : Kind → ℕ → ℕ → Answered → Claimed
 listed_of kind lo hi answered = record { edit = answered.edit; kind = kind; lo = lo; hi = hi; value = answered.value }
 
--- the state with one reduction more, where reductions are listed
+-- The state with one more reduction, if reductions are listed.
 abbrev pub with_listed : Bool → SessionState → Claimed → SessionState
 with_listed listing s claim = record s { answers = listed_if listing s.answers claim }
 
--- the receipt of an edit, which tells this number of it, or its refusal
+-- The text of an update's receipt, with this number, or of its refusal.
 abbrev pub edit_text_at : ℕ → Result Receipt Refusal → List ℕ
 edit_text_at number (Ok receipt) = receipt_text (numbered number receipt)
 edit_text_at number (Err refusal) = refused_text refusal
 
--- the values of a scan of elements that were copied at an edit of this number, or its refusal
+-- The text of a scan of elements that were copied, with this number, or of its refusal.
 abbrev pub scan_reply_text : ℕ → Bool → Kind → Result (StretchState Six) Refusal → List ℕ
 scan_reply_text number inclusive kind (Ok stretch) = scan_text number inclusive kind (scan_by (plain_value kind) inclusive stretch.elements)
 scan_reply_text number inclusive kind (Err refusal) = refused_text refusal
 
 module _ (limits : Bounds) (numbers : LogHeading) (listing : Bool) where
-  -- a reduction was answered, and listed where reductions are; or it was refused, for its range or because the list had no room, and nothing changed
+  -- A reduction was answered, and listed if reductions are. Or it was refused, for its range or because the list had no room, and nothing
+  -- changed.
   abbrev pub ListsAnswer : SessionState → Kind → ℕ → ℕ → Result Answered Refusal → List ℕ → SessionState → Type 0
   ListsAnswer old kind lo hi (Ok answered) text new =
       ((text ≡ answer_text (told_number numbers (length old.seen)) kind answered.value) × (new ≡ with_listed listing old (listed_of kind lo hi answered)))
       ⊎ ((listing ≡ true) × (text ≡ refused_text NoMemory) × (new ≡ old))
   ListsAnswer old kind lo hi (Err refusal) text new = (text ≡ refused_text refusal) × (new ≡ old)
 
-  -- an edit is answered by its receipt or its refusal
+  -- An update is answered by its receipt or its refusal.
   pub record TellsEdit (old : SessionState) (e : Edit) (text : List ℕ) (new : SessionState) : Type 0 where
     pub result : Result Receipt Refusal
     pub told : EditTold limits old.seen new.seen e result
     pub text_is : text ≡ edit_text_at (told_number numbers (length new.seen)) result
     pub state : new ≡ having_counted (up_to old new.seen) result
 
-  -- a reduction is answered by its value; or by its refusal
+  -- A reduction is answered by its value or its refusal.
   pub record TellsReduction (old : SessionState) (kind : Kind) (lo hi : ℕ) (text : List ℕ) (new : SessionState) : Type 0 where
     pub result : Result Answered Refusal
     pub told : ValueTold limits old.seen new.seen kind lo hi result
     pub number : listing ≡ true → IfOk result (λ answered. answered.edit ≡ length new.seen)
     pub lists : ListsAnswer (up_to old new.seen) kind lo hi result text new
 
-  -- a scan is answered by its values, of a range that was copied, or by its refusal, and changes nothing else
+  -- A scan of a range that was copied is answered by its values or its refusal, and changes nothing else.
   pub record TellsScan (old : SessionState) (inclusive : Bool) (kind : Kind) (lo hi : ℕ) (text : List ℕ) (new : SessionState) : Type 0 where
     pub body : Six
     pub result : Result (StretchState Six) Refusal
@@ -80,19 +81,19 @@ module _ (limits : Bounds) (numbers : LogHeading) (listing : Bool) where
     pub text_is : text ≡ scan_reply_text (told_number numbers (length new.seen)) inclusive kind result
     pub state : new ≡ up_to old new.seen
 
-  -- what a command is answered: sessions know edits, reductions and scans, and any other is bad, by the line's number
+  -- The reply to a command. Sessions accept updates, reductions and scans. Any other command is a bad line, and is answered by the line's number.
   abbrev pub SessionCommandAnswer : SessionState → ℕ → Command → List ℕ → SessionState → Type 0
   SessionCommandAnswer old n (commands.Edit e) text new = TellsEdit old e text new
   SessionCommandAnswer old n (commands.Reduce kind lo hi) text new = TellsReduction old kind lo hi text new
   SessionCommandAnswer old n (commands.Scan inclusive kind lo hi) text new = TellsScan old inclusive kind lo hi text new
   SessionCommandAnswer old n _ text new = (text ≡ bad_text n) × (new ≡ old)
 
-  -- what a line is answered
+  -- The reply to a line.
   abbrev pub SessionLineAnswer : SessionState → ℕ → Line Command → List ℕ → SessionState → Type 0
   SessionLineAnswer old n Nothing text new = (text ≡ []) × (new ≡ old)
   SessionLineAnswer old n Bad text new = (text ≡ bad_text n) × (new ≡ old)
   SessionLineAnswer old n (Do command) text new = SessionCommandAnswer old n command text new
 
-  -- one line of a session, by its bytes and its number: its reply, and what it leaves
+  -- One line of a session, given by its bytes and its number: its reply, and the state that it leaves.
   unfoldable pub TellsLine : SessionState → ℕ → List ℕ → List ℕ → SessionState → Type 0
   TellsLine old n line text new = SessionLineAnswer old n (line_of line) text new

@@ -1,4 +1,4 @@
-//! A set of queries that is answered at once, at one edit.
+//! A set of queries that is answered at one version.
 ghost use Rattle.std.specs.Prelude.{◌≡◌, ◌≤◌, ◌^◌, length, map};
 ghost use mathlib.Core.List.{IsPrefix};
 ghost use Rattle.lv_standing.specs.Queries.{watch_answer};
@@ -28,7 +28,7 @@ impl<N: WithBody<Six>> Askable for Desk<Six, N> {
         u64::from(self.live.edit())
     }
 
-    // By the kind, whose tree follows what was edited since.
+    // By the tree of the kind, which follows the updates since it was last used.
     fn value(&mut self, kind: Kind, lo: u64, hi: u64) -> Shown {
         self.live.keeps();
         match self.value(kind, lo as u32, hi as u32) {
@@ -39,7 +39,7 @@ impl<N: WithBody<Six>> Askable for Desk<Six, N> {
 }
 
 impl<N: WithBody<Six>> Desk<Six, N> {
-    /// Asks all queries of a set, where the share sees all edits; says how many there are. Takes no memory.
+    /// Asks all queries of a set, and lets the share see all updates. Returns how many there are. Allocates no memory.
     pub fn answer_all(&mut self, share: &mut Share<N>, set: &mut QuerySet<Query>) -> u64
         ensures begins { IsPrefix share.old.seen share.new.seen }
         ensures within { IsRun N.limits share.new.seen }
@@ -57,8 +57,8 @@ impl<N: WithBody<Six>> Desk<Six, N> {
 }
 
 impl<N: WithBody<Six>> Hub<Six, N> {
-    /// Asks all queries of a set: at one edit, up to which the share then sees the hub's edits. Gives the number of that edit. Takes no
-    /// memory.
+    /// Asks all queries of a set at one version, up to which the share then sees the hub's updates. Returns the number of that version. Allocates
+    /// no memory.
     pub fn answer_all<R: Wait>(
         &self,
         rt: &R,

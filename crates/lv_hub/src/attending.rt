@@ -1,4 +1,4 @@
-//! Workers that sleep where there is nothing to do.
+//! Workers that sleep while there is nothing to do.
 ghost use Rattle.std.specs.Prelude.{◌≡◌, ◌+◌, ◌≤◌};
 
 use crate::gates::Gate;
@@ -8,11 +8,11 @@ use lv_bodies::Body;
 use lv_history::WithBody;
 use std::sync::Wait;
 
-/// Refreshes a hub for a number of turns, as `work` does, and sleeps where no node wants a job, until an edit wakes it. Ends sooner
-/// once the workers are dismissed by `Hub::dismiss`: so whoever calls it sees to that.
+/// Precomputes the aggregates of a hub for a number of turns, as `work` does, and sleeps while no node needs a job, until an update wakes it. It
+/// ends sooner once the workers are dismissed by `Hub::dismiss`, for which the caller is responsible.
 ///
-/// For a claim it goes last: while other threads have the lock it naps, at most eight times a tenth of a millisecond. A claim that
-/// found no job is a turn too. A worker whose turns are used up doesn't sleep any more, and wakes another in its place.
+/// To claim a job it waits behind other threads: while they hold the lock, it naps, at most eight times for a tenth of a millisecond. A claim
+/// that found no job counts as a turn too. A worker whose turns are used up doesn't sleep any more, and wakes another in its place.
 pub fn attend<B: Body, N: WithBody<B>, G: Gate, R: Wait>(
     rt: &R,
     hub: &Hub<B, N>,

@@ -1,4 +1,4 @@
-//! What lies under a hub's lock.
+//! The state under a hub's lock.
 ghost use Rattle.std.specs.Prelude.{◌≡◌, ◌<◌, ◌≤◌, ◌^◌, ◌&&◌, ◌||◌, ◌⊎◌, All, Some, None, [], IsTrue, if◌then◌else◌, false, true, is_ok, length, map, max, nat_eq, nat_le, nat_lt, not, option_map, IfOk, IfErr, IfSome, OnErr, OnOk};
 ghost use mathlib.Core.List.{IsPrefix};
 ghost use Rattle.lv_geometry.specs.Elements.{IsElement};
@@ -41,30 +41,30 @@ use std::marker::Model;
 use std::mem;
 use std::sync::ledger::{Blank, Book};
 
-// How many edits a vector that is made anew takes at most, and how many the hub does.
+// How many updates the vector of a hub that lasts takes at most, and how many such a hub takes.
 const MOST_EDITS: u32 = 16_777_214;
 
 const MOST_OF_ALL: u64 = 4_611_686_018_427_387_904;
 
-/// What lies under a hub's lock: a live vector by the body of the hub's name, a tree for each kind that it was asked by, the book that
-/// counts its edits, their history with the one permit to add to it, what a log hasn't got yet, and who sleeps beside the lock. Contracts
-/// don't see the trees, which change no answer, nor what a log hasn't got.
+/// The state under a hub's lock: a live vector by the monoid instance of the hub's name, a tree for each kind that was asked for, the book that
+/// counts its updates, their history with the only permit to add to it, the entries that a log hasn't got yet, and which workers and subscribers
+/// sleep. Contracts don't see the trees, which change no answer, nor those entries.
 #[derive(Drop)]
 pub struct Desk<B: Body, N: WithBody<B>> {
     pub(crate) live: Live<B>,
     pub(crate) kinds: Kinds,
     pub(crate) head: Head<N>,
     book: Book<N>,
-    // After how many edits the vector was made anew last, and how many cells were open then: none where it never was.
+    // After how many updates the vector was last made anew, and how many cells were open then. Both are 0 if it never was.
     renewed: u64,
     capacity: u32,
-    // Whether the hub goes on when its vector's edits are used up.
+    // Whether the hub continues when its vector's updates are used up.
     lasts: bool,
-    // What came since its log was written last, where it has one.
+    // The entries that came since the hub's log was last written, if it has a log.
     tap: Option<Tap>,
-    // At least how many workers sleep that were not woken.
+    // A lower bound of the number of workers that sleep and were not woken.
     asleep: u64,
-    // Whether the workers that attend are to end, and subscribers too.
+    // Whether the workers that attend are to end, and the subscribers too.
     dismissed: bool,
     // Whether a subscriber may sleep that was not woken.
     listened: bool,
@@ -87,8 +87,8 @@ impl<B: Body, N: WithBody<B>> Model for Desk<B, N> {
 }
 
 impl<B: Body, N: WithBody<B>> Desk<B, N> {
-    /// An empty vector with an empty history, beside which nobody sleeps, and a share of all parts of the blank's ledger, which counts
-    /// nothing and has seen nothing. Takes no memory.
+    /// An empty vector with an empty history and no sleeping threads, and a share of all parts of the blank's ledger, which counts nothing and
+    /// has seen nothing. Allocates no memory.
     pub fn new(
         alloc: Global,
         limits: Limits,
@@ -118,8 +118,8 @@ impl<B: Body, N: WithBody<B>> Desk<B, N> {
         Desk::open(alloc, limits, false, body, blank, parts, opened)
     }
 
-    /// The same, for a hub of one vector or, where it lasts, for one that goes on when its vector's edits are used up: the vector has these
-    /// limits, and is made anew before.
+    /// Does what `new` does, for a hub of one vector or, if it lasts, for a hub that continues when its vector's updates are used up. The vector
+    /// has these limits, and is made anew before that happens.
     pub fn open(
         alloc: Global,
         limits: Limits,
@@ -167,18 +167,18 @@ impl<B: Body, N: WithBody<B>> Desk<B, N> {
         (desk, Share::whole(token, prefix, parts))
     }
 
-    /// Makes an edit, counts it on the share where it is accepted, and adds it to the history then. The share sees all edits, and its
-    /// own last. Refused as `Live::apply` is, and with `NoMemory` where a log has no room for it.
+    /// Makes an update. If it is accepted, it is counted on the share and added to the history. The share then sees all updates, and its own is
+    /// the last. Refused as `Live::apply` is, and with `NoMemory` if a log has no room for the update or if the vector is to be made anew first.
     pub fn edit(&mut self, share: &mut Share<N>, edit: Edit) -> Result<Receipt, Refusal>
         ensures begins { IsPrefix share.old.seen self.old.edits }
         ensures seen { share.new.seen ≡ self.new.edits }
         ensures answer { Answers (history_of N.limits self.old.edits) edit (receipt_at (length self.new.edits) result) (history_of N.limits self.new.edits) }
         ensures within { IsRun N.limits self.old.edits }
-        // The vector of a hub that is never made anew numbers its edits as the hub does.
+        // The vector of a hub that is never made anew has the same update numbers as the hub.
         ensures number { IsOfOneVector N.limits → result ≡ receipt_at (length self.new.edits) result }
         ensures refresh { SameRefresh self.old.live self.new.live }
         ensures counts { Counts (having_seen share.old share.new.seen) result share.new }
-        // An edit that makes no work makes no node want a job.
+        // After an update that makes no work, no further node needs a job.
         ensures quiet { makes_work result ≡ false → (n : Node) → wants_job (recorded self.new.live) n ≡ true → wants_job (recorded self.old.live) n ≡ true }
         ensures rest { self.new ≡ record self.old { edits = self.new.edits; live = self.new.live } }
     {
@@ -193,8 +193,8 @@ impl<B: Body, N: WithBody<B>> Desk<B, N> {
         Ok(with_capacity(receipt, self.capacity))
     }
 
-    /// Makes edits, one after the other, by a share that has all parts and counts none, so that they are all there are. The first that is
-    /// refused is the last, and tells why.
+    /// Makes updates, one after the other, with a share that has all parts and counts none, so that they are all updates that there are. Stops at
+    /// the first one that is refused, and returns its refusal.
     pub fn begin(&mut self, share: &mut Share<N>, edits: &[Edit]) -> Result<(), Refusal>
         requires parts { share.old.parts ≡ N.parts }
         requires count { share.old.count ≡ 0 }
@@ -208,7 +208,7 @@ impl<B: Body, N: WithBody<B>> Desk<B, N> {
         Ok(())
     }
 
-    // Lets a share with all parts see all edits, which are as many as it counts.
+    // Lets a share with all parts see all updates, which are as many as it counts.
     fn audit(&mut self, share: &mut Share<N>)
         requires { share.old.parts ≡ N.parts }
         ensures counted { length self.old.edits ≡ share.old.count }
@@ -219,7 +219,7 @@ impl<B: Body, N: WithBody<B>> Desk<B, N> {
         share.audit(&mut self.book);
     }
 
-    // Why an edit is refused that a log, or the vector, has no room for.
+    // Why an update is refused for which a log, or the vector, has no room.
     fn refusal_without_place(&self, edit: &Edit) -> Refusal
         ensures { IsRefusal (verdict_of N.limits self.now.edits edit.now) result }
     {
@@ -229,12 +229,12 @@ impl<B: Body, N: WithBody<B>> Desk<B, N> {
         known_or_no_memory(self.live.verdict(edit))
     }
 
-    /// Whether an edit or an answer finds room until the log is written, where there is one, and the vector is made anew, where it is to be.
+    /// Whether an update or an answer finds room before the log is written, if there is one, and before the vector is made anew, if it is to be.
     pub fn has_place(&self) -> bool {
         !is_full(&self.tap, self.lasts, self.live.edit(), self.head.count())
     }
 
-    /// From now on keeps what comes for a log, in a list that has nothing yet and is never made longer.
+    /// From now on keeps what comes for a log, in a list that is empty and never grows its allocation.
     pub fn tap(&mut self, entries: Vec<LogEntry>)
         requires { entries.items ≡ [] }
         ensures { self.new ≡ self.old }
@@ -244,13 +244,13 @@ impl<B: Body, N: WithBody<B>> Desk<B, N> {
         self.tap = Some(Tap::new(edits, given, entries));
     }
 
-    /// How many entries came for a log in all: edits, and answers.
+    /// How many entries (updates and answers) came for a log in all.
     pub fn given(&self) -> u64 {
         given_to(&self.tap)
     }
 
-    /// Lets a prefix see all edits, and hands over what came since an edit, whose number is given, by a list without entries that takes
-    /// its place. None where there is no log.
+    /// Lets a prefix see all updates, hands over what came for a log and after which update it began, and puts a list without entries in its
+    /// place. Returns none if there is no log.
     pub fn hand_over(
         &mut self,
         prefix: &mut HistoryPrefix<N>,
@@ -272,9 +272,9 @@ impl<B: Body, N: WithBody<B>> Desk<B, N> {
         came_from(from, renewed, given)
     }
 
-    /// Puts a vector in place of its own, which has just the elements that there are after the edits that a prefix has seen, as pushes, if there are no more
-    /// edits than these. From then on what comes is kept for a log in a list without entries. Says whether it was so; else nothing has changed. What was its own is left in place of
-    /// the new one, so that it can be dropped with no lock held.
+    /// Replaces the vector by a new one, if the prefix has seen all updates. The new vector has just the elements that there are after them, as
+    /// pushes. From then on the desk keeps what comes for a log in the list that was given, which has no entries. Returns whether it was
+    /// replaced. If not, nothing has changed. The old vector is left in place of the new one, so that it can be dropped without holding the lock.
     pub fn renew(
         &mut self,
         prefix: &HistoryPrefix<N>,
@@ -299,7 +299,7 @@ impl<B: Body, N: WithBody<B>> Desk<B, N> {
         true
     }
 
-    // The same, where there are no more edits.
+    // Replaces the vector as `renew` does, for a prefix that has seen all updates.
     fn put_anew(
         &mut self,
         prefix: &HistoryPrefix<N>,
@@ -329,7 +329,7 @@ impl<B: Body, N: WithBody<B>> Desk<B, N> {
         self.tap = Some(Tap::new(edits, given, entries));
     }
 
-    /// Copies the elements, where a prefix has seen all edits. Refused with `Stranger` where there are more of them, else with `NoMemory`.
+    /// Copies the elements, if a prefix has seen all updates. Refused with `Stranger` if there are more updates, and otherwise with `NoMemory`.
     pub fn copy_elements(
         &mut self,
         alloc: Global,
@@ -350,8 +350,8 @@ impl<B: Body, N: WithBody<B>> Desk<B, N> {
         self.live.copy_range(alloc, 0, size)
     }
 
-    /// Whom an edit that was answered so wakes: a worker, which then counts as awake, where one sleeps, and the edit may have made a
-    /// node want a job; and subscribers, where one may sleep, and the edit was accepted.
+    /// Whom an update with this result wakes. It wakes a worker, which then counts as awake, if one sleeps and the update may have made a node
+    /// need a job. It wakes subscribers if one may sleep and the update was accepted.
     pub fn wakes_after(&mut self, answer: Result<Receipt, Refusal>) -> (bool, bool)
         ensures wakes { result.0 ≡ (makes_work answer && nat_lt 0 self.old.asleep) }
         ensures calls { result.1 ≡ (is_ok answer && self.old.listened) }
@@ -365,7 +365,7 @@ impl<B: Body, N: WithBody<B>> Desk<B, N> {
         (wakes, calls)
     }
 
-    /// Lets a share see all edits.
+    /// Lets a share see all updates.
     pub fn show(&mut self, share: &mut Share<N>)
         ensures begins { IsPrefix share.old.seen self.old.edits }
         ensures seen { share.new ≡ having_seen share.old self.old.edits }
@@ -374,14 +374,13 @@ impl<B: Body, N: WithBody<B>> Desk<B, N> {
         share.see(&mut self.head);
     }
 
-    /// The value of a kind over the elements from index `lo` up to `hi`. A short range is folded by that kind, where its elements lie; for a
-    /// longer one the kind's tree follows all edits that it hasn't followed yet. Refused with `BadRange`, then `OutOfRange`. Takes no
-    /// memory.
+    /// The value of a kind over the elements from index `lo` up to `hi`. A short range is folded from its cells. For a longer one the kind's tree
+    /// first follows all updates that it hasn't followed yet. Refused with `BadRange`, then `OutOfRange`. Allocates no memory.
     pub fn value(&mut self, kind: Kind, lo: u32, hi: u32) -> Result<Answered, Refusal>
         ensures ok { IfOk result (λ answered. IsValue self.old.edits kind lo hi (valued_at (length self.old.edits) answered)) }
         ensures err { IfErr result (λ refusal. range_refusal self.old.edits lo hi ≡ Some refusal) }
         ensures number { IsOfOneVector N.limits → IfOk result (λ answered. answered.edit ≡ length self.old.edits) }
-        // It tells the number that the vector has for its last edit.
+        // The answer has the number that the vector has for its last update.
         ensures vector { IfOk result (λ answered. IsValue self.old.live.history.journal kind lo hi answered) }
         ensures same { self.new ≡ self.old }
         ensures within { IsRun N.limits self.old.edits }
@@ -390,7 +389,7 @@ impl<B: Body, N: WithBody<B>> Desk<B, N> {
         value_beside(&self.live, &mut self.kinds, kind, lo, hi)
     }
 
-    /// The same; where there is a log, the answer is kept for it, if it has room.
+    /// Returns what `value` does. If there is a log and it has room, the answer is also kept for it.
     pub fn value_logged(&mut self, kind: Kind, lo: u32, hi: u32) -> Result<Answered, Refusal>
         ensures ok { IfOk result (λ answered. IsValue self.old.edits kind lo hi (valued_at (length self.old.edits) answered)) }
         ensures err { IfErr result (λ refusal. range_refusal self.old.edits lo hi ≡ Some refusal) }
@@ -410,7 +409,7 @@ impl<B: Body, N: WithBody<B>> Desk<B, N> {
         Ok(Answered { edit, value })
     }
 
-    // Keeps an answer for a log, if there is one that has room.
+    // Keeps an answer for a log, if there is one and it has room.
     fn take_answer(&mut self, answer: Claimed)
         requires holds { IsTrueAnswer self.old.live.history.journal answer }
         requires now { answer.edit ≡ length self.old.live.history.journal }
@@ -421,7 +420,7 @@ impl<B: Body, N: WithBody<B>> Desk<B, N> {
         }
     }
 
-    /// A job for the least node that wants one, or none. Takes no memory.
+    /// A job for the least node that needs one, or none. Allocates no memory.
     pub fn claim(&mut self) -> Option<Job<B>>
         ensures next { IsNextJob (recorded self.old.live) (option_map node_and_version result) }
         ensures claimed { HasClaim self.old.live self.new.live (option_map node_and_version result) }
@@ -439,7 +438,7 @@ impl<B: Body, N: WithBody<B>> Desk<B, N> {
         job
     }
 
-    /// Delivers an outcome. Refused with `Stranger` exactly where `Live::vet` says no. Takes no memory.
+    /// Delivers an outcome. Refused with `Stranger` if and only if `Live::vet` returns false. Allocates no memory.
     pub fn give(&mut self, outcome: Outcome<B>) -> Result<Accepted, Refusal>
         ensures answer { Delivers (recorded self.old.live) (VouchedBy B.meaning B.operations self.old.live outcome) outcome result }
         ensures delivered { IfOk result (λ accepted. HasDelivery self.old.live self.new.live outcome.node outcome.version accepted) }
@@ -456,7 +455,7 @@ impl<B: Body, N: WithBody<B>> Desk<B, N> {
         Ok(self.live.accept(outcome))
     }
 
-    /// Its vector, which has the hub's elements.
+    /// The vector, which has the hub's elements.
     pub fn live(&self) -> &Live<B>
         ensures same { result.now ≡ self.now.live }
         ensures vector { IsVector (vector_limits N.limits) self.now.live.history }
@@ -470,7 +469,7 @@ impl<B: Body, N: WithBody<B>> Desk<B, N> {
         &self.live
     }
 
-    // Its vector and its edits, once no thread makes any more, of which the share has seen a beginning. The share that is handed in has all parts.
+    // The vector and the updates, once no thread makes any more. The share that is handed in has all parts, and has seen a prefix of the updates.
     pub(crate) fn finish(self, share: Share<N>) -> (Live<B>, HistoryPrefix<N>)
         requires { share.parts ≡ N.parts }
         ensures same { result.0 ≡ self.live }
@@ -493,9 +492,9 @@ impl<B: Body, N: WithBody<B>> Desk<B, N> {
     }
 }
 
-// Who sleeps.
+// Which workers and subscribers sleep.
 impl<B: Body, N: WithBody<B>> Desk<B, N> {
-    /// Whether a worker is to be woken, as in place of another that ends: where one sleeps, which then counts as awake.
+    /// Whether a worker is to be woken, for example in place of another that ends. It is if one sleeps, which then counts as awake.
     pub fn wakes_another(&mut self) -> bool
         ensures wakes { result ≡ nat_lt 0 self.old.asleep }
         ensures rest { self.new ≡ record self.old { asleep = left_asleep self.old.asleep result } }
@@ -515,8 +514,8 @@ impl<B: Body, N: WithBody<B>> Desk<B, N> {
         self.asleep = self.asleep.saturating_add(1);
     }
 
-    /// Whether who waits for work is to sleep, and then counts as asleep: while the vector has no block, and so no node wants a job,
-    /// and nobody was dismissed.
+    /// Whether a worker that waits is to sleep, which then counts as asleep. It is while the vector has no full block, so that no node needs a
+    /// job, and nobody was dismissed.
     pub fn has_no_work(&mut self) -> bool
         ensures idle { result ≡ true → (n : Node) → wants_job (recorded self.old.live) n ≡ false }
         ensures sleeps { result ≡ (nat_lt (length (list_of self.old.live.history.journal)) 8 && not self.old.dismissed) }
@@ -529,7 +528,7 @@ impl<B: Body, N: WithBody<B>> Desk<B, N> {
         sleeps
     }
 
-    /// Whether a subscriber that has seen so many edits is to sleep, and then counts as asleep: while there are no more of them, and
+    /// Whether a subscriber that has seen this many updates is to sleep, which then counts as asleep. It is while there are no more updates, and
     /// nobody was dismissed.
     pub fn has_no_news(&mut self, seen: u64) -> bool
         ensures sleeps { result ≡ (nat_eq (length self.old.edits) seen && not self.old.dismissed) }
@@ -557,7 +556,7 @@ impl<B: Body, N: WithBody<B>> Desk<B, N> {
     }
 }
 
-// Whether an edit may have made a node want a job: it wrote over an element, or swapped two, or pushed the last one of a block.
+// Whether an update may have made a node need a job: it overwrote an element, or swapped two, or pushed the last one of a block.
 fn makes_work(answer: Result<Receipt, Refusal>) -> bool
     ensures { result ≡ makes_work answer }
 {
@@ -569,21 +568,22 @@ fn makes_work(answer: Result<Receipt, Refusal>) -> bool
     }
 }
 
-// Whether a hub that goes on is to make its vector anew, which keeps one edit, or has taken all edits that it numbers. A hub of one vector asks the vector.
+// Whether a hub that lasts has to make its vector anew, which holds one update in reserve, or has taken all updates that it can number. In a hub
+// of one vector the vector itself decides.
 fn is_worn(lasts: bool, edits: u32, all: u64) -> bool
     ensures { result ≡ (lasts && (nat_le 16777214 edits || nat_le (2 ^ 62) all)) }
 {
     lasts && (MOST_EDITS <= edits || MOST_OF_ALL <= all)
 }
 
-// Whether a hub that goes on has taken all edits that it numbers.
+// Whether a hub that lasts has taken all updates that it can number.
 fn is_used_up(lasts: bool, all: u64) -> bool
     ensures { result ≡ (lasts && nat_le (2 ^ 62) all) }
 {
     lasts && MOST_OF_ALL <= all
 }
 
-// Whether there is no room for one edit more: before the log is written, where there is one, or before the vector is made anew, where it is to be.
+// Whether there is no room for one more update, before the log is written, if there is one, or before the vector is made anew, if it is to be.
 fn is_full(tap: &Option<Tap>, lasts: bool, edits: u32, all: u64) -> bool
     ensures place { result ≡ false → IfSome tap.now HasPlace }
     ensures left { result ≡ false → (lasts && (nat_le 16777214 edits || nat_le (2 ^ 62) all)) ≡ false }
@@ -591,7 +591,7 @@ fn is_full(tap: &Option<Tap>, lasts: bool, edits: u32, all: u64) -> bool
     !has_place(tap) || is_worn(lasts, edits, all)
 }
 
-// The refusal that is known, else want of memory.
+// The refusal that is known, or else `NoMemory`.
 fn known_or_no_memory(known: Option<Refusal>) -> Refusal
     ensures { IsRefusal known result }
 {
@@ -608,7 +608,7 @@ fn greater(one: u32, other: u32) -> u32
     if one < other { other } else { one }
 }
 
-// What was handed over by a vector that was made anew after so many edits, once so many entries came in all.
+// What was handed over, of a vector that was made anew after `renewed` updates, once `given` entries came in all.
 fn came_from(from: Option<u64>, renewed: u64, given: u64) -> Option<Came>
     ensures { result ≡ option_map (λ from. record { from = from; renewed = renewed; given = given }) from }
 {
@@ -622,7 +622,7 @@ fn came_from(from: Option<u64>, renewed: u64, given: u64) -> Option<Came>
     }
 }
 
-// A receipt that tells how many cells are open: no fewer than when the vector was made anew.
+// A receipt that carries a capacity gets one that is no less than when the vector was made anew. Other receipts are unchanged.
 fn with_capacity(receipt: Receipt, least: u32) -> Receipt
     ensures { result ≡ receipt_with least receipt }
 {
@@ -635,7 +635,7 @@ fn with_capacity(receipt: Receipt, least: u32) -> Receipt
     }
 }
 
-// Whether there is room for one entry more, or no log.
+// Whether there is room for one more entry, or no log.
 fn has_place(tap: &Option<Tap>) -> bool
     ensures { IsTrue result → IfSome tap.now HasPlace }
 {
@@ -645,7 +645,7 @@ fn has_place(tap: &Option<Tap>) -> bool
     }
 }
 
-// How many entries came for a log in all: none, where there is no log.
+// How many entries came for a log in all: none if there is no log.
 fn given_to(tap: &Option<Tap>) -> u64
     ensures { IfSome tap.now (λ t. result ≡ t.given) }
 {
@@ -655,7 +655,7 @@ fn given_to(tap: &Option<Tap>) -> u64
     }
 }
 
-// Makes an edit of the vector, and keeps it for a log, if there is one.
+// Makes an update of the vector, and keeps it for a log, if there is one.
 fn make_edit<B: Body>(
     live: &mut Live<B>,
     kinds: &mut Kinds,
@@ -677,7 +677,7 @@ fn make_edit<B: Body>(
     Ok(receipt)
 }
 
-// Keeps an edit for a log, if there is one.
+// Keeps an update for a log, if there is one.
 fn take_edit(tap: &mut Option<Tap>, edit: Edit)
     requires { IfSome tap.old HasPlace }
     ensures taken { tap.new ≡ option_map (with_entry (logged.Edit edit)) tap.old }
@@ -698,7 +698,7 @@ fn take_answer(tap: &mut Option<Tap>, answer: Claimed)
     }
 }
 
-// Hands over what came since an edit, whose number is given, if there is a log. What comes next comes from so many edits on.
+// Hands over what came for a log, if there is one, and returns after which update it began. What comes next begins after `edits` updates.
 fn hand_over(tap: &mut Option<Tap>, edits: u64, entries: &mut Vec<LogEntry>) -> Option<u64>
     requires { entries.old.items ≡ [] }
     ensures from { result ≡ option_map (λ t. t.from) tap.old }

@@ -1,4 +1,4 @@
-//! What a subscriber tells last.
+//! The last notification of a subscriber.
 ghost use Rattle.std.specs.Prelude.{◌≡◌, ◌≤◌, length, map, vec_capacity};
 ghost use Rattle.lv_edits.specs.Kept.{IsLegalInLimits};
 ghost use Rattle.lv_live.specs.State.{SameLive};
@@ -10,7 +10,7 @@ use lv_live::Live;
 use lv_standing::{Note, Query, QuerySet};
 use std::marker::Model;
 
-/// A subscriber that has ended: its questions, and what each was told last.
+/// A subscriber that has ended: its questions, and the last answer that was reported for each.
 #[derive(Drop)]
 pub struct Ended {
     queries: QuerySet<Query>,
@@ -38,8 +38,8 @@ impl Ended {
         Ended { queries, notes }
     }
 
-    /// The last that there is to tell, by the vector of the hub that was closed after so many edits: there each question is answered what it was
-    /// told last, or else there is a note of it. Takes no memory.
+    /// The last notification, from the vector of the hub that was closed after this many updates. Each question whose answer there differs from
+    /// the last reported one, as far as it is due, has a note. Allocates no memory.
     pub fn tell(self, live: &mut Live<Six>, edit: u64) -> Told
         requires { IsLegalInLimits live.old.history }
         ensures edit { result.edit ≡ edit }

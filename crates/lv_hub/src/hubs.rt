@@ -1,4 +1,4 @@
-//! The hub: a lock round a desk, and one call of the desk for each of the hub's.
+//! The hub: a lock around a desk. Each call of the hub makes one call of the desk.
 ghost use Rattle.std.specs.Prelude.{◌≡◌, ◌↔◌, ◌<◌, ◌≤◌, true, false, [], All, IfOk, IfSome, OnOk, length, map, Err, None, Some};
 ghost use mathlib.Core.List.{IsPrefix};
 ghost use Rattle.lv_geometry.specs.Elements.{IsElement};
@@ -29,8 +29,8 @@ use std::sync::ledger::Blank;
 use std::sync::{Condvar, Mutex, Wait};
 use std::thread::Threads;
 
-/// A live vector that threads share. Each of its calls but `new` and `close` waits for the lock, and holds it for one call of
-/// its desk. Its edits are one list, which only grows; contracts see the hub as its body. A share that is handed in is this hub's.
+/// A live vector that threads share. Each of its calls except `new` and `close` waits for the lock, and holds it for one call of the desk. Its
+/// updates are one list, which only grows. Contracts see the hub as its monoid instance. A share that is passed to a call is one of this hub.
 #[derive(Drop)]
 pub struct Hub<B: Body, N: WithBody<B>> {
     pub(crate) desk: Mutex<Desk<B, N>>,
@@ -38,7 +38,7 @@ pub struct Hub<B: Body, N: WithBody<B>> {
     pub(crate) bell: Condvar,
     // Where subscribers sleep.
     pub(crate) news: Condvar,
-    // The vector's body.
+    // The vector's monoid instance.
     body: B,
 }
 
@@ -53,8 +53,8 @@ impl<B: Body, N: WithBody<B>> Model for Hub<B, N> {
 }
 
 impl<B: Body, N: WithBody<B>> Hub<B, N> {
-    /// An empty vector, with a share of all parts of the blank's ledger, which counts nothing and has seen nothing. Its edits go into
-    /// the history that was opened. Takes no memory.
+    /// An empty vector, with a share of all parts of the blank's ledger, which counts nothing and has seen nothing. Its updates go into the
+    /// history that was opened. Allocates no memory.
     pub fn new(
         alloc: Global,
         limits: Limits,
@@ -78,8 +78,8 @@ impl<B: Body, N: WithBody<B>> Hub<B, N> {
         (Hub::of_desk(desk, body), share)
     }
 
-    /// The same, for a hub of one vector or, where it lasts, for one that goes on when its vector's edits are used up: the vector has these limits,
-    /// and is made anew before (`renew`). Until then an edit is refused with `NoMemory`.
+    /// Does what `new` does, for a hub of one vector or, if it lasts, for a hub that continues when its vector's updates are used up. The vector
+    /// has these limits, and is made anew before that happens (`renew`). Between the two an update is refused with `NoMemory`.
     pub fn open(
         alloc: Global,
         limits: Limits,
@@ -104,7 +104,7 @@ impl<B: Body, N: WithBody<B>> Hub<B, N> {
         (Hub::of_desk(desk, body), share)
     }
 
-    // A lock round a desk.
+    // A lock around a desk.
     fn of_desk(desk: Desk<B, N>, body: B) -> Hub<B, N>
         requires { N.body ≡ Some body }
         ensures { result ≡ body }
@@ -117,8 +117,8 @@ impl<B: Body, N: WithBody<B>> Hub<B, N> {
         }
     }
 
-    /// Makes the edits that a hub begins with, by a share that has all parts and counts none: the hub has no others then. The first that is
-    /// refused, as `edit` does, is the last.
+    /// Makes the updates that a hub begins with, with a share that has all parts and counts none, so that the hub has no others then. Stops at
+    /// the first one that is refused, as `edit` refuses it.
     pub fn begin<R: Wait>(
         &self,
         rt: &R,
@@ -132,7 +132,7 @@ impl<B: Body, N: WithBody<B>> Hub<B, N> {
         self.desk.lock(rt).begin(share, edits)
     }
 
-    /// Makes an edit, and counts it on the share where it is accepted. The share sees all edits, and its own last. Refused as
+    /// Makes an update, and counts it on the share if it is accepted. The share then sees all updates, and its own is the last. Refused as
     /// `Live::apply` is.
     pub fn edit<R: Wait>(
         &self,
@@ -141,7 +141,7 @@ impl<B: Body, N: WithBody<B>> Hub<B, N> {
         edit: Edit,
     ) -> Result<Receipt, Refusal>
         ensures told { EditTold N.limits share.old.seen share.new.seen edit result }
-        // The vector of a hub that is never made anew numbers its edits as the hub does.
+        // The vector of a hub that is never made anew has the same update numbers as the hub.
         ensures number { IsOfOneVector N.limits → result ≡ receipt_at (length share.new.seen) result }
         ensures counts { Counts (having_seen share.old share.new.seen) result share.new }
     {
@@ -153,8 +153,8 @@ impl<B: Body, N: WithBody<B>> Hub<B, N> {
         answer
     }
 
-    /// The fold of the elements from index `lo` up to `hi`, at the last edit, up to which the share sees them all. Refused as
-    /// `Live::reduce` is. Takes no memory.
+    /// The fold of the elements from index `lo` up to `hi`, at the last update. The share sees all updates up to it. Refused as `Live::reduce`
+    /// is. Allocates no memory.
     pub fn reduce<R: Wait>(
         &self,
         rt: &R,
@@ -173,9 +173,9 @@ impl<B: Body, N: WithBody<B>> Hub<B, N> {
         desk.live().reduce(lo, hi)
     }
 
-    /// The plain value of a kind over the elements from index `lo` up to `hi`, at the last edit, up to which the share sees them all. The kind
-    /// keeps a tree, which follows the edits since its last question: so a question costs O(log n), and that. Refused with `BadRange`, then
-    /// `OutOfRange`. Takes no memory.
+    /// The plain value of a kind over the elements from index `lo` up to `hi`, at the last update. The share sees all updates up to it. Each kind
+    /// has a tree, which follows the updates since the kind's last question. A question costs O(log n) and the time to follow those. Refused with
+    /// `BadRange`, then `OutOfRange`. Allocates no memory.
     pub fn value<R: Wait>(
         &self,
         rt: &R,
@@ -194,8 +194,8 @@ impl<B: Body, N: WithBody<B>> Hub<B, N> {
         desk.value(kind, lo, hi)
     }
 
-    /// The running folds of the elements from index `lo` up to `hi`, each with its own, computed from a copy by several threads once
-    /// the lock is free again. Refused as `Live::scan_inclusive` is.
+    /// The inclusive running folds of the elements from index `lo` up to `hi`, computed from a copy by several threads after the lock is
+    /// released. Refused as `Live::scan_inclusive` is.
     pub fn scan_inclusive<R: Threads + Wait + Sync>(
         &self,
         rt: &R,
@@ -212,7 +212,7 @@ impl<B: Body, N: WithBody<B>> Hub<B, N> {
         self.scan(rt, alloc, share, lo, hi, true)
     }
 
-    /// The running folds of the elements from index `lo` up to `hi`, each without its own, computed as those with it are. Refused as
+    /// The exclusive running folds of the elements from index `lo` up to `hi`, computed as the inclusive ones are. Refused as
     /// `Live::scan_exclusive` is.
     pub fn scan_exclusive<R: Threads + Wait + Sync>(
         &self,
@@ -267,7 +267,7 @@ impl<B: Body, N: WithBody<B>> Hub<B, N> {
         desk.live().copy_range(alloc, lo, hi)
     }
 
-    /// The same as `edit`, but where a log has no room for it: none then, and nothing has changed.
+    /// Makes an update as `edit` does. If a log has no room for it, returns none, and nothing has changed.
     pub fn try_edit<R: Wait>(
         &self,
         rt: &R,
@@ -289,8 +289,8 @@ impl<B: Body, N: WithBody<B>> Hub<B, N> {
         Some(answer)
     }
 
-    /// The same as `value`, and the answer is kept for the log, where there is one: `entry` becomes its number among the log's entries, up to which a log
-    /// has to have them before the answer is told. None where the log has no room for it; nothing has changed then.
+    /// Returns what `value` does, and keeps the answer for the log, if there is one. `entry` becomes its number among the log's entries: the log
+    /// must have been written up to it before the answer is sent. If the log has no room for the answer, returns none, and nothing has changed.
     pub fn try_value<R: Wait>(
         &self,
         rt: &R,
@@ -316,7 +316,7 @@ impl<B: Body, N: WithBody<B>> Hub<B, N> {
         Some(answer)
     }
 
-    // The vector's body.
+    // The vector's monoid instance.
     pub(crate) fn body(&self) -> B
         ensures { N.body ≡ Some result }
     {
@@ -330,8 +330,8 @@ impl<B: Body, N: WithBody<B>> Hub<B, N> {
         self.desk.lock(rt).tap(entries);
     }
 
-    // Lets a prefix of this hub see all edits, and hands over what came for a log since an edit, whose number is given, by a list without
-    // entries that takes its place.
+    // Lets a prefix of this hub see all updates, hands over what came for a log and after which update it began, and puts a list without entries
+    // in its place.
     pub(crate) fn hand_over<R: Wait>(
         &self,
         rt: &R,
@@ -346,7 +346,7 @@ impl<B: Body, N: WithBody<B>> Hub<B, N> {
         self.desk.lock(rt).hand_over(prefix, entries)
     }
 
-    // Copies the elements, where a prefix has seen all edits. Refused as `Desk::copy_elements` is.
+    // Copies the elements, if a prefix has seen all updates. Refused as `Desk::copy_elements` is.
     pub(crate) fn copy_elements<R: Wait>(
         &self,
         rt: &R,
@@ -360,7 +360,7 @@ impl<B: Body, N: WithBody<B>> Hub<B, N> {
         self.desk.lock(rt).copy_elements(alloc, prefix)
     }
 
-    // Puts a vector that was made anew in place of the hub's, as `Desk::renew` does, and wakes a worker, which may find jobs there.
+    // Replaces the hub's vector by a new one, as `Desk::renew` does, and wakes a worker, which may find jobs there.
     pub(crate) fn renew<R: Wait>(
         &self,
         rt: &R,
@@ -381,24 +381,24 @@ impl<B: Body, N: WithBody<B>> Hub<B, N> {
         is_renewed
     }
 
-    /// A job for the least node that wants one, or none. Takes no memory.
+    /// A job for the least node that needs one, or none. Allocates no memory.
     pub fn claim<R: Wait>(&self, rt: &R) -> Option<Job<B>>
         ensures { ClaimTold (B.operations self.now) self.now (vector_limits N.limits) result }
     {
         self.desk.lock(rt).claim()
     }
 
-    /// Delivers an outcome. Refused with `Stranger` where its node is whole and was touched last by the edit that it names, and its
-    /// body or contents are not this vector's. Takes no memory.
+    /// Delivers an outcome. Refused with `Stranger` if its node is full and was last touched by the update that it names, and its monoid instance
+    /// or its contents are not this vector's. Allocates no memory.
     pub fn give<R: Wait>(&self, rt: &R, outcome: Outcome<B>) -> Result<Accepted, Refusal>
         ensures { DeliveryTold B.meaning B.operations self.now (vector_limits N.limits) outcome result }
     {
         self.desk.lock(rt).give(outcome)
     }
 
-    /// The vector, once all threads are done: the share that is handed in has all parts. It has the elements that there are after all edits; that of a hub which
-    /// is never made anew has as many edits as the share counts, and begins with all that the share has seen. Each of them would be accepted
-    /// within the greatest limits.
+    /// The vector, once all threads are done. The share that is handed in has all parts. The vector has the elements that there are after all
+    /// updates. If it was never made anew, it has as many updates as the share counts, and begins with all that the share has seen. Each of its
+    /// updates would be accepted within the greatest limits.
     pub fn close(self, share: Share<N>) -> Live<B>
         requires { share.parts ≡ N.parts }
         ensures counted { IsOfOneVector N.limits → length result.history.journal ≡ share.count }
@@ -412,7 +412,7 @@ impl<B: Body, N: WithBody<B>> Hub<B, N> {
         live
     }
 
-    /// The same, with all edits of the hub.
+    /// Returns what `close` does, together with all updates of the hub.
     pub fn finish(self, share: Share<N>) -> (Live<B>, HistoryPrefix<N>)
         requires { share.parts ≡ N.parts }
         ensures counted { length result.1 ≡ share.count }

@@ -1,12 +1,13 @@
-//! What becomes of the reductions that a session is answered.
+//! What is recorded of the reductions that a session is answered.
 
-/// What becomes of the reductions that a session is answered.
+/// What is recorded of the reductions that a session is answered.
 #[derive(Clone, Copy, PartialEq, Eq)]
 pub enum KeptAnswers {
-    /// They are kept for the hub's log, and the session lists at most so many for a transcript. One that finds no room is refused.
+    /// They are recorded in the hub's log, and the session lists at most this many for a transcript. A reduction that finds no room in the list
+    /// is refused.
     Listed(usize),
-    /// They are kept for the hub's log, and not listed.
+    /// They are recorded in the hub's log, and not listed.
     Logged,
-    /// Nothing is kept of them.
+    /// They are not recorded.
     Nothing,
 }

@@ -1,4 +1,4 @@
-//! Subscribers that have ended, and what they tell last.
+//! Subscribers that have ended, and their last notifications.
 
 ghost use Rattle.std.specs.Prelude.{◌≡◌, ◌≤◌, ◌^◌, IfOk, List, [], false, length, map, vec_capacity, vec_len};
 ghost use Rattle.lv_edits.specs.declared.edit.Edit.{Edit};
@@ -19,11 +19,11 @@ use std::alloc::{AllocError, Global};
 use std::io::Write;
 use std::marker::Model;
 
-/// A subscriber that has ended, and what writes its lines.
+/// A subscriber that has ended, and the writer of its lines.
 #[derive(Drop)]
 pub struct Left<F: Write + Drop> {
     number: usize,
-    // The numbers that its lines tell.
+    // The numbering of its lines.
     numbers: LogHeading,
     ended: Ended,
     notices: Notices<F>,
@@ -40,12 +40,12 @@ impl<F: Write + Drop> Model for Left<F> {
     ghost invariant = { λ l. l.numbers.base ≤ 2 ^ 62 };
 }
 
-/// A subscriber whose last notes were told, as far as they could be written.
+/// A subscriber whose last notification was written, as far as it could be.
 #[derive(Drop)]
 pub struct Watched<F: Write + Drop> {
-    /// The number that the caller knows it by.
+    /// The number by which the caller knows it.
     pub number: usize,
-    /// What wrote its lines.
+    /// The writer of its lines.
     pub notices: Notices<F>,
 }
 
@@ -63,7 +63,8 @@ impl<F: Write + Drop> Left<F> {
         }
     }
 
-    /// Tells the last, by the vector of the hub that was closed after so many edits, unless that isn't recorded. Takes no memory.
+    /// Writes the last notification, from the vector of the hub that was closed after this many updates, unless these aren't recorded. Allocates
+    /// no memory.
     pub fn tell(self, live: &mut Live<Six>, edit: u64, is_recorded: bool) -> Watched<F>
         requires legal { IsLegalInLimits live.old.history }
         requires few { edit ≤ 2 ^ 62 }
@@ -90,7 +91,7 @@ pub struct Leaving<F: Write + Drop> {
 }
 
 impl<F: Write + Drop> Leaving<F> {
-    /// None yet, and room for so many, so that their end needs no memory.
+    /// No subscribers yet, and room for this many, so that their end allocates no memory.
     pub fn with_room(alloc: Global, watches: usize) -> Result<Leaving<F>, AllocError>
         ensures none { IfOk result (λ all. (all.left.items ≡ []) × (all.watched.items ≡ [])) }
         ensures left_room { IfOk result (λ all. watches ≤ vec_capacity all.left) }
@@ -102,7 +103,8 @@ impl<F: Write + Drop> Leaving<F> {
         })
     }
 
-    /// Has each tell the last, in order, by the vector of the hub that was closed after so many edits, unless that isn't recorded. Takes no memory.
+    /// Has each of them write its last notification, in order, from the vector of the hub that was closed after this many updates, unless these
+    /// aren't recorded. Allocates no memory.
     pub fn tell(self, live: &mut Live<Six>, edit: u64, is_recorded: bool) -> Vec<Watched<F>>
         requires legal { IsLegalInLimits live.old.history }
         requires few { edit ≤ 2 ^ 62 }
@@ -120,7 +122,7 @@ impl<F: Write + Drop> Leaving<F> {
     }
 }
 
-/// Takes the parts of subscribers back, and gathers what they leave, where nothing is gathered yet. Takes no memory.
+/// Takes the parts of subscribers back, and collects what they leave in `room`, which is empty. Allocates no memory.
 pub fn leave_all<N: WithBody<Six>, F: Write + Drop>(
     room: Leaving<F>,
     share: &mut Share<N>,

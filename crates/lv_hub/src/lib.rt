@@ -1,15 +1,15 @@
 //! The hub: many threads on one live vector, under one lock.
 //!
-//! The value in the lock is a desk: a live vector, the ledger's book of how many edits were accepted, the history of the edits with the
-//! one permit to add to it, and who sleeps beside the lock. Each thread has a share, which counts the edits that it made, and has seen
-//! a beginning of the history; the shares together count all. So the hub's calls tell of one list of edits. A desk's calls are the
-//! vector's, and wait for nobody. A call on the hub takes the lock, makes a call of the desk and releases it.
+//! The value in the lock is a desk. It has a live vector, the ledger's book of how many updates were accepted, the history of the updates with
+//! the only permit to add to it, and which workers and subscribers sleep. Each thread has a share, which counts the updates that the thread made,
+//! and has seen a prefix of the history. All shares together count all updates, so the hub's calls speak of one list of updates. A desk's calls
+//! are the vector's calls, and none of them waits. A call on the hub takes the lock, makes one call of the desk and releases the lock.
 //!
-//! Workers claim jobs and deliver their outcomes; they compute with no lock held. Those that attend sleep where no node wants a
-//! job, until an edit wakes them or they are dismissed. A session answers the lines of a script so, and a log takes up what comes of
-//! them, or nothing does. A subscriber is told of the edits that change the answers to its questions. A watcher is
-//! a subscriber with what writes the lines of that: it runs until the workers are dismissed, and what it leaves tells the last by the vector
-//! of the hub that was closed. `read_questions` reads what the lines of its file ask. It does not say that a thread gets on, nor in which order.
+//! Workers claim jobs and deliver their outcomes, and compute without holding the lock. Workers that attend sleep while no node needs a job,
+//! until an update wakes them or they are dismissed. A session answers the lines of a script through the hub's calls. A log, if there is one,
+//! records its updates and answers. A subscriber is notified of the updates that change the answers to its questions. A watcher is a subscriber
+//! with the writer of its notifications. It runs until the workers are dismissed, and writes its last notification from the vector of the closed
+//! hub. `read_questions` reads what the lines of its file ask. Nothing here says that a thread makes progress, or in which order threads run.
 #![tactic(auto)]
 
 mod answering;

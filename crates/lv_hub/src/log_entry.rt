@@ -5,7 +5,7 @@ use lv_script::Claimed;
 /// What a log has of a hub, in the order of time.
 #[derive(Clone, Copy)]
 pub enum LogEntry {
-    /// An edit that was accepted.
+    /// An update that was accepted.
     Edit(Edit),
     /// A reduction that was answered.
     Answer(Claimed),

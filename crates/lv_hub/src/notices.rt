@@ -1,4 +1,4 @@
-//! The lines of what a subscriber is told.
+//! The lines of notifications.
 
 ghost use Rattle.std.specs.Prelude.{◌≡◌, ◌≤◌, ◌^◌, [], false, true, IfErr, IfOk, OnOk, vec_capacity};
 ghost use Rattle.lv_lines.specs.Output.{Puts, PutsFront, SamePlaces};
@@ -14,8 +14,8 @@ use std::alloc::{AllocError, Global};
 use std::io::Write;
 use std::marker::Model;
 
-/// What writes the lines of what a subscriber is told, `at E NAME VALUE`, as it comes and whole. A write that fails is its last: what
-/// it has written is a front of the lines then.
+/// Writes the lines of notifications, `at E NAME VALUE`, when they come and completely. After a write that fails it writes nothing more, and what
+/// it has written is a prefix of the lines.
 #[derive(Drop)]
 pub struct Notices<F: Write + Drop> {
     writer: F,
@@ -36,7 +36,7 @@ impl<F: Write + Drop> Model for Notices<F> {
 }
 
 impl<F: Write + Drop> Notices<F> {
-    /// What has written nothing yet. All memory that it needs is taken here.
+    /// A writer that has written nothing yet. All memory that it needs is allocated here.
     pub fn new(alloc: Global, writer: F) -> Result<Notices<F>, AllocError>
         ensures { IfOk result (λ n. n ≡ record { contents = F.contents writer; failed = false }) }
     {
@@ -47,8 +47,8 @@ impl<F: Write + Drop> Notices<F> {
         })
     }
 
-    /// Writes the lines of what was told, its edit by its number among these, unless a write has failed. Where it isn't recorded that it is
-    /// so, it counts as such.
+    /// Writes the lines of a notification, with its edit number in this numbering, unless a write has failed. If what they report isn't recorded,
+    /// it writes nothing, and counts as failed.
     pub fn tell(&mut self, numbers: LogHeading, told: &Told, is_recorded: bool)
         requires base { numbers.base ≤ 2 ^ 62 }
         requires few { told.now.edit ≤ 2 ^ 62 }
@@ -80,7 +80,7 @@ impl<F: Write + Drop> Notices<F> {
     }
 }
 
-// Drops what is held, and tells that a write has failed.
+// Drops what is buffered, and marks the writer as failed.
 fn fail(held: &mut Vec<u8>, failed: &mut bool)
     ensures failed { failed.new ≡ true }
     ensures empty { held.new.items ≡ [] }
@@ -90,7 +90,7 @@ fn fail(held: &mut Vec<u8>, failed: &mut bool)
     *failed = true;
 }
 
-// Writes the lines of what was told.
+// Writes the lines of a notification.
 fn write_told<W: Write>(
     numbers: LogHeading,
     told: &Told,
@@ -107,7 +107,7 @@ fn write_told<W: Write>(
     buffer.send()
 }
 
-// Puts the lines of notes at an edit.
+// Puts the lines of notes at an edit number.
 fn put_all<W: Write>(
     edit: u64,
     notes: &[Note],
@@ -123,7 +123,7 @@ fn put_all<W: Write>(
     Ok(())
 }
 
-// Puts the line of a note at an edit.
+// Puts the line of a note at an edit number.
 fn put_one<W: Write>(edit: u64, note: &Note, buffer: &mut ReplyBuffer<'_, W>) -> Result<(), Fault>
     ensures places { SamePlaces buffer.old buffer.new }
     ensures ok { OnOk result (Puts W.contents buffer.old buffer.new (named_text edit note.now.name note.now.value)) }

@@ -1,4 +1,4 @@
-//! The operation log of a hub: its edits and its sessions' answers, written in the order of time.
+//! The operation log of a hub: its updates and its sessions' answers, written in the order of time.
 ghost use Rattle.std.specs.Prelude.{◌≡◌, ◌+◌, ◌≤◌, ◌^◌, ◌∷◌, ℕ, [], All, Bool, IfErr, IfOk, IfSome, List, OnOk, Option, None, Some, false, is_some, length, map, take, true};
 ghost use mathlib.Core.List.{IsPrefix};
 ghost use Rattle.lv_geometry.specs.Bounds.{Bounds};
@@ -34,18 +34,19 @@ use std::sync::Wait;
 // For how many entries a hub has room until they are written.
 const ROOM: usize = 4096;
 
-// With how many edits a vector takes no more until it is made anew, and from how many on it is: what comes until the log is written next still fits then.
+// From `WORN` updates on, a vector takes no more until it is made anew. From `NEARLY_WORN` on it is made anew. What comes until the log is next
+// written still fits between the two.
 const WORN: u64 = 16_777_214;
 
 const NEARLY_WORN: u64 = 16_769_022;
 
-// How many edits come before it is tried again to make a vector anew.
+// How many updates must come before the log tries again to make a vector anew.
 const PAUSE: u64 = 1024;
 
-// The greatest number that a file may begin after.
+// The greatest update number after which a file may begin.
 const MOST_NUMBER: u64 = 4_611_686_018_427_387_904;
 
-/// What the writer of a log had got when it was begun, and what was there already, where it goes on behind a log of elements.
+/// What the writer of a log had got when the log was begun, and what was there already, if it continues a log of elements.
 pub trait Begun {
     ghost start: { Option (List ℕ) };
 
@@ -60,33 +61,34 @@ impl Begun for Brand {
     ghost there = { None };
 }
 
-/// What writes the log of a hub: whoever records takes what has come since out of the hub, and writes it with no lock of the hub's held. Whoever finds
-/// that others have recorded what it waits for writes nothing. A write that fails is the log's last, and from then on nothing counts as recorded. Where the hub goes on when its vector's edits are used up, the log has that vector made anew
-/// before they are, or where its writer says that this is due, and begins its file anew with it.
+/// Writes the log of a hub. Whoever records takes what has come since out of the hub, and writes it without holding the hub's lock. If others
+/// have already recorded what is asked for, nothing is written. After a write that fails the log writes nothing more, and from then on nothing
+/// counts as recorded. If the hub continues when its vector's updates are used up, the log has that vector made anew before they are, or when its
+/// writer says that this is due. It begins its file anew at the same time.
 #[derive(Drop)]
 pub struct OperationLog<N: Naming, W: LogWriter + Drop, K: Begun> {
     transcript: TranscriptWriter,
     writer: W,
-    // The hub's edits that it was given.
+    // The prefix of the hub's updates that the log was given.
     prefix: HistoryPrefix<N>,
-    // How many entries it was given in all, edits and answers, and how many of them went to its earlier files.
+    // How many entries (updates and answers) it was given in all, and how many of them went to its earlier files.
     taken: u64,
     earlier: u64,
     // The list that the hub gets for its entries.
     spare: Vec<LogEntry>,
-    // Whether entries went elsewhere: never, where a hub has one log.
+    // Whether entries went elsewhere. This never happens if a hub has one log.
     missed: bool,
-    // Whether it goes on behind a log, which has no last line.
+    // Whether it continues a log, which has no last line.
     is_log: bool,
     alloc: Global,
-    // The numbers that the hub's edits are told by.
+    // The numbering of the hub's updates.
     numbers: LogHeading,
-    // The limits of the hub's vector, where that may be made anew.
+    // The limits of the hub's vector, if that may be made anew.
     lasts: Option<Limits>,
-    // After how many edits of the hub its file was begun anew, and with how many elements: none where it is the first one.
+    // After how many updates of the hub its file was begun anew, and with how many elements. Both are 0 if it is the first file.
     renewed: u64,
     elements: u32,
-    // How many edits the vector had when it was to be made anew, and wasn't: 0 where that didn't happen.
+    // How many updates the vector had when making it anew was tried without success, or 0.
     tried: u64,
     of: PhantomData<K>,
 }
@@ -104,9 +106,10 @@ impl<N: Naming, W: LogWriter + Drop, K: Begun> Model for OperationLog<N, W, K> {
 }
 
 impl<N: WithBody<Six>, W: LogWriter + Drop, K: Begun> OperationLog<N, W, K> {
-    /// The log of a hub that has the edits of what was there, and no others, as a share has seen them: a transcript that is begun here, or what
-    /// goes on behind a log. All memory that it needs is taken here. A transcript's first line is written then. The hub keeps what comes for it, and has no other log. Where the hub goes on when its vector's edits
-    /// are used up, the log is told that vector's limits.
+    /// The log of a hub that has the updates of what was there, and no others, as a share has seen them. It is a transcript that is begun here,
+    /// or continues a log. All memory that it needs is allocated here, and a transcript's first line is written. From then on the hub keeps what
+    /// comes for this log, and it has no other one. `lasts` has the limits of the hub's vector if the hub continues when that vector's updates
+    /// are used up.
     pub fn begin<R: Wait>(
         rt: &R,
         alloc: Global,
@@ -170,9 +173,10 @@ impl<N: WithBody<Six>, W: LogWriter + Drop, K: Begun> OperationLog<N, W, K> {
         })
     }
 
-    /// Sees to it that what a share has seen is written, and as many entries as are asked for. Where others have recorded them, and the vector isn't to be made anew, it writes nothing. Else it writes what has come
-    /// since, as `make_place` does. Then the writer has got all edits, and these begin with what the share has seen. Whatever a write comes to, the writer has got a front of the
-    /// log's present file. The fault is `WriteFault`, as `make_place` has it.
+    /// Makes sure that what a share has seen is written, and as many entries as are asked for. If others have recorded them, and the vector isn't
+    /// due to be made anew, it writes nothing. Otherwise it writes what has come since, as `make_place` does. On success the writer has got all
+    /// updates recorded so far, and what the share has seen is a prefix of them. In any case what the writer has got is a prefix of the log's
+    /// present file. The fault is `WriteFault`, as in `make_place`.
     pub fn record<R: Wait>(
         &mut self,
         rt: &R,
@@ -197,8 +201,8 @@ impl<N: WithBody<Six>, W: LogWriter + Drop, K: Begun> OperationLog<N, W, K> {
         Ok(())
     }
 
-    /// Writes what has come since, so that the hub has room for more, and has its vector made anew where that is due. The fault is `WriteFault`, where a write fails or has
-    /// failed, or the vector takes no more edits and can't be made anew.
+    /// Writes what has come since, so that the hub has room for more, and has its vector made anew if that is due. The fault is `WriteFault`: a
+    /// write fails or has failed, or the vector takes no more updates and can't be made anew.
     pub fn make_place<R: Wait>(&mut self, rt: &R, hub: &Hub<Six, N>) -> Result<(), Fault>
         ensures front { HasFrontOfFile W.made N.limits N.numbers K.there K.start self.new.written.contents self.new.seen }
         ensures more { IsPrefix self.old.seen self.new.seen }
@@ -211,7 +215,7 @@ impl<N: WithBody<Six>, W: LogWriter + Drop, K: Begun> OperationLog<N, W, K> {
         Ok(())
     }
 
-    // Writes what has come since, and has the vector made anew where that is due.
+    // Writes what has come since, and has the vector made anew if that is due.
     fn write_all<R: Wait>(&mut self, rt: &R, hub: &Hub<Six, N>)
         ensures { IsPrefix self.old.seen self.new.seen }
     {
@@ -220,7 +224,7 @@ impl<N: WithBody<Six>, W: LogWriter + Drop, K: Begun> OperationLog<N, W, K> {
         self.missed = self.missed || self.is_worn();
     }
 
-    // Whether all is written, begins with what a share has seen, and is as many entries.
+    // Whether all is written, has what a share has seen as a prefix, and has at least this many entries.
     fn has_all(&self, share: &Share<N>, entries: u64) -> bool
         ensures all { result ≡ true → HasAllOfFile W.made N.limits N.numbers K.there K.start self.now.written.contents self.now.seen self.now.taken }
         ensures covers { result ≡ true → IsPrefix share.now.seen self.now.seen }
@@ -261,7 +265,7 @@ impl<N: WithBody<Six>, W: LogWriter + Drop, K: Begun> OperationLog<N, W, K> {
         self.missed = self.missed || !is_next;
     }
 
-    // Whether a write has failed, or something wasn't recorded. What was written is a front in any case.
+    // Whether a write has failed, or something wasn't recorded. What was written is a prefix in any case.
     fn has_failed(&self) -> bool
         ensures front { HasFrontOfFile W.made N.limits N.numbers K.there K.start self.now.written.contents self.now.seen }
         ensures fine { result ≡ false → self.now.written.failed ≡ false }
@@ -269,7 +273,7 @@ impl<N: WithBody<Six>, W: LogWriter + Drop, K: Begun> OperationLog<N, W, K> {
         self.missed || self.transcript.has_failed()
     }
 
-    /// Lets a share of the hub see the edits that were recorded.
+    /// Lets a share of the hub see the updates that were recorded.
     pub fn show(&self, share: &mut Share<N>)
         ensures seen { IsPrefix self.now.seen share.new.seen }
         ensures more { IsPrefix share.old.seen share.new.seen }
@@ -278,8 +282,8 @@ impl<N: WithBody<Six>, W: LogWriter + Drop, K: Begun> OperationLog<N, W, K> {
         share.learn(&self.prefix);
     }
 
-    /// Writes what is held behind all edits of the hub, which were recorded before, and a transcript's last line, and gives the writer back.
-    /// The fault is `WriteFault`, where a write fails or has failed, or something wasn't recorded.
+    /// Writes what is buffered after all updates of the hub, which were recorded before, and a transcript's last line, and returns the writer.
+    /// The fault is `WriteFault`: a write fails or has failed, or something wasn't recorded.
     pub fn end(self, edits: &HistoryPrefix<N>) -> (W, Result<(), Fault>)
         requires { IsPrefix self.seen edits.now }
         ensures ends { EndsInFile W.made N.limits N.numbers K.there K.start (W.contents result.0) edits.now result.1 }
@@ -300,9 +304,9 @@ impl<N: WithBody<Six>, W: LogWriter + Drop, K: Begun> OperationLog<N, W, K> {
     }
 }
 
-// How the hub's vector is made anew, and with it the log's file.
+// How the hub's vector is made anew, and the log's file with it.
 impl<N: WithBody<Six>, W: LogWriter + Drop, K: Begun> OperationLog<N, W, K> {
-    // Has the vector made anew, where that is due. From the time when the hub has no room for edits, none comes until it has its room again.
+    // Has the vector made anew, if that is due. Once the hub has no room for updates, none comes until it gets room again.
     fn renew_if_due<R: Wait>(&mut self, rt: &R, hub: &Hub<Six, N>)
         ensures { IsPrefix self.old.seen self.new.seen }
     {
@@ -317,18 +321,19 @@ impl<N: WithBody<Six>, W: LogWriter + Drop, K: Begun> OperationLog<N, W, K> {
         self.renew(rt, hub, limits, entries);
     }
 
-    // Whether the hub waits in vain for its vector to be made anew.
+    // Whether the hub's vector takes no more updates, although it should have been made anew.
     fn is_worn(&self) -> bool {
         self.lasts.is_some() && self.vector_edits() >= WORN
     }
 
-    // How many edits the vector has with those that were recorded.
+    // How many updates the vector has, counting those that were recorded.
     fn vector_edits(&self) -> u64 {
         let next = next_of(&self.prefix, self.renewed, self.elements, self.taken);
         next.from
     }
 
-    // Whether it is time to make the vector anew: its edits are nearly used up, or the writer is due. After a try in vain there are to be some more edits first.
+    // Whether it is time to make the vector anew: its updates are nearly used up, or the writer says so. After a failed try some more updates
+    // must come first.
     fn is_time(&self) -> bool {
         let edits = self.vector_edits();
         if edits >= WORN {
@@ -338,7 +343,7 @@ impl<N: WithBody<Six>, W: LogWriter + Drop, K: Begun> OperationLog<N, W, K> {
         !waits && (edits >= NEARLY_WORN || self.writer.is_due())
     }
 
-    // The limits of the vector, where it is to be made anew.
+    // The limits of the vector, if it is to be made anew.
     fn due(&self) -> Option<Limits>
         ensures limits { IfSome result (AreLasting N.limits) }
         ensures log { IfSome result (λ _. is_some K.there ≡ true) }
@@ -349,7 +354,8 @@ impl<N: WithBody<Six>, W: LogWriter + Drop, K: Begun> OperationLog<N, W, K> {
         self.lasts
     }
 
-    // Takes what has come since out of the hub by a list without room, and writes it. What is given back is the list that the hub is to get then.
+    // Takes what has come since out of the hub, leaves it a list without room, and writes what came. Returns the list that the hub is to get
+    // afterwards.
     fn close<R: Wait>(&mut self, rt: &R, hub: &Hub<Six, N>) -> Vec<LogEntry>
         ensures entries { result.items ≡ [] }
         ensures more { IsPrefix self.old.seen self.new.seen }
@@ -361,7 +367,7 @@ impl<N: WithBody<Six>, W: LogWriter + Drop, K: Begun> OperationLog<N, W, K> {
         entries
     }
 
-    // Makes the vector anew of the elements that there are. Where there is no memory for that, the hub gets its room back, and nothing is lost.
+    // Makes the vector anew of the elements that there are. If there is no memory for that, the hub gets its room back, and nothing is lost.
     fn renew<R: Wait>(&mut self, rt: &R, hub: &Hub<Six, N>, limits: Limits, entries: Vec<LogEntry>)
         requires limits { AreLasting N.limits limits }
         requires may { MayBeginAnew K.there self.old }
@@ -374,7 +380,7 @@ impl<N: WithBody<Six>, W: LogWriter + Drop, K: Begun> OperationLog<N, W, K> {
         }
     }
 
-    // Makes the vector anew of these elements, unless the file that begins with them has no number.
+    // Makes the vector anew of these elements, unless the number after which the file would begin is too great.
     fn renew_of<R: Wait>(
         &mut self,
         rt: &R,
@@ -398,7 +404,7 @@ impl<N: WithBody<Six>, W: LogWriter + Drop, K: Begun> OperationLog<N, W, K> {
         self.renew_at(rt, hub, limits, heading, elements, entries);
     }
 
-    // The same, where the file begins with this first line.
+    // Does what `renew_of` does, for a file that begins with this first line.
     fn renew_at<R: Wait>(
         &mut self,
         rt: &R,
@@ -424,7 +430,8 @@ impl<N: WithBody<Six>, W: LogWriter + Drop, K: Begun> OperationLog<N, W, K> {
         }
     }
 
-    // Begins the file anew with these elements, and puts the vector that has them in place of the hub's, which is dropped here, with no lock held.
+    // Begins the file anew with these elements, and puts the vector that has them in place of the hub's. The old vector is dropped here, without
+    // holding the lock.
     fn put_own<R: Wait>(
         &mut self,
         rt: &R,
@@ -446,7 +453,8 @@ impl<N: WithBody<Six>, W: LogWriter + Drop, K: Begun> OperationLog<N, W, K> {
         drop(kinds);
     }
 
-    // The same, by a vector that is lent. Where the file isn't begun, the hub gets its room back, and the old one goes on.
+    // Does what `put_own` does, with a vector that is lent. If the file can't be begun, the hub gets its room back, and continues with its old
+    // vector.
     fn put<R: Wait>(
         &mut self,
         rt: &R,
@@ -471,7 +479,7 @@ impl<N: WithBody<Six>, W: LogWriter + Drop, K: Begun> OperationLog<N, W, K> {
         self.missed = self.missed || !is_renewed;
     }
 
-    // Begins the file anew with these elements, and says whether it was so.
+    // Begins the file anew with these elements, and returns whether that succeeded.
     fn begin_file(&mut self, heading: LogHeading, elements: &[i64]) -> bool
         requires may { MayBeginAnew K.there self.old }
         requires begins { BeginsAnew N.limits N.numbers self.old.seen heading elements.now }
@@ -490,7 +498,8 @@ impl<N: WithBody<Six>, W: LogWriter + Drop, K: Begun> OperationLog<N, W, K> {
     }
 }
 
-// What comes next for a log that was given these edits and so many entries, whose file was begun anew after so many of the edits with so many elements.
+// What must come next for a log that was given this prefix and `taken` entries, if its file was begun anew after `renewed` updates with this
+// number of elements.
 fn next_of<N: Naming>(prefix: &HistoryPrefix<N>, renewed: u64, elements: u32, taken: u64) -> Came
     requires some { renewed ≤ length prefix.now }
     requires elements { elements ≡ length (list_of (take renewed prefix.now)) }
@@ -505,7 +514,7 @@ fn next_of<N: Naming>(prefix: &HistoryPrefix<N>, renewed: u64, elements: u32, ta
     }
 }
 
-// How the file begins that comes after so many edits of a hub, with these elements. None where its number is too great.
+// The first line of the file that begins after `edits` updates of a hub, with these elements. None if its number is too great.
 fn heading_after(numbers: LogHeading, edits: u64, elements: &[i64]) -> Option<LogHeading>
     requires few { edits ≤ 2 ^ 62 }
     requires short { length elements.now ≤ 1048568 }
@@ -525,7 +534,7 @@ fn heading_after(numbers: LogHeading, edits: u64, elements: &[i64]) -> Option<Lo
     })
 }
 
-// What writes a transcript from its first line on, or goes on behind a log, and was given nothing yet.
+// A transcript writer that was given nothing yet. It writes from the first line on, or continues a log.
 fn unused(alloc: Global, is_log: bool) -> Result<TranscriptWriter, AllocError>
     ensures { IfOk result (λ transcript. (log : Option LogThere) → is_log ≡ is_some log → IsUnusedOf (heading_of log) (there_of log) transcript) }
 {
@@ -536,7 +545,7 @@ fn unused(alloc: Global, is_log: bool) -> Result<TranscriptWriter, AllocError>
     }
 }
 
-// The same, once the first line of a transcript is written.
+// The transcript writer of `unused`, after it has written a transcript's first line.
 fn with_first_line<W: Write>(
     alloc: Global,
     is_log: bool,
@@ -551,7 +560,7 @@ fn with_first_line<W: Write>(
     Ok(transcript)
 }
 
-// Writes what is held, and a transcript's last line behind it.
+// Writes what is buffered, and a transcript's last line.
 fn finish<W: Write>(transcript: TranscriptWriter, is_log: bool, writer: &mut W) -> Result<(), Fault>
     ensures ends { (log : Option LogThere) (start : Option (List ℕ)) (entries : List Entry) → is_log ≡ is_some log
         → WasGivenOf (heading_of log) (there_of log) start entries (state_with (W.contents writer.old) transcript) → EndsText log start (W.contents writer.new) entries result }
@@ -564,7 +573,7 @@ fn finish<W: Write>(transcript: TranscriptWriter, is_log: bool, writer: &mut W) 
     }
 }
 
-// Writes what is held behind a log.
+// Writes what is buffered for a log.
 fn finish_log<W: Write>(transcript: TranscriptWriter, writer: &mut W) -> Result<(), Fault>
     ensures ends { (log : LogThere) (start : Option (List ℕ)) (entries : List Entry)
         → WasGivenOf (Some log.heading) (Some log.entries) start entries (state_with (W.contents writer.old) transcript) → EndsText (Some log) start (W.contents writer.new) entries result }
@@ -578,8 +587,8 @@ fn finish_log<W: Write>(transcript: TranscriptWriter, writer: &mut W) -> Result<
     Ok(())
 }
 
-// Gives what came to a transcript writer that was given what came before, has it written, and says that it was so: if it isn't what comes next, entries are missing, and
-// nothing is given.
+// Gives what came to a transcript writer, has it written, and returns true, if it continues what the writer was given before. Otherwise entries
+// are missing, and nothing is given.
 fn take<N: Naming, W: Write>(
     transcript: &mut TranscriptWriter,
     seen: &mut HistoryPrefix<N>,
@@ -610,7 +619,7 @@ fn take<N: Naming, W: Write>(
     true
 }
 
-// Whether what came is what comes next, so many entries.
+// Whether what came is what comes next, with this number of entries.
 fn is_next(came: Came, next: Came, count: usize) -> bool
     ensures from { result ≡ true → came.from ≡ next.from }
     ensures renewed { result ≡ true → came.renewed ≡ next.renewed }

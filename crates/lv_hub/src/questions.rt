@@ -17,28 +17,27 @@ use std::io;
 use std::io::{Read, Write};
 use std::marker::Model;
 
-/// What is wrong with a line of such a file.
+/// The error of a line of such a file.
 #[derive(Clone, Copy, PartialEq, Eq)]
 pub struct Damage {
     /// The line's number, from 1.
     pub line: u32,
-    /// Why its question is refused; none where the line asks no question.
+    /// Why its question is refused, or none if the line asks no question.
     pub refusal: Option<Refusal>,
 }
 
-/// Why it isn't known what a file asks.
+/// Why the questions of a file can't be had.
 #[derive(Clone, Copy)]
 pub enum Unasked {
-    /// It can't be read, or memory was wanting.
+    /// The file can't be read, or memory ran out.
     Fault(Fault),
-    /// A line is wrong.
+    /// A line is bad.
     Damage(Damage),
 }
 
-/// Reads a file to its end: lines `watch NAME KIND LO HI`, or with `last N` for the range, and maybe with `at-least X` or `at-most X` behind it,
-/// blank ones and comments. Nothing else is kept. A fault of reading comes
-/// before a line that is wrong, of which the first is told: a question is refused with `BadRange`, `NameTaken`, `TooMany`, then
-/// `NoMemory`.
+/// Reads a file to its end. Its lines are `watch NAME KIND LO HI`, or with `last N` for the range, and optionally with `at-least X` or `at-most
+/// X` behind it. Empty lines and comments are skipped. Keeps only the questions. A fault of reading takes precedence over a bad line, and only
+/// the first bad line is reported. A question is refused with `BadRange`, `NameTaken`, `TooMany`, then `NoMemory`.
 pub fn read_questions<R: Read>(alloc: Global, reader: &mut R) -> Result<Vec<Query>, Unasked>
     ensures { ReadsQuestions (R.remaining reader.old) (R.remaining reader.new) result }
 {
@@ -124,7 +123,7 @@ impl<W: Write> LineHandler<W> for Asker {
 }
 
 impl Asker {
-    // Takes a line, unless one before it is wrong.
+    // Takes a line, unless a line before it was bad.
     fn take(&mut self, number: u32, line: Line<Query>)
         ensures { TakesUnless self.old.damage self.old number line self.new }
     {
@@ -150,7 +149,7 @@ impl Asker {
     }
 }
 
-// The questions, or what is wrong.
+// The questions, or the error.
 fn found(asker: Asker) -> Result<Vec<Query>, Unasked>
     ensures { Finds asker result }
 {
@@ -161,7 +160,7 @@ fn found(asker: Asker) -> Result<Vec<Query>, Unasked>
     }
 }
 
-// That a line is wrong.
+// The error of a line.
 fn damage_at(line: u32, refusal: Option<Refusal>) -> Option<Damage>
     ensures { result ≡ Some (record { line = line; refusal = refusal }) }
 {

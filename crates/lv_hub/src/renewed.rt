@@ -1,4 +1,4 @@
-//! A vector that is made anew of elements.
+//! A new vector that is made of elements.
 ghost use Rattle.std.specs.Prelude.{◌≡◌, IfOk, map};
 ghost use Rattle.lv_bodies.specs.Plain.{program_table};
 ghost use Rattle.lv_edits.specs.declared.edit.Edit.TheVariants.{Push};
@@ -13,8 +13,8 @@ use lv_standing::push_all_beside;
 use lv_tree::Kinds;
 use std::alloc::Global;
 
-/// A vector that has these elements, each as the push of it, and no tree yet for any kind. Refused with `NoMemory`, or as the first push is that the limits
-/// don't allow.
+/// A vector that has these elements, each as a push, and no tree yet for any kind. Refused with `NoMemory`, or as the first push is that the
+/// limits don't allow.
 pub fn renewed<B: Body>(
     alloc: Global,
     limits: Limits,

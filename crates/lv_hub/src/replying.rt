@@ -33,8 +33,8 @@ use std::alloc::Global;
 use std::io::Write;
 use std::sync::Wait;
 
-/// Where a session is held: a hub, the handle by which it is waited for, what memory is taken from, the numbers that its replies tell, and
-/// what becomes of the reductions that it is answered.
+/// Where a session runs: a hub, the runtime handle that waits for its lock, the allocator, the numbering of its replies, and what is recorded of
+/// its answers.
 #[derive(Drop)]
 pub struct SessionPlace<'a, N: WithBody<Six>, T> {
     pub rt: &'a T,
@@ -45,12 +45,12 @@ pub struct SessionPlace<'a, N: WithBody<Six>, T> {
     ghost told_by: { numbers ≡ N.numbers },
     ghost low: { numbers.base ≤ 2 ^ 62 },
     ghost lists: { are_listed keeps ≡ N.lists },
-    // Only a hub of one vector has its reductions listed: their numbers are the vector's.
+    // Only the sessions of a hub of one vector list their reductions, since these have the vector's numbers.
     ghost one: { N.lists ≡ true → IsOfOneVector N.limits },
 }
 
-/// Answers a line of a session, on a hub: its share counts what is accepted, and `answers` lists the reductions, which stay true. Up to `entry` the log has to have the hub's
-/// entries before the reply goes out, with all replies before.
+/// Answers a line of a session, on a hub. The share counts what is accepted, and `answers` lists the reductions, which stay true. Before the
+/// reply and all earlier ones are sent, the log must have the hub's entries up to `entry`.
 pub fn answer_line<N: WithBody<Six>, T: Wait, L: SessionLog<N>, W: Write>(
     place: &SessionPlace<'_, N, T>,
     log: &L,
@@ -86,7 +86,7 @@ pub fn answer_line<N: WithBody<Six>, T: Wait, L: SessionLog<N>, W: Write>(
     Ok(())
 }
 
-/// Makes room for the reply to a line. What is held is sent where there is none, once all is recorded that it may tell.
+/// Makes room for the reply to a line. If there is none, what is buffered is sent, once everything that it reports is recorded.
 pub(crate) fn make_room<N: WithBody<Six>, T: Wait, L: SessionLog<N>, W: Write>(
     place: &SessionPlace<'_, N, T>,
     log: &L,
@@ -107,8 +107,8 @@ pub(crate) fn make_room<N: WithBody<Six>, T: Wait, L: SessionLog<N>, W: Write>(
     Ok(())
 }
 
-// Answers a command, which is bad unless it is an edit, a reduction or a scan. Only the reply to a scan may be longer than
-// what is held. All that a reply tells is recorded before it goes out.
+// Answers a command, which is bad unless it is an update, a reduction or a scan. Only the reply to a scan may be longer than the buffer.
+// Everything that a reply reports is recorded before it is sent.
 fn answer<N: WithBody<Six>, T: Wait, L: SessionLog<N>, W: Write>(
     place: &SessionPlace<'_, N, T>,
     log: &L,
@@ -166,7 +166,7 @@ fn answer<N: WithBody<Six>, T: Wait, L: SessionLog<N>, W: Write>(
     }
 }
 
-// Makes an edit, and tells its receipt or its refusal.
+// Makes an update, and puts its receipt or its refusal.
 fn put_edit<N: WithBody<Six>, T: Wait, L: SessionLog<N>>(
     place: &SessionPlace<'_, N, T>,
     log: &L,
@@ -188,7 +188,7 @@ fn put_edit<N: WithBody<Six>, T: Wait, L: SessionLog<N>>(
     }
 }
 
-// The number that is told of the last edit that a share has seen.
+// The number of the last update that a share has seen, in the session's numbering.
 #[inline(always)]
 fn last_number<N: WithBody<Six>, T: Wait>(place: &SessionPlace<'_, N, T>, share: &Share<N>) -> u64
     ensures { result ≡ told_number N.numbers (length share.now.seen) }
@@ -196,7 +196,7 @@ fn last_number<N: WithBody<Six>, T: Wait>(place: &SessionPlace<'_, N, T>, share:
     told_number(place.numbers, share.seen())
 }
 
-// Makes an edit once the log has room for it: until then what came is recorded. If that fails, no reply goes out any more.
+// Makes an update once the log has room for it. Until then it has the log record what came. If that fails, no reply is sent any more.
 fn edit_with_place<N: WithBody<Six>, T: Wait, L: SessionLog<N>>(
     place: &SessionPlace<'_, N, T>,
     log: &L,
@@ -217,7 +217,7 @@ fn edit_with_place<N: WithBody<Six>, T: Wait, L: SessionLog<N>>(
     place.hub.edit(place.rt, share, edit)
 }
 
-// Reduces a range, and lists the answer where answers are listed.
+// Reduces a range, and lists the answer if answers are listed.
 fn put_reduction<N: WithBody<Six>, T: Wait, L: SessionLog<N>>(
     place: &SessionPlace<'_, N, T>,
     log: &L,
@@ -256,7 +256,7 @@ fn put_reduction<N: WithBody<Six>, T: Wait, L: SessionLog<N>>(
     }
 }
 
-// Whether a reduction that is answered now is kept. Where reductions are listed it makes room for one more first, if fewer than so many are.
+// Whether the next reduction is recorded. If reductions are listed, it first makes room for one more, provided that fewer than the maximum are.
 fn make_place(answers: &mut Vec<Claimed>, keeps: KeptAnswers) -> bool
     ensures items { answers.new.items ≡ answers.old.items }
     ensures len { vec_len answers.new ≡ vec_len answers.old }
@@ -268,8 +268,8 @@ fn make_place(answers: &mut Vec<Claimed>, keeps: KeptAnswers) -> bool
     }
 }
 
-// The value of a kind over a range. If it is to be kept, it is asked once the log has room for the answer, whose number among its entries is told: until then what came is
-// recorded. If that fails, no reply goes out any more.
+// The value of a kind over a range. If it is to be recorded, it is computed once the log has room for the answer, and `entry` becomes its number
+// among the log's entries. Until then it has the log record what came. If that fails, no reply is sent any more.
 fn value_with_place<N: WithBody<Six>, T: Wait, L: SessionLog<N>>(
     place: &SessionPlace<'_, N, T>,
     log: &L,
@@ -299,7 +299,7 @@ fn value_with_place<N: WithBody<Six>, T: Wait, L: SessionLog<N>>(
     place.hub.value(place.rt, share, kind, lo, hi)
 }
 
-// Lists a reduction behind others where reductions are listed: it finds room, and fewer than so many are listed.
+// Appends a reduction to the list, if reductions are listed. It must find memory, and fewer than the maximum may be listed.
 fn list(answers: &mut Vec<Claimed>, keeps: KeptAnswers, reduction: Claimed) -> Result<(), Refusal>
     ensures listed { OnOk result (answers.new.items ≡ listed_if (are_listed keeps) answers.old.items reduction) }
     ensures unchanged { IfErr result (λ refusal. (are_listed keeps ≡ true) × (refusal ≡ Refusal.NoMemory) × (answers.new.items ≡ answers.old.items)) }
@@ -312,7 +312,7 @@ fn list(answers: &mut Vec<Claimed>, keeps: KeptAnswers, reduction: Claimed) -> R
     }
 }
 
-// Lists a reduction behind others, where it finds room and fewer than so many are listed.
+// Appends a reduction to the list, if it finds memory and fewer than `most` are listed.
 fn list_within(answers: &mut Vec<Claimed>, most: usize, reduction: Claimed) -> Result<(), Refusal>
     ensures listed { OnOk result (answers.new.items ≡ answers.old.items ++ reduction ∷ []) }
     ensures unchanged { IfErr result (λ refusal. (refusal ≡ Refusal.NoMemory) × (answers.new.items ≡ answers.old.items)) }
@@ -327,7 +327,7 @@ fn list_within(answers: &mut Vec<Claimed>, most: usize, reduction: Claimed) -> R
     }
 }
 
-// Scans a range, and tells the values: the range is copied under the lock, and each value is put as it is computed.
+// Scans a range, and puts the values. The range is copied under the lock, and each value is put as it is computed.
 fn put_scanned<N: WithBody<Six>, T: Wait, L: SessionLog<N>, W: Write>(
     place: &SessionPlace<'_, N, T>,
     log: &L,
@@ -368,7 +368,7 @@ fn put_scanned<N: WithBody<Six>, T: Wait, L: SessionLog<N>, W: Write>(
     }
 }
 
-// Tells the values of a scan of elements at an edit of this number. All is recorded before, since what is held is sent on the way.
+// Puts the values of a scan of elements at an edit number. Everything is recorded before, since the buffer is sent on the way.
 fn put_recorded_scan<N: WithBody<Six>, T: Wait, L: SessionLog<N>, W: Write>(
     place: &SessionPlace<'_, N, T>,
     log: &L,

@@ -1,4 +1,4 @@
-//! Where what sessions do is recorded.
+//! Where the actions of sessions are recorded.
 ghost use Rattle.std.specs.Prelude.{◌≡◌, ℕ, IfErr, IfSome, List, OnOk};
 ghost use Rattle.lv_edits.specs.declared.edit.Edit.{Edit};
 ghost use Rattle.lv_hub.specs.Logging.{WereRecorded};
@@ -12,13 +12,14 @@ use lv_script::Fault;
 use lv_transcript::LogWriter;
 use std::sync::{Mutex, Wait};
 
-/// A record of what a hub comes to, or none.
+/// A record of what a hub has come to, or none.
 pub trait SessionLog<N: WithBody<Six>> {
-    // It has recorded these edits, the first of the hub, and so many of the hub's entries, edits and answers: now they may be told.
+    // The log has recorded these updates, a prefix of the hub's, and this many of the hub's entries (updates and answers). So they may be
+    // reported.
     ghost has_recorded: { Self → List Edit → ℕ → Type 0 };
 
-    /// Sees to it that what a share of the hub has seen is recorded, and as many of the hub's entries as are asked for. The fault is `WriteFault`: then nothing may be told of
-    /// it.
+    /// Makes sure that what a share of the hub has seen is recorded, and as many of the hub's entries as are asked for. The fault is
+    /// `WriteFault`. Then nothing of it may be reported.
     fn record<T: Wait>(
         &self,
         rt: &T,
@@ -29,12 +30,12 @@ pub trait SessionLog<N: WithBody<Six>> {
         ensures recorded { OnOk result (has_recorded self.now share.now.seen entries) }
         ensures fault { IfErr result (λ fault. fault ≡ Fault.WriteFault) };
 
-    /// Records all that the hub has come to, so that it has room for more. The fault is `WriteFault`: then nothing may be told of it.
+    /// Records all that the hub has come to, so that it has room for more. The fault is `WriteFault`. Then nothing of it may be reported.
     fn make_place<T: Wait>(&self, rt: &T, hub: &Hub<Six, N>) -> Result<(), Fault>
         ensures { IfErr result (λ fault. fault ≡ Fault.WriteFault) };
 }
 
-/// Nothing is recorded, and all may be told.
+/// Records nothing. Everything may be reported.
 #[derive(Clone, Copy)]
 pub struct NoLog;
 
@@ -56,7 +57,7 @@ impl<N: WithBody<Six>> SessionLog<N> for NoLog {
     }
 }
 
-/// One writes what others have done too: so whoever finds its own entry written writes nothing.
+/// Whoever records writes what others have done too. So a caller whose own entries are written already writes nothing.
 impl<N: WithBody<Six>, W: LogWriter + Drop, K: Begun> SessionLog<N>
     for Mutex<OperationLog<N, W, K>> {
     ghost has_recorded = { λ log edits entries. WereRecorded W.made N.limits N.numbers K.there K.start edits entries };

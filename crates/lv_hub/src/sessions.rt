@@ -23,13 +23,13 @@ use std::marker::{Brand, Model, PhantomData};
 use std::mem;
 use std::sync::Wait;
 
-/// Answers the lines of a session on a hub: pushes, pops, writes, reserves, swaps, truncates, reductions and scans, as a script's; every
-/// other line that says something is bad. Their numbers are those of the place. Where it lists reductions, it does so with each that was
-/// answered, in order, at most as many as the place says; one whose entry finds no room is refused with `NoMemory`. What the session does is recorded by the log before a reply to it goes out; where that
-/// fails, the fault is `WriteFault`, and nothing more goes out.
+/// Answers the lines of a session on a hub: pushes, pops, writes, reserves, swaps, truncates, reductions and scans, as a script does. Every other
+/// line that isn't empty is bad. Replies have the numbering of the place. If the place lists reductions, the session lists each one that was
+/// answered, in order, up to the place's maximum. A reduction that finds no room in the list is refused with `NoMemory`. What the session does is
+/// recorded by the log before a reply to it is sent. If that fails, the fault is `WriteFault`, and nothing more is sent.
 ///
-/// The share counts the edits that were accepted, and sees the hub's edits up to each answer. Ends with the faults of a script; edits
-/// accepted before a fault stay, and stay counted.
+/// The share counts the updates that were accepted, and sees the hub's updates up to each answer. Ends with the faults of a script. Updates that
+/// were accepted before a fault stay, and stay counted.
 pub fn run_session<N: WithBody<Six>, T: Wait, L: SessionLog<N>, R: Read, W: Write>(
     place: SessionPlace<'_, N, T>,
     log: &L,
@@ -43,15 +43,15 @@ pub fn run_session<N: WithBody<Six>, T: Wait, L: SessionLog<N>, R: Read, W: Writ
         × (share.new.count ≡ last.count)
         × (share.new.seen ≡ last.seen)
         × IfOk result (λ answers. answers.items ≡ last.answers) }
-    // Line by line the replies are those of the plain interpreter, each at some edits of the hub's.
+    // Line by line the replies are those of the reference model, each after some updates of the hub.
     ensures plain { LinesServed (PlainSessionStep N.limits N.numbers) (seen_by share.old) (seen_by share.new)
         (R.remaining reader.old) (R.remaining reader.new) (W.contents writer.old) (W.contents writer.new) result }
-    // All edits that it has seen are recorded, and all entries up to its last answer.
+    // All updates that it has seen are recorded, and all entries up to its last answer.
     ensures recorded { OnOk result ((entry : ℕ) × L.has_recorded log.now share.new.seen entry) }
     ensures parts { share.new.parts ≡ share.old.parts }
     ensures more { share.old.count ≤ share.new.count }
     ensures seen { IsPrefix share.old.seen share.new.seen }
-    // Each reduction is true of the edits that were seen.
+    // Each reduction is true of the updates that were seen.
     ensures all_true { IfOk result (λ answers. All (IsTrueAnswer share.new.seen) answers.items) }
     ensures order { IfOk result (λ answers. AreInOrder answers.items) }
     ensures few { IfOk result (λ answers. vec_len answers ≤ most_listed place.entry.keeps) }
@@ -76,7 +76,7 @@ pub fn run_session<N: WithBody<Six>, T: Wait, L: SessionLog<N>, R: Read, W: Writ
     listed(answers, ended)
 }
 
-// The reductions that were answered, where the session came to its end.
+// The reductions that were answered, if the session came to its end.
 fn listed(answers: Vec<Claimed>, ended: Result<(), Fault>) -> Result<Vec<Claimed>, Fault>
     ensures { MatchResult ended (λ _. result ≡ Ok answers) (λ fault. result ≡ Err fault) }
 {
@@ -84,7 +84,8 @@ fn listed(answers: Vec<Claimed>, ended: Result<(), Fault>) -> Result<Vec<Claimed
     Ok(answers)
 }
 
-/// What a share holds when it is lent to a session, at most how many reductions that lists, and which edits and how many entries its log has recorded.
+/// What a share holds when it is lent to a session, how many reductions the session lists at most, and which updates and how many entries its log
+/// has recorded.
 pub trait SessionStart {
     ghost holding: { ShareState };
 
@@ -101,7 +102,7 @@ impl SessionStart for Brand {
     ghost recorded = { λ edits entries. Unit {0} };
 }
 
-// Holds a session with a share, and gives the share back with the reductions that were answered.
+// Runs a session with a share, and returns the share with the reductions that were answered.
 fn hold<K: SessionStart, N: WithBody<Six>, T: Wait, L: SessionLog<N>, R: Read, W: Write>(
     place: SessionPlace<'_, N, T>,
     log: &L,
@@ -133,14 +134,15 @@ fn hold<K: SessionStart, N: WithBody<Six>, T: Wait, L: SessionLog<N>, R: Read, W
     (share, answers, ended)
 }
 
-// What answers the lines of a session.
+// The line handler of a session.
 #[derive(Drop)]
 struct Session<'a, N: WithBody<Six>, T: Wait, L: SessionLog<N>, K: SessionStart> {
     place: SessionPlace<'a, N, T>,
     log: &'a L,
     share: Share<N>,
     answers: Vec<Claimed>,
-    // Up to which entry the log has to have those of the hub before replies go out: where answers are kept, that is the last one that this session was given.
+    // Up to which entry the log must have the hub's entries before replies are sent. If answers are recorded, it is the last entry that this
+    // session was given.
     entry: u64,
     of: PhantomData<K>,
 }
@@ -188,15 +190,15 @@ impl<'a, N: WithBody<Six>, T: Wait, L: SessionLog<N>, K: SessionStart, W: Write>
         )
     }
 
-    // All that replies may tell is recorded before they go out.
+    // Everything that replies may report is recorded before they are sent.
     fn before_send(&self) -> Result<(), Fault> {
         let (place, log) = (&self.place, self.log);
         log.record(place.rt, place.hub, &self.share, self.entry)
     }
 }
 
-/// Puts the reductions of several sessions in the order of their edits, for a transcript; those at one edit stay in theirs.
-/// Where there is no memory to sort them in, none has moved.
+/// Sorts the reductions of several sessions by their versions, for a transcript. Those at one version keep their order. If there is no memory for
+/// sorting, the list is unchanged.
 pub fn in_order(answers: &mut Vec<Claimed>) -> Result<(), AllocError>
     ensures order { OnOk result (AreInOrder answers.new.items) }
     ensures same { IsPermutation answers.old.items answers.new.items }

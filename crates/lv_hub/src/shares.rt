@@ -7,8 +7,8 @@ use lv_history::{Head, HistoryPrefix, Naming};
 use std::marker::Model;
 use std::sync::ledger::{Book, Share as Token};
 
-/// Some parts of a hub, how many of the edits that were accepted it counts, and the beginning of the hub's edits that it has seen. A
-/// share that is dropped takes its parts with it, so that the hub can't be closed any more.
+/// Some parts of a hub, the number of accepted updates that they count, and the prefix of the hub's updates that was seen. A share that is
+/// dropped takes its parts with it, so that the hub can't be closed any more.
 #[derive(Drop)]
 pub struct Share<N: Naming> {
     pub(crate) token: Token<N>,
@@ -26,7 +26,7 @@ impl<N: Naming> Model for Share<N> {
 }
 
 impl<N: Naming> Share<N> {
-    // The share of all parts, as the ledger opens, with what it has seen.
+    // The share of all parts, when the ledger is opened, with what it has seen.
     pub(crate) fn whole(token: Token<N>, prefix: HistoryPrefix<N>, parts: u64) -> Share<N>
         requires some { 0 < parts }
         requires parts { token.parts ≡ parts }
@@ -48,14 +48,14 @@ impl<N: Naming> Share<N> {
         self.parts
     }
 
-    /// How many accepted edits it counts, modulo 2^64.
+    /// How many accepted updates it counts, modulo 2^64.
     pub fn count(&self) -> u64
         ensures { result ≡ self.now.count % 2 ^ 64 }
     {
         self.count
     }
 
-    /// Cuts one part off, which counts nothing yet, and has seen what this one has.
+    /// Splits one part off, which counts nothing yet, and has seen what this share has.
     pub fn split(&mut self) -> Share<N>
         requires { 2 ≤ self.old.parts }
         ensures one { result ≡ record { parts = 1; count = 0; seen = self.old.seen } }
@@ -65,7 +65,7 @@ impl<N: Naming> Share<N> {
         self.split_at(&prefix)
     }
 
-    /// Cuts one part off, which counts nothing yet, and has seen what a prefix of the same hub has.
+    /// Splits one part off, which counts nothing yet, and has seen what a prefix of the same hub has.
     pub fn split_at(&mut self, prefix: &HistoryPrefix<N>) -> Share<N>
         requires { 2 ≤ self.old.parts }
         ensures one { result ≡ record { parts = 1; count = 0; seen = prefix.now } }
@@ -81,7 +81,7 @@ impl<N: Naming> Share<N> {
         }
     }
 
-    /// Takes another share of the same hub in, with what it has seen.
+    /// Takes in another share of the same hub, with what it has seen.
     pub fn join(&mut self, other: Share<N>)
         ensures { AreTogether self.old other self.new }
     {
@@ -115,14 +115,14 @@ impl<N: Naming> Share<N> {
         self.prefix.again()
     }
 
-    // Whether a prefix of the same hub has seen all that it has.
+    // Whether a prefix of the same hub has seen all that this share has.
     pub(crate) fn is_within(&self, prefix: &HistoryPrefix<N>) -> bool
         ensures { result ≡ true → IsPrefix self.now.seen prefix.now }
     {
         self.prefix.begins(prefix)
     }
 
-    // How many edits it has seen.
+    // How many updates it has seen.
     pub(crate) fn seen(&self) -> u64
         ensures count { result ≡ length self.now.seen }
         ensures few { result ≤ 2 ^ 62 }
@@ -130,7 +130,7 @@ impl<N: Naming> Share<N> {
         self.prefix.count()
     }
 
-    // Sees all edits.
+    // Sees all updates.
     pub(crate) fn see(&mut self, head: &mut Head<N>)
         ensures begins { IsPrefix self.old.seen head.old }
         ensures seen { self.new ≡ having_seen self.old head.old }
@@ -140,7 +140,7 @@ impl<N: Naming> Share<N> {
         self.prefix = prefix;
     }
 
-    // Counts one edit more, in the book too.
+    // Counts one more update, in the book too.
     pub(crate) fn enter(&mut self, book: &mut Book<N>)
         ensures share { self.new ≡ record self.old { count = self.old.count + 1 } }
         ensures book { book.new.total ≡ book.old.total + 1 }
@@ -149,7 +149,7 @@ impl<N: Naming> Share<N> {
         self.count = self.count.wrapping_add(1);
     }
 
-    // Where it has all parts, it counts what the book does.
+    // A share that has all parts counts as many updates as the book.
     pub(crate) fn audit(&mut self, book: &mut Book<N>)
         requires { self.old.parts ≡ N.parts }
         ensures share { self.new ≡ self.old }

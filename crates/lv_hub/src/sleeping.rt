@@ -14,7 +14,7 @@ const NAPS: u32 = 8;
 const NAP_MICROSECONDS: u64 = 100;
 
 impl<B: Body, N: WithBody<B>> Hub<B, N> {
-    // Wakes a worker, if that is wanted, and all subscribers, if that is.
+    // Wakes a worker, if that is wanted, and all subscribers, if that is wanted.
     pub(crate) fn wake(&self, wakes: bool, calls: bool) {
         if wakes {
             self.bell.notify_one();
@@ -24,8 +24,8 @@ impl<B: Body, N: WithBody<B>> Hub<B, N> {
         }
     }
 
-    // The lock, for a worker. While others have it the worker naps and tries again, a few times, so that threads that edit and ask
-    // go first. After that it waits as they do.
+    // Takes the lock, for a worker. While others hold it, the worker naps and tries again, a few times, so that threads that make calls go first.
+    // After that it waits as they do.
     fn lock_last<R: Wait>(&self, rt: &R) -> MutexGuard<'_, Desk<B, N>> {
         let pillow = Parker::new();
         for _ in 0..NAPS {
@@ -37,8 +37,9 @@ impl<B: Body, N: WithBody<B>> Hub<B, N> {
         self.desk.lock(rt)
     }
 
-    // A job for the least node that wants one, unless the workers were dismissed. Where it gives none it sleeps before, if that is
-    // wanted, until an edit or a dismissal wakes it. It looks and counts itself under one lock, so no edit comes between.
+    // A job for the least node that needs one, unless the workers were dismissed. If there is no job and sleeping is wanted, it sleeps until an
+    // update or a dismissal wakes it, and then returns none. It looks for a job and counts itself as asleep under one lock, so that no update
+    // comes in between.
     pub(crate) fn claim_or_sleep<R: Wait>(&self, rt: &R, sleeps: bool) -> Option<Job<B>> {
         let mut desk = self.lock_last(rt);
         if desk.is_dismissed() {
@@ -52,8 +53,8 @@ impl<B: Body, N: WithBody<B>> Hub<B, N> {
         claimed
     }
 
-    /// Sleeps until the vector has a block, so that workers may find a job, or until they are dismissed. Says whether they may: not
-    /// where they were dismissed.
+    /// Sleeps until the vector has a full block, so that workers may find a job, or until they are dismissed. Returns false if they were
+    /// dismissed.
     pub fn wait_for_work<R: Wait>(&self, rt: &R) -> bool {
         let desk = self.desk.lock(rt);
         let desk = self.bell.wait_while(rt, desk, |desk| desk.has_no_work());
@@ -72,8 +73,7 @@ impl<B: Body, N: WithBody<B>> Hub<B, N> {
         self.desk.lock(rt).is_dismissed()
     }
 
-    // Sleeps until there are more edits than so many, or until the workers are dismissed. Says whether they may go on: not where they
-    // were dismissed.
+    // Sleeps until there are more updates than `seen`, or until the workers are dismissed. Returns false if they were dismissed.
     pub(crate) fn wait_for_news<R: Wait>(&self, rt: &R, seen: u64) -> bool {
         let desk = self.desk.lock(rt);
         let desk = self
@@ -82,8 +82,8 @@ impl<B: Body, N: WithBody<B>> Hub<B, N> {
         !desk.is_dismissed()
     }
 
-    /// Ends the workers that attend, now and from now on: those that sleep are woken, and each ends at its next turn. So it is with
-    /// subscribers. Everything else goes on as before.
+    /// Ends the workers that attend and the subscribers, now and from now on. Those that sleep are woken, and each ends at its next turn.
+    /// Everything else continues as before.
     pub fn dismiss<R: Wait>(&self, rt: &R) {
         self.desk.lock(rt).dismiss();
         self.bell.notify_all();

@@ -1,4 +1,4 @@
-//! Threads that are told of the edits that change the answers to their questions.
+//! Subscribers: threads that are notified of the updates that change the answers to their questions.
 ghost use Rattle.std.specs.Prelude.{◌≡◌, ◌≤◌, ◌^◌, ◌++◌, ◌∷◌, [], None, IfErr, IfOk, IfSome, OnErr, OnOk};
 ghost use Rattle.lv_edits.specs.Verdict.{IsRefusal};
 ghost use Rattle.lv_standing.specs.Queries.{watch_answer};
@@ -22,13 +22,13 @@ use std::time::Duration;
 /// How many queries a subscriber has at most.
 pub const MOST_QUERIES: usize = 64;
 
-// How long a subscriber pauses between two looks, unless it is told otherwise.
+// How long a subscriber pauses between two looks by default.
 const PAUSE_MICROSECONDS: u64 = 1000;
 
-/// A thread's part of a hub that asks it questions by name, again and again, and is told of those whose answer is another than it
-/// was told last. A question that it hasn't been told of counts as told its answer of no elements.
+/// A thread's part of a hub that asks it named questions, again and again, and reports each one whose answer differs from the last reported one.
+/// The answer on no elements counts as reported at first.
 ///
-/// It may miss edits, never goes back, and tells all it says at one edit. Whoever drops it drops its share.
+/// It may miss updates in between, never goes back to earlier ones, and reports everything at one version. Dropping it drops its share.
 #[derive(Drop)]
 pub struct Subscriber<N: WithBody<Six>> {
     share: Share<N>,
@@ -50,7 +50,7 @@ impl<N: WithBody<Six>> Model for Subscriber<N> {
 }
 
 impl<N: WithBody<Six>> Subscriber<N> {
-    /// A subscriber without questions, with a share of its own. Takes no memory.
+    /// A subscriber without questions, with this share. Allocates no memory.
     pub fn new(alloc: Global, share: Share<N>) -> Subscriber<N>
         ensures { result ≡ record { share = share; questions = []; told = [] } }
     {
@@ -62,22 +62,22 @@ impl<N: WithBody<Six>> Subscriber<N> {
         }
     }
 
-    /// Its share, which has seen the edits that it looked at last.
+    /// Its share, which has seen the updates up to its last look.
     pub fn share(&self) -> &Share<N>
         ensures { result.now ≡ self.now.share }
     {
         &self.share
     }
 
-    /// Pauses so long between two looks, in place of a millisecond.
+    /// Sets the pause between two looks, which is a millisecond by default.
     pub fn set_pause(&mut self, pause: Duration)
         ensures { self.new ≡ self.old }
     {
         self.pause = pause;
     }
 
-    /// Registers a question, which is told of with the next look that finds an edit. Refused with `BadRange`, `NameTaken`, `TooMany`,
-    /// then `NoMemory`.
+    /// Registers a question, which takes part from the next look that finds an update. Refused with `BadRange`, `NameTaken`, `TooMany`, then
+    /// `NoMemory`.
     pub fn watch(&mut self, question: &Query) -> Result<(), Refusal>
         ensures ok { OnOk result ((question_refusal self.old.questions question.now ≡ None)
             × (self.new.questions ≡ self.old.questions ++ question.now ∷ [])
@@ -92,7 +92,7 @@ impl<N: WithBody<Six>> Subscriber<N> {
         }
     }
 
-    // Why a question is refused where there is no room for its note.
+    // Why a question is refused if there is no room for its note.
     fn refusal_without_room(&self, question: &Query) -> Refusal
         ensures { IsRefusal (question_refusal self.now.questions question.now) result }
     {
@@ -102,8 +102,8 @@ impl<N: WithBody<Six>> Subscriber<N> {
         }
     }
 
-    /// What there is to tell since the last look, or none where no edit was made. Refused with `NoMemory`. In both cases nothing has
-    /// changed. It doesn't sleep.
+    /// Looks at the hub, and returns a notification, or none if no update was made since the last look. Refused with `NoMemory`. If there is no
+    /// notification, nothing has changed. It doesn't sleep.
     pub fn look<R: Wait>(
         &mut self,
         rt: &R,
@@ -113,8 +113,8 @@ impl<N: WithBody<Six>> Subscriber<N> {
         ensures told { IfOk result (IsToldIf N.limits self.old self.new) }
         ensures few { IfOk result (λ found. IfSome found (λ told. told.edit ≤ 2 ^ 62)) }
         ensures err { IfErr result (λ refusal. refusal ≡ Refusal.NoMemory) }
-        // Told or not, it has seen the edits of a vector within the limits. That these are all edits of the hub so far isn't a clause: a
-        // hub's contracts don't name its state.
+        // In both cases it has seen the updates of a vector within the limits. No clause says that these are all updates of the hub so far,
+        // because a hub's contracts don't name its state.
         ensures current { IfOk result (λ told. IsRun N.limits self.new.share.seen) }
         ensures unchanged { OnErr result (self.new ≡ self.old) }
     {
@@ -131,7 +131,7 @@ impl<N: WithBody<Six>> Subscriber<N> {
         Ok(Some(Told { edit, notes }))
     }
 
-    /// The same after a pause, and once there is an edit to tell of: until then it sleeps. None where the hub's workers are dismissed.
+    /// Pauses, sleeps until there is an update to look at, and then does what `look` does. Returns none if the hub's workers are dismissed.
     pub fn next<R: Wait>(
         &mut self,
         rt: &R,
@@ -150,7 +150,7 @@ impl<N: WithBody<Six>> Subscriber<N> {
         self.look(rt, alloc, hub)
     }
 
-    /// Its share, and what it was told last, for the hub's end.
+    /// Its share, and its last reported answers, for the hub's end.
     pub fn end(self) -> (Share<N>, Ended)
         ensures share { result.0 ≡ self.share }
         ensures questions { result.1.questions ≡ self.questions }

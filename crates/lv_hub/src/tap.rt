@@ -1,4 +1,4 @@
-//! The tap of a desk: what has come since its log was written last.
+//! The tap of a desk: what has come since its log was last written.
 ghost use Rattle.std.specs.Prelude.{◌≡◌, ◌+◌, ◌<◌, ◌^◌, [], IsTrue, vec_capacity};
 ghost use Rattle.lv_edits.specs.Kept.{CarriesElement};
 ghost use Rattle.lv_hub.specs.declared.log_entry.LogEntry.TheVariants as logged;
@@ -9,8 +9,8 @@ use lv_edits::Edit;
 use std::marker::Model;
 use std::mem;
 
-/// Entries in the order of time, from an edit on, in a list whose room is fixed. Whoever writes the log takes them out, with no lock held
-/// while they are written. All that ever came are counted, edits and answers: so the number of an entry says whether a log has it.
+/// Entries in the order of time, from some version on, in a list of fixed capacity. Whoever writes the log takes them out, and holds no lock
+/// while writing them. All entries that ever came, updates and answers, are counted, so that the number of an entry says whether a log has it.
 #[derive(Drop)]
 pub(crate) struct Tap {
     from: u64,
@@ -27,8 +27,8 @@ impl Model for Tap {
     ghost view = { λ t. record { from = t.from; entries = t.entries.items; room = vec_capacity t.entries; given = t.given } };
 }
 
-/// What was handed over for a log: the edits since the vector had so many, after how many edits of the hub it was made anew last, and how many entries
-/// came in all, with those that are handed over.
+/// What was handed over for a log: the number of the vector's updates before the entries, after how many updates of the hub the vector was last
+/// made anew, and how many entries came in all, including these.
 #[derive(Clone, Copy)]
 pub struct Came {
     pub from: u64,
@@ -37,7 +37,7 @@ pub struct Came {
 }
 
 impl Tap {
-    // A tap from so many edits on, whose entries go into this list, after so many entries.
+    // A tap that begins after `from` updates and `given` entries, and collects into this list.
     pub(crate) fn new(from: u64, given: u64, entries: Vec<LogEntry>) -> Tap
         requires { entries.items ≡ [] }
         ensures { result ≡ record { from = from; entries = []; room = vec_capacity entries; given = given } }
@@ -49,7 +49,7 @@ impl Tap {
         }
     }
 
-    // Whether there is room for one entry more, and a number.
+    // Whether there is room for one more entry, and a number for it.
     pub(crate) fn has_place(&self) -> bool
         ensures { IsTrue result → HasPlace self.now }
     {
@@ -63,7 +63,7 @@ impl Tap {
         self.given
     }
 
-    // Takes an edit up.
+    // Adds an update.
     pub(crate) fn take_edit(&mut self, edit: Edit)
         requires { HasPlace self.old }
         ensures taken { self.new ≡ with_entry (logged.Edit edit) self.old }
@@ -73,7 +73,7 @@ impl Tap {
         self.take(LogEntry::Edit(edit));
     }
 
-    // Takes an entry up.
+    // Adds an entry.
     pub(crate) fn take(&mut self, entry: LogEntry)
         requires { HasPlace self.old }
         ensures { self.new ≡ with_entry entry self.old }
@@ -82,8 +82,8 @@ impl Tap {
         self.entries.push_reserved(entry);
     }
 
-    // Hands its entries over for a list without any, which takes their place; what comes next comes from so many edits on. Says from which
-    // edit on the entries are.
+    // Hands its entries over, and takes an empty list in their place. What comes next begins after `edits` updates. Returns after how many
+    // updates the entries that were handed over began.
     pub(crate) fn hand_over(&mut self, edits: u64, entries: &mut Vec<LogEntry>) -> u64
         requires { entries.old.items ≡ [] }
         ensures from { result ≡ self.old.from }
@@ -95,7 +95,7 @@ impl Tap {
     }
 }
 
-// The element of an edit is a number of 64 bits.
+// The element of an update is a number of 64 bits.
 fn tell_element(edit: Edit)
     ensures { CarriesElement edit }
 {

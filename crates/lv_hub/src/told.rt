@@ -1,7 +1,8 @@
-//! What a subscriber is told.
+//! A notification.
 use lv_standing::Note;
 
-/// What a subscriber is told: an edit by the hub's own number, and notes of the names whose answer there is another than it was told before.
+/// What a subscriber is notified of: an edit number of the hub's own, and a note for each name whose answer there differs from the last one that
+/// was reported.
 #[derive(Drop)]
 pub struct Told {
     pub edit: u64,

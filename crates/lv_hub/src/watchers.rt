@@ -1,4 +1,4 @@
-//! Subscribers beside sessions: what each is told goes to its file.
+//! Subscribers that run together with sessions, and write their notifications to files.
 
 ghost use Rattle.std.specs.Prelude.{◌≡◌, ◌⊎◌, ◌+◌, ◌≤◌, ◌^◌, IfErr, IfOk, None, OnOk, [], map, vec_len};
 ghost use Rattle.lv_hub.specs.Asking.{IsRefusedFor, refusal_behind, refusal_of_all};
@@ -23,24 +23,24 @@ use std::io::Write;
 use std::marker::Model;
 use std::sync::Wait;
 
-/// A subscriber that is to be.
+/// A subscriber that is to be started.
 #[derive(Drop)]
 pub struct Watch<F: Drop> {
-    /// A number that the caller knows it by.
+    /// A number by which the caller knows it.
     pub number: usize,
-    /// What it asks.
+    /// Its questions.
     pub questions: Vec<Query>,
-    /// Where its lines go.
+    /// Where its lines are written.
     pub notes: F,
 }
 
-/// A subscriber of a hub with one part of it, and what writes its lines.
+/// A subscriber of a hub, with one part of the hub and the writer of its lines.
 #[derive(Drop)]
 pub struct Watcher<N: WithBody<Six>, F: Write + Drop> {
     number: usize,
     subscriber: Subscriber<N>,
     notices: Notices<F>,
-    // The numbers that its lines tell.
+    // The numbering of its lines.
     numbers: LogHeading,
 }
 
@@ -56,8 +56,8 @@ impl<N: WithBody<Six>, F: Write + Drop> Model for Watcher<N, F> {
 }
 
 impl<N: WithBody<Six>, F: Write + Drop> Watcher<N, F> {
-    /// Has its subscriber told of edits, until the hub's workers are dismissed or a write fails. Each is recorded before it is told. Where
-    /// memory is wanting it looks again after a pause. At the end it looks once more, without sleep.
+    /// Runs the subscriber until the hub's workers are dismissed or a write fails. Every update is recorded before it is reported. If memory runs
+    /// out, it looks again after a pause. At the end it looks once more, without sleeping.
     pub fn run<L: SessionLog<N>, R: Wait>(
         &mut self,
         rt: &R,
@@ -71,7 +71,7 @@ impl<N: WithBody<Six>, F: Write + Drop> Watcher<N, F> {
         self.look(rt, alloc, hub, log);
     }
 
-    // Has its subscriber told so, turn by turn.
+    // Runs the subscriber in turns.
     #[tactic(auto, using(crate::proofs::Noticed::watches_both))]
     fn turns<L: SessionLog<N>, R: Wait>(
         &mut self,
@@ -89,7 +89,7 @@ impl<N: WithBody<Six>, F: Write + Drop> Watcher<N, F> {
         }
     }
 
-    // Sleeps until there is an edit to tell of, and tells. Says whether there is another turn.
+    // Sleeps until there is an update to look at, and reports it. Returns whether there is another turn.
     fn turn<L: SessionLog<N>, R: Wait>(
         &mut self,
         rt: &R,
@@ -109,7 +109,7 @@ impl<N: WithBody<Six>, F: Write + Drop> Watcher<N, F> {
         }
     }
 
-    // Tells what there is to tell, unless a write has failed.
+    // Looks once and reports, unless a write has failed.
     fn look<L: SessionLog<N>, R: Wait>(&mut self, rt: &R, alloc: Global, hub: &Hub<Six, N>, log: &L)
         ensures { Watches N.limits N.numbers self.old self.new }
     {
@@ -122,7 +122,8 @@ impl<N: WithBody<Six>, F: Write + Drop> Watcher<N, F> {
         }
     }
 
-    // Writes the lines of what its subscriber was told, once all edits are recorded that it has seen: it is told of no answers to others. If that fails, no line is written any more.
+    // Writes the lines of a notification, once all updates are recorded that the subscriber has seen. If recording fails, no line is written any
+    // more.
     fn tell<L: SessionLog<N>, R: Wait>(&mut self, rt: &R, hub: &Hub<Six, N>, log: &L, told: &Told)
         requires few { told.now.edit ≤ 2 ^ 62 }
         ensures recorded { (self.new.notices.contents ≡ self.old.notices.contents) ⊎ L.has_recorded log.now self.old.subscriber.share.seen 0 }
@@ -153,7 +154,7 @@ impl<N: WithBody<Six>, F: Write + Drop> Watcher<N, F> {
     }
 }
 
-// A subscriber with a share, which asks its questions. Refused as they are, and with `NoMemory`.
+// A subscriber with a share, which asks its questions. Refused as the questions are, and with `NoMemory`.
 #[tactic(auto, using(crate::proofs::Noticed::subscribed))]
 fn subscribe<N: WithBody<Six>, F: Write + Drop>(
     alloc: Global,
@@ -205,8 +206,8 @@ fn ask_all<N: WithBody<Six>>(
     Ok(())
 }
 
-/// Gives each subscriber a part of the hub that has seen what a prefix has, which is no edit. Its lines tell edits by these numbers. The first question that is refused, as
-/// `Subscriber::watch` does, is the refusal; or else `NoMemory`.
+/// Gives each subscriber a part of the hub that has seen what the prefix has, which is no updates. Its lines have this numbering. The refusal is
+/// that of the first question that `Subscriber::watch` refuses, or `NoMemory`.
 pub fn subscribe_all<N: WithBody<Six>, F: Write + Drop>(
     alloc: Global,
     numbers: LogHeading,
@@ -223,7 +224,7 @@ pub fn subscribe_all<N: WithBody<Six>, F: Write + Drop>(
     ensures seen { IfOk result (λ watchers. share.new.seen ≡ share.old.seen) }
     ensures begun { IfOk result (λ watchers. watchers.items ≡ map (λ w. watcher_at (record { questions = w.questions.items; contents = F.contents w.notes })) watches.items) }
     ensures fit { OnOk result (refusal_of_all (map (λ w. w.questions.items) watches.items) ≡ None) }
-    // The first question that is refused tells why; or memory was wanting.
+    // The reason is that of the first question that is refused, or `NoMemory`.
     ensures refused { IfErr result (λ refusal. IsRefusedFor (refusal_of_all (map (λ w. w.questions.items) watches.items)) refusal) }
 {
     let mut watchers = Vec::new(alloc);

@@ -1,4 +1,4 @@
-//! Workers for a number of turns.
+//! Workers that run for a number of turns.
 ghost use Rattle.std.specs.Prelude.{◌≡◌, ◌+◌, ◌^◌, ◌<◌, ◌≤◌};
 
 use crate::gates::Gate;
@@ -11,7 +11,7 @@ use std::sync::Wait;
 use std::thread;
 
 impl Worked {
-    // Passes the gate with a job that was claimed, computes it and delivers the outcome, with no lock held between.
+    // Passes the gate with a job that was claimed, computes it and delivers the outcome. Holds no lock in between.
     #[inline(always)]
     pub(crate) fn finish<B: Body, N: WithBody<B>, G: Gate, R: Wait>(
         &mut self,
@@ -33,8 +33,8 @@ impl Worked {
     }
 }
 
-/// Refreshes a hub for a number of turns. In each turn it claims a job and, where there is one, passes the gate, computes it
-/// and delivers the outcome, with no lock held between; where there is none it lets other threads run.
+/// Precomputes the aggregates of a hub for a number of turns. In each turn it claims a job. If there is one, it passes the gate, computes the job
+/// and delivers the outcome, and holds no lock in between. If there is none, it lets other threads run.
 pub fn work<B: Body, N: WithBody<B>, G: Gate, R: Wait>(
     rt: &R,
     hub: &Hub<B, N>,

@@ -9,15 +9,15 @@ use Rattle.std.proofs.lemmas.List.Splits.{slice_split-cons_yes, slice_split-cons
 use Rattle.std.proofs.Math.Numerals.{one-add}
 use Rattle.lv_lines.specs.Words.{is_space, is_word, words_of}
 
--- whether a byte stands in a word
+-- whether a byte is part of a word
 abbrev pub in_word : ℕ → Bool
 in_word b = not (is_space b)
 
--- the first place that passes is the front, where that passes
+-- the first place that passes is the front, if that passes
 pub first_at_front : (p : ℕ → Bool) (b : ℕ) (bytes : List ℕ) → p b ≡ true → position_or_len p (b ∷ bytes) ≡ 0
 first_at_front p b bytes passes = rw passes refl
 
--- where the front fails, it is one behind that of the rest
+-- if the front fails, it is one after that of the rest
 pub first_behind_front : (p : ℕ → Bool) (b : ℕ) (bytes : List ℕ) → p b ≡ false → position_or_len p (b ∷ bytes) ≡ suc (position_or_len p bytes)
 first_behind_front p b bytes fails = rw fails (one-add (position_or_len p bytes))
 
@@ -78,12 +78,12 @@ words_of-first b bytes other =
     (ap (filter is_word) (slice_split-cons_no is_space b bytes other ∙ ap (onto_first b) cut.first)
     ∙ ap (λ words. (b ∷ take (position_or_len is_space bytes) bytes) ∷ words) cut.rest)
 
--- where only spaces stand there are no words
+-- bytes that are all spaces have no words
 pub no_words : (bytes : List ℕ) → length bytes ≤ position_or_len in_word bytes → words_of bytes ≡ []
 unfolding words_of
 no_words bytes spaces = sym (words_of-skip bytes) ∙ ap words_of (drop_all _ bytes spaces)
 
--- a line that has another byte than spaces has its first word behind the spaces at its front
+-- a line that has another byte than spaces has its first word after the spaces at its front
 pub some_word : (bytes : List ℕ) → position_or_len in_word bytes < length bytes → words_of bytes ≡ first_and_rest (drop (position_or_len in_word bytes) bytes)
 some_word bytes within =
     let start = position_or_len in_word bytes in

@@ -6,7 +6,7 @@ use Rattle.lv_lines.specs.Input.{begun_with, put_before, lines_of, whole_lines_o
 
 -- ---- bytes without LF
 
--- where there is no LF, the first byte is none, and none follows
+-- if there is no LF, the first byte is none, and none follows
 has_end-cons : (b : ℕ) (bs : List ℕ) → has_end (b ∷ bs) ≡ false → ((b == 10) ≡ false) × (has_end bs ≡ false)
 has_end-cons b bs none =
     elim (cases_Bool (b == 10)) [
@@ -20,12 +20,12 @@ whole_lines_of-begun [] none = refl
 whole_lines_of-begun (b ∷ bs) none =
     let parts = has_end-cons b bs none in rw (parts.0, whole_lines_of-begun bs parts.1) refl
 
--- and all of them stand after the last LF
+-- and all of them are after the last LF
 pub unended_of-begun : (xs : List ℕ) → has_end xs ≡ false → unended_of xs ≡ xs
 unended_of-begun [] none = refl
 unended_of-begun (b ∷ bs) none = rw none refl
 
--- no LF stands after the last
+-- there is no LF after the last
 pub has_end-unended_of : (xs : List ℕ) → has_end (unended_of xs) ≡ false
 has_end-unended_of [] = refl
 has_end-unended_of (b ∷ bs) =
@@ -87,7 +87,7 @@ has_end-append_none [] ys none = refl
 has_end-append_none (b ∷ bs) ys none =
     let parts = has_end-cons b bs none in rw (parts.0, has_end-append_none bs ys parts.1) refl
 
--- what stands after the last LF, with more bytes
+-- the bytes after the last LF, if more bytes follow
 pub unended_of-append : (xs ys : List ℕ) → unended_of (xs ++ ys) ≡ unended_of (unended_of xs ++ ys)
 unended_of-append [] ys = refl
 unended_of-append (b ∷ bs) ys =
@@ -111,23 +111,23 @@ has_end-middle (b ∷ bs) ys =
       | inr other ↦ rw other (has_end-middle bs ys)
     ]
 
--- nothing before an LF stands after the last
+-- no bytes before an LF are after the last LF
 pub unended_of-ended : (xs ys : List ℕ) → unended_of (xs ++ 10 ∷ ys) ≡ unended_of ys
 unended_of-ended [] ys = refl
 unended_of-ended (b ∷ bs) ys =
     let some : has_end ((b ∷ bs) ++ 10 ∷ ys) ≡ true = has_end-middle (b ∷ bs) ys in rw some (unended_of-ended bs ys)
 
--- what stands after the last LF, where it isn't empty
+-- the bytes after the last LF, if there are any
 pub last_line-some : (xs : List ℕ) → (length xs == 0) ≡ false → last_line xs ≡ xs ∷ []
 last_line-some [] some = absurd (cc)
 last_line-some (b ∷ bs) some = refl
 
--- and where what is kept of it isn't
+-- and if what is kept of it isn't
 pub last_line-kept : (n : ℕ) (xs kept : List ℕ) → kept ≡ take n xs → (length kept == 0) ≡ false → last_line xs ≡ xs ∷ []
 last_line-kept n [] kept is some = absurd (cc (rw (is, take-nil n) at some))
 last_line-kept n (b ∷ bs) kept is some = refl
 
--- there is none where nothing is kept of it, if anything would be
+-- there is none if nothing is kept of it, if anything would be
 pub last_line-none : (n : ℕ) (xs kept : List ℕ) → 0 < n → kept ≡ take n xs → (length kept == 0) ≡ true → last_line xs ≡ []
 last_line-none n [] kept many is none = refl
 last_line-none zero (b ∷ bs) kept many is none = absurd (omega arith)
@@ -138,7 +138,7 @@ begun_with-last_line : (b : ℕ) (bs : List ℕ) → begun_with b (last_line bs)
 begun_with-last_line b [] = refl
 begun_with-last_line b (c ∷ cs) = refl
 
--- the lines of an input are those that are ended, and what stands after the last LF
+-- the lines of an input are those that are ended, and the bytes after the last LF
 pub lines_of-parts : (xs : List ℕ) → lines_of xs ≡ whole_lines_of xs ++ last_line (unended_of xs)
 lines_of-parts [] = refl
 lines_of-parts (b ∷ bs) =
@@ -193,7 +193,7 @@ pub take-append_room : (n : ℕ) (xs ys : List ℕ) → length xs ≤ n → take
 take-append_room n xs ys short =
     let same : length xs + (n - length xs) ≡ n = omega arith in rw same at (take-append-add xs ys (n - length xs))
 
--- the lines that bytes end after a beginning of a line depend, in their first n bytes, on its first n bytes
+-- the lines that bytes end after the start of a line depend, in their first n bytes, only on its first n bytes
 pub whole_lines_of-front : (n : ℕ) (xs ys more : List ℕ) → has_end xs ≡ false → has_end ys ≡ false → take n xs ≡ take n ys
     → map (take n) (whole_lines_of (xs ++ more)) ≡ map (take n) (whole_lines_of (ys ++ more))
 whole_lines_of-front n xs ys [] left right same =
@@ -209,7 +209,7 @@ whole_lines_of-front n xs ys (b ∷ bs) left right same =
           (has_end-push xs b left other) (has_end-push ys b right other) (take-append_cong n xs ys (b ∷ []) same))
     ]
 
--- and so does what they leave after the last LF
+-- the first n bytes that they leave after the last LF depend only on those bytes too
 pub unended_of-front : (n : ℕ) (xs ys more : List ℕ) → has_end xs ≡ false → has_end ys ≡ false → take n xs ≡ take n ys
     → take n (unended_of (xs ++ more)) ≡ take n (unended_of (ys ++ more))
 unended_of-front n xs ys [] left right same =
@@ -230,9 +230,9 @@ has_end-take (suc n) [] none = refl
 has_end-take (suc n) (b ∷ bs) none =
     let parts = has_end-cons b bs none in rw (parts.0, has_end-take n bs parts.1) refl
 
--- ---- for callers: fronts of an input, one more byte, an input that ends in LF
+-- ---- for callers: prefixes of an input, one more byte, an input that ends in LF
 
--- the lines of an input are those that a front of it ends, and then those of what stands after them
+-- the lines of an input are those that a prefix of it ends, and then those of the bytes after them
 pub lines_of-append : (xs ys : List ℕ) → lines_of (xs ++ ys) ≡ whole_lines_of xs ++ lines_of (unended_of xs ++ ys)
 lines_of-append xs ys =
     lines_of-parts (xs ++ ys) ∙ ap (λ (lines : List (List ℕ)). lines ++ last_line (unended_of (xs ++ ys))) (whole_lines_of-append xs ys)

@@ -5,7 +5,7 @@ use Rattle.memchr.specs.Find.{IsFirstByte, is_byte}
 use Rattle.std.proofs.lemmas.Bool.{eqb-true, false_from_ne_true}
 use Rattle.lv_lines.specs.Input.{has_end}
 
--- bytes of which none is LF
+-- bytes without an LF
 has_end-none : (xs : List ℕ) → ((k : ℕ) → k < length xs → (get_or xs k 0 == 10) ≡ false) → has_end xs ≡ false
 has_end-none [] none = refl
 has_end-none (b ∷ bs) none =
@@ -16,7 +16,7 @@ pub has_end-nowhere : (xs : List ℕ) (r : Option ℕ) → IsFirstByte (is_byte 
 has_end-nowhere xs None nowhere missing = has_end-none xs (λ k below. false_from_ne_true _ (nowhere k (omega arith) below))
 has_end-nowhere xs (Some i) found missing = absurd (missing i refl)
 
--- the first LF stands at this index
+-- the first LF is at this index
 pub record EndsAt (bytes : List ℕ) (end : ℕ) : Type 0 where
   pub inside : end < length bytes
   pub before : has_end (take end bytes) ≡ false

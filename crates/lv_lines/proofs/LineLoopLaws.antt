@@ -1,10 +1,10 @@
--- A conversation, seen by what its states stand for.
+-- A run of the loop over lines, seen through a relation between its states and other values.
 use Rattle.std.proofs.Common.{ℕ, ◌+◌, Option, Result, Ok, Err, List, [], ◌∷◌, refl, inl, inr}
 use Rattle.lv_lines.specs.declared.fault.Fault.{Fault}
 use Rattle.lv_lines.specs.declared.fault.Fault.TheVariants.{NoMemory, ReadFault, TooLong, WriteFault}
 use Rattle.lv_lines.specs.Replies.{Answered, AnswersAll, AnswersFront, LinesServedWithin, Ends}
 
--- each line that moves a state moves what it stands for, by a step of its own
+-- each line that leads from a state to another leads from a value that fits the one to a value that fits the other, by a step of its own
 pub record Moves {S T : Type 0} (step : S → ℕ → List ℕ → List ℕ → S → Type 0) (next : T → ℕ → List ℕ → List ℕ → T → Type 0) (Fits : S → T → Type 0) : Type 0 where
   pub moves : (s : S) (t : T) (n : ℕ) (line text : List ℕ) (u : S) → Fits s t → step s n line text u → (v : T) × Fits u v × next t n line text v
 
@@ -39,7 +39,7 @@ module _ {S T : Type 0} {step : S → ℕ → List ℕ → List ℕ → S → Ty
       let came = front_as s t _ u k l fits e.2 in (came.0, came.1, inr (e.0, e.1, came.2))
   ends_as most s t u a b k l seen (Err NoMemory) fits e = (t, rw e.0 fits, (refl, e.1, e.2))
 
-  -- the conversation of states is one of what they stand for
+  -- the run on states is a run on values that fit them
   pub lines_served_as : {R : Type 0} {most : ℕ} (s : S) (t : T) (u : S) (a b k l : Option (List ℕ)) (result : Result R Fault) → Fits s t → LinesServedWithin step most s u a b k l result → (v : T) × Fits u v × LinesServedWithin next most t v a b k l result
   lines_served_as {most} s t u a b k l result fits c =
       let came = ends_as most s t u a b k l c.seen result fits c.ends in

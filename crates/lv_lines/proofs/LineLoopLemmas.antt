@@ -11,17 +11,17 @@ use Rattle.lv_lines.proofs.InputLemmas.{last_line-kept, last_line-none, lines_of
 use Rattle.lv_lines.proofs.LineReaderLemmas.{PushesBytes-sent, PushesBytesFront-sent}
 use Rattle.lv_lines.proofs.OutputLemmas.{Writes-all, Writes-nil}
 
--- where what is kept of the last line isn't empty, one more LF ends the last of all lines
+-- if what is kept of the last line isn't empty, one more LF ends the last of all lines
 pub lines_of-ended : (seen kept : List ℕ) → kept ≡ take 121 (unended_of seen) → (length kept == 0) ≡ false → whole_lines_of (seen ++ 10 ∷ []) ≡ lines_of seen
 lines_of-ended seen kept is some =
     whole_lines_of-push_end seen ∙ sym (lines_of-parts seen ∙ ap (λ (lines : List (List ℕ)). whole_lines_of seen ++ lines) (last_line-kept 121 (unended_of seen) kept is some))
 
--- where it is, all lines are whole
+-- if it is, all lines are whole
 pub lines_of-whole : (seen kept : List ℕ) → kept ≡ take 121 (unended_of seen) → (length kept == 0) ≡ true → whole_lines_of seen ≡ lines_of seen
 lines_of-whole seen kept is none =
     sym (lines_of-parts seen ∙ ap (λ (lines : List (List ℕ)). whole_lines_of seen ++ lines) (last_line-none 121 (unended_of seen) kept (omega arith) is none) ∙ append-nil (whole_lines_of seen))
 
--- where a writer is still in its owner's place, the owner has it
+-- if a writer is still in its owner's place, the owner has it
 pub in_place : {W : Type 0} (P : W → Type 0) (name place : ℕ) (owned last : W) → name ≡ place → (name ≡ place → owned ≡ last) → P last → P owned
 in_place P name place owned last same is served = subst P (sym (is same)) served
 
@@ -41,7 +41,7 @@ module _ {S : Type 0} (step : S → ℕ → List ℕ → List ℕ → S → Type
       → AnswersAll step state (whole_lines_of seen) new.state contents new.contents
   AnswersAll-whole new seen f none = record { text = f.text; answered = f.answered; written = Writes-all contents new.contents f.text (rw none at f.written) }
 
-  -- or a front of them
+  -- or a prefix of them
   AnswersFront-whole : (new : Point S) (seen : List ℕ) → PushesBytesFront step (start_of state contents) new seen
       → AnswersFront step state (whole_lines_of seen) new.state contents new.contents
   AnswersFront-whole new seen f = record { front = f.front; rest = f.rest; all = f.all; text = f.text; answered = f.answered; written = f.written }

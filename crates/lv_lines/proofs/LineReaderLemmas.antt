@@ -10,13 +10,13 @@ use Rattle.lv_lines.proofs.InputLemmas.{whole_lines_of-append, unended_of-append
 use Rattle.lv_lines.proofs.OutputLemmas.{Writes-nil, Writes-trans, Writes-sent, WritesFront-after}
 use Rattle.lv_lines.proofs.ReplyLemmas.{Answered-one, Answered-append}
 
--- ---- lines of which the first n bytes are kept
+-- ---- lines whose first n bytes are kept
 
 -- the first bytes of the first bytes
 take_twice : (n : ℕ) (xs : List ℕ) → take n (take n xs) ≡ take n xs
 take_twice n xs = take-take n n xs (omega arith)
 
--- the first bytes of what stands after the last LF have none either
+-- the first bytes after the last LF have no LF either
 kept_is_begun : (n : ℕ) (xs : List ℕ) → has_end (take n (unended_of xs)) ≡ false
 kept_is_begun n xs = has_end-take n (unended_of xs) (has_end-unended_of xs)
 
@@ -28,7 +28,7 @@ lines_after n xs ys =
     (ap (λ (lines : List (List ℕ)). map (take n) (whole_lines_of xs) ++ lines)
     (whole_lines_of-front n (unended_of xs) (take n (unended_of xs)) ys (has_end-unended_of xs) (kept_is_begun n xs) (sym (take_twice n (unended_of xs)))))
 
--- and so is what is kept
+-- the bytes that are kept depend only on those that were kept before
 kept_after : (n : ℕ) (xs ys : List ℕ) → take n (unended_of (xs ++ ys)) ≡ take n (unended_of (take n (unended_of xs) ++ ys))
 kept_after n xs ys =
     rw (unended_of-append xs ys)
@@ -134,7 +134,7 @@ module _ {S : Type 0} (step : S → ℕ → List ℕ → List ℕ → S → Type
         number = rw (← append_assoc a.kept xs ys, count_after 121 (a.kept ++ xs) ys) (omega (arith, f.number, rw f.kept at g.number));
       }
 
-  -- some bytes, and a front of what others bring
+  -- some bytes, and a prefix of the lines of others
   pub PushesBytesFront-after : (a b c : Point S) (xs ys : List ℕ) → PushesBytes step a b xs → PushesBytesFront step b c ys → PushesBytesFront step a c (xs ++ ys)
   PushesBytesFront-after a b c xs ys f g =
       let first = map (take 121) (whole_lines_of (a.kept ++ xs)) in
@@ -150,7 +150,7 @@ module _ {S : Type 0} (step : S → ℕ → List ℕ → List ℕ → S → Type
         written = WritesFront-after f.written g.written;
       }
 
-  -- a front of what some bytes bring is one of what more bytes bring
+  -- a prefix of the lines of some bytes is a prefix of the lines of more bytes
   pub PushesBytesFront-more : (a b : Point S) (xs more : List ℕ) → PushesBytesFront step a b xs → PushesBytesFront step a b (xs ++ more)
   PushesBytesFront-more a b xs more f =
       let later = map (take 121) (whole_lines_of (take 121 (unended_of (a.kept ++ xs)) ++ more)) in
@@ -178,7 +178,7 @@ module _ {S : Type 0} (step : S → ℕ → List ℕ → List ℕ → S → Type
     number = f.number;
   }
 
-  -- or a front
+  -- or a prefix
   pub PushesBytesFront-sent : (a b : Point S) (contents : Option (List ℕ)) (held xs : List ℕ) → PushesBytes step a b xs → WritesFront b.contents b.held contents []
       → PushesBytesFront step a record b { contents = contents; held = held } xs
   PushesBytesFront-sent a b contents held xs f sent = record {

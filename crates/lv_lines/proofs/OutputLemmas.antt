@@ -38,7 +38,7 @@ pub Writes-flushed : (a b c : Option (List ℕ)) {h k : List ℕ} → Writes a h
 Writes-flushed a b c {h} {k} w none kept =
     rw (sym (append-nil h) ∙ w.all ∙ ap (λ (xs : List ℕ). w.sent ++ xs) none ∙ append-nil w.sent) (Appends-kept a b c w.sent w.appended kept)
 
--- all that was written was sent, where nothing was held at the start and nothing is now
+-- all that was written was sent, if nothing was held at the start and nothing is now
 pub Writes-all : (old_contents new_contents : Option (List ℕ)) (text : List ℕ) → Writes old_contents [] new_contents [] text → Appends old_contents new_contents text
 Writes-all old_contents new_contents text w = rw (w.all ∙ append-nil w.sent) w.appended
 
@@ -50,11 +50,11 @@ Writes-trans {a} {b} {c} {h} {k} {l} {t} {u} v w = record {
   all = sym (append_assoc h t u) ∙ ap (λ (xs : List ℕ). xs ++ u) v.all ∙ append_assoc v.sent k u ∙ ap (λ (xs : List ℕ). v.sent ++ xs) w.all ∙ sym (append_assoc v.sent w.sent l);
 }
 
--- a text, and a front of another
+-- a text, and a prefix of another
 pub WritesFront-after : {a b c : Option (List ℕ)} {h k t u : List ℕ} → Writes a h b k t → WritesFront b k c u → WritesFront a h c (t ++ u)
 WritesFront-after v w = record { unsent = w.unsent; written = Writes-trans v w.written }
 
--- a front of a text is a front of a longer one
+-- a prefix of a text is a prefix of a longer one
 pub WritesFront-longer : {a b : Option (List ℕ)} {h t : List ℕ} (more : List ℕ) → WritesFront a h b t → WritesFront a h b (t ++ more)
 WritesFront-longer {a} {b} {h} {t} more w = record {
   unsent = w.unsent ++ more;

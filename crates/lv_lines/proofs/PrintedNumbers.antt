@@ -22,7 +22,7 @@ pub is_word-some : (bytes : List ℕ) → 0 < length bytes → is_word bytes ≡
 is_word-some [] h = absurd (omega arith)
 is_word-some (b ∷ bytes) h = refl
 
--- the digits of a number stand for it
+-- the digits of a number denote it
 pub numeral_in-decimal : (n : ℕ) → n < 2 ^ 64 → numeral_in (decimal n) ≡ Some n
 numeral_in-decimal n small =
     cond-true _ _ None (and_from _ _ (is_word-some (decimal n) (decimal_nonempty n small)) (digits_decimal digits n small))

@@ -19,7 +19,7 @@ use Rattle.lv_lines.specs.Words.{is_space, is_word, words_of, spaced, behind_spa
 use Rattle.lv_lines.specs.Grammar.{without_cr}
 use Rattle.lv_lines.proofs.PrintedNumbers.{digits, is_word-some, digit_range}
 
--- spaced words are the first, and each other behind a space
+-- spaced words are the first, and each other after a space
 pub spaced-cons : (word : List ℕ) (words : List (List ℕ)) → spaced (word ∷ words) ≡ word ++ behind_spaces words
 spaced-cons word [] = sym (append-nil word)
 spaced-cons word (other ∷ words) = ap (λ rest. word ++ (32 ∷ rest)) (spaced-cons other words)
@@ -43,7 +43,7 @@ abbrev pub ArePlainWords : List (List ℕ) → Type 0
 ArePlainWords [] = Unit {0}
 ArePlainWords (word ∷ words) = IsPlainWord word × ArePlainWords words
 
--- no space stands in one
+-- a plain word has no space
 pub no_space : (word : List ℕ) → IsPlainWord word → All (λ b. is_space b ≡ false) word
 no_space word plain =
     All-weaker IsVisible (λ b. is_space b ≡ false) (λ b visible. ne_eqb b 32 (λ same. omega (arith, visible))) word plain.visible
@@ -70,7 +70,7 @@ length-spaced (word ∷ []) plain = omega (arith, plain.0.short)
 length-spaced (word ∷ other ∷ words) plain =
     omega (arith, plain.0.short, length-spaced (other ∷ words) plain.1, length-append word (32 ∷ spaced (other ∷ words)))
 
--- and no byte below the space stands among them
+-- and their bytes are all printable, none below the space
 pub spaced_printable : (words : List (List ℕ)) → ArePlainWords words → All IsPrintable (spaced words)
 spaced_printable [] plain = All-nil IsPrintable
 spaced_printable (word ∷ []) plain = no_control word plain.0
@@ -146,7 +146,7 @@ plain_name name named = record {
 abbrev pub is_plain : List ℕ → Bool
 is_plain bytes = is_word bytes && nat_le (length bytes) 20 && list_all (λ b. nat_le 33 b) bytes
 
--- bytes of which each is from 33 on
+-- bytes that are all from 33 on
 pub visible_bytes : (bytes : List ℕ) → list_all (λ b. nat_le 33 b) bytes ≡ true → All IsVisible bytes
 visible_bytes [] h = All-nil IsVisible
 visible_bytes (b ∷ bytes) h =

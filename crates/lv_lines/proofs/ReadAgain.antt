@@ -112,7 +112,7 @@ plain_arguments (Watch name kind lo hi) fits = (plain_name name fits.0, plain_ra
 plain_arguments (Unwatch name) fits = (plain_name name fits, tt)
 plain_arguments (Answer name) fits = (plain_name name fits, tt)
 
--- words that are a command, of which the first begins no comment, say that command
+-- words that are a command, and whose first is not a comment, say that command
 pub line_in-command : (verb : List ℕ) (words : List (List ℕ)) (command : Command) → is_comment verb ≡ false → command_in (verb ∷ words) ≡ Some command → line_in command_in (verb ∷ words) ≡ Do command
 line_in-command verb words command no_comment read = cond-false _ _ _ no_comment ∙ ap (λ found. option_map_or Do found Bad) read
 

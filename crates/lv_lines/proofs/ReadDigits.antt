@@ -13,11 +13,11 @@ use Rattle.std.proofs.lemmas.List.{drop_more}
 use Rattle.lv_geometry.specs.Elements.{IsElement}
 use Rattle.lv_lines.specs.Numbers.{numeral_in, signed_numeral_in, allowed, fits_64, is_element}
 
--- what digits stand for behind others that stand for n
+-- the number that digits denote after others that denote n
 abbrev pub value_from : ℕ → List ℕ → ℕ
 value_from n digits = fold (λ n digit. 10 * n + (digit - 48)) n digits
 
--- the number that digits give behind others that stand for n
+-- the number that a word of digits denotes after others that denote n, if it has digits only
 abbrev pub numeral_from : ℕ → List ℕ → Option ℕ
 numeral_from n digits = cond (all_ascii_digits digits) (Some (value_from n digits)) None
 
@@ -57,12 +57,12 @@ pub fails_test : {X : Type 0} (test : X → Bool) (x : X) → allowed test (Some
 fails_test test x none =
     false_from_ne_true (test x) (λ passes. none-some x (sym none ∙ cond-true _ (Some x) None passes))
 
--- what is read in 64 bits is what the digits stand for
+-- the number that is read in 64 bits is the one that the digits denote
 pub read_in_64 : (read : Option ℕ) (n : ℕ) → allowed fits_64 read ≡ Some n → read ≡ Some n
 read_in_64 None n h = absurd (none-some n h)
 read_in_64 (Some m) n h = ap Some (cond_some _ m n h).1
 
--- an integer is an element exactly where it fits its type
+-- an integer is an element if and only if it fits its type
 pub is_element_decides : (z : ℤ) → Decides (is_element z) (IsElement z)
 is_element_decides (pos n) = (λ h. record { sfits = ltb-true n (2 ^ 63) h }, λ fits. lt-ltb n (2 ^ 63) fits.sfits)
 is_element_decides (negsuc n) = (λ h. record { sfits = ltb-true n (2 ^ 63) h }, λ fits. lt-ltb n (2 ^ 63) fits.sfits)
@@ -77,30 +77,30 @@ pub no_positive : (read : Option ℕ) → allowed fits_64 read ≡ None → allo
 no_positive None h = refl
 no_positive (Some n) h = cond-false _ (Some (pos n)) None (le-ltb n (2 ^ 63) (omega (arith, ltb-false n (2 ^ 64) (fails_test fits_64 n h))))
 
--- nor an element with its sign turned
+-- nor an element with its sign changed
 pub no_negative : (read : Option ℕ) → allowed fits_64 read ≡ None → allowed is_element (option_map (λ n. neg_ℤ (pos n)) read) ≡ None
 no_negative None h = refl
 no_negative (Some zero) h = absurd (none-some 0 (sym h))
 no_negative (Some (suc n)) h = cond-false _ (Some (negsuc n)) None (le-ltb n (2 ^ 63) (omega (arith, ltb-false (suc n) (2 ^ 64) (fails_test fits_64 (suc n) h))))
 
--- a value that is there exactly where a fact holds is the one that a test of that fact allows
+-- a value that is there if and only if a fact holds is the one that a test of that fact allows
 pub some_allowed : {X P : Type 0} (test : X → Bool) (x : X) (found : Option X) → Decides (test x) P → SomeIff found P x → found ≡ allowed test (Some x)
 some_allowed test x (Some z) decides h = ap Some h.1 ∙ sym (cond-true _ (Some x) None (decides.1 h.0))
 some_allowed test x None decides h =
     sym (cond-false _ (Some x) None (false_from_ne_true (test x) (λ passes. h (decides.0 passes))))
 
--- a conversion that succeeds exactly where a fact holds gives what a test of that fact allows
+-- a conversion that succeeds if and only if a fact holds gives the value that a test of that fact allows
 pub ok_allowed : {X P E : Type 0} (test : X → Bool) (x : X) (found : Result X E) → Decides (test x) P → OkIff found P x → result_ok found ≡ allowed test (Some x)
 ok_allowed test x (Ok z) decides h = ap Some h.1 ∙ sym (cond-true _ (Some x) None (decides.1 h.0))
 ok_allowed test x (Err e) decides h =
     sym (cond-false _ (Some x) None (false_from_ne_true (test x) (λ passes. h (decides.0 passes))))
 
--- zero less a number is the number with its sign turned
+-- zero less a number is the number with its sign changed
 pub negated : (n : ℕ) → pos 0 -ℤ pos n ≡ neg_ℤ (pos n)
 negated zero = refl
 negated (suc n) = omega (arith, ints)
 
--- behind `-` the sign is turned
+-- after `-` the sign is turned
 pub signed-minus : (word : List ℕ) → starts_with nat_eq word (codes "-") ≡ true → signed_numeral_in word ≡ option_map (λ n. neg_ℤ (pos n)) (numeral_in (drop 1 word))
 signed-minus word minus = cond-true _ _ _ minus
 

@@ -1,4 +1,4 @@
--- How the first word of a text is read where it stands, as digits up to a space or the end.
+-- How the first word of a text is read in place, as digits up to a space or the end.
 use Rattle.std.proofs.Common.{◌≡◌, ℕ, zero, suc, ◌<◌, ◌≤◌, true, false, List, [], ◌∷◌, ◌++◌, length, get_or, take, drop, Some, option_map, nat_eq, nat_le, codes, ℤ, pos, neg_ℤ, refl, sym, ap, subst, ◌∙◌, arith, append-nil}
 use Rattle.std.specs.List.{starts_with}
 use Rattle.std.specs.Str.{all_ascii_digits}
@@ -31,18 +31,18 @@ cut_at (b ∷ bytes) n some within none ends =
     let at = position_or_len_is is_space text n 0 within none (λ below. subst (λ (xs : List ℕ). 0 < length xs → is_space (get_or xs 0 0) ≡ true) (drop_more text n 0 below) ends (omega arith)) in
     words_of-first b bytes (none 0 some) ∙ ap (λ (m : ℕ). take m text ∷ words_of (drop m text)) at
 
--- where neither a byte nor those behind it are spaces, none of them is
+-- if neither a byte nor those after it are spaces, none of them is
 none_behind : (b : ℕ) (text : List ℕ) (n : ℕ) → is_space b ≡ false → ((k : ℕ) → k < n → is_space (get_or text k 0) ≡ false) → (k : ℕ) → k < suc n → is_space (get_or (b ∷ text) k 0) ≡ false
 none_behind b text n other none zero below = other
 none_behind b text n other none (suc k) below = none k (omega arith)
 
--- the same behind one byte
+-- bytes without a space, after one more such byte, up to a space or the end, are the first word together with it
 pub cut_behind : (b n : ℕ) (text : List ℕ) → is_space b ≡ false → n ≤ length text → ((k : ℕ) → k < n → is_space (get_or text k 0) ≡ false)
     → (0 < length (drop n text) → is_space (get_or (drop n text) 0 0) ≡ true) → words_of (b ∷ text) ≡ (b ∷ take n text) ∷ words_of (drop n text)
 cut_behind b n text other within none ends =
     cut_at (b ∷ text) (suc n) (omega arith) (omega arith) (none_behind b text n other none) ends
 
--- digits that stand first in a line, up to a space or the end, are its first word
+-- digits at the start of a text, up to a space or the end, are its first word
 pub first_cut : (bytes text rest : List ℕ) (n : ℕ) → words_of bytes ≡ words_of text → 0 < n → n ≤ length text → ((k : ℕ) → k < n → is_space (get_or text k 0) ≡ false)
     → rest ≡ drop n text → (0 < length rest → is_space (get_or rest 0 0) ≡ true) → words_of bytes ≡ take n text ∷ words_of rest
 first_cut bytes text rest n same some within none cut ends =
@@ -54,7 +54,7 @@ headed : (text : List ℕ) → 0 < length text → get_or text 0 0 ≡ 45 → te
 headed [] some minus = absurd (omega arith)
 headed (b ∷ bytes) some minus = ap (λ (c : ℕ). c ∷ bytes) minus
 
--- the same of `-` and digits
+-- a `-` and digits at the start of a text, up to a space or the end, are its first word
 pub negative_cut : (text digits rest : List ℕ) (n : ℕ) → 0 < length text → get_or text 0 0 ≡ 45 → digits ≡ drop 1 text → n ≤ length digits
     → ((k : ℕ) → k < n → is_space (get_or digits k 0) ≡ false) → rest ≡ drop n digits → (0 < length rest → is_space (get_or rest 0 0) ≡ true)
     → words_of text ≡ (45 ∷ take n digits) ∷ words_of rest
@@ -65,7 +65,7 @@ negative_cut text digits rest n some minus behind within none cut ends =
 
 -- ---- what the first word is read as
 
--- digits are a number where their value is one
+-- digits are a number if their value is one
 pub number_read : (most : ℕ) (word : List ℕ) (n : ℕ) → numeral_in word ≡ Some n → number_up_to most word ≡ allowed (λ n. nat_le n most) (Some n)
 unfolding number_up_to
 number_read most word n read = ap (allowed (λ n. nat_le n most)) read
@@ -75,13 +75,13 @@ pub unsigned_read : (word : List ℕ) (n : ℕ) → numeral_in word ≡ Some n �
 unsigned_read word n read =
     digits_unsigned word (and_parts (is_word word) (all_ascii_digits word) (cond_some _ (value_of word) n read).0).1
 
--- digits are an element where their value is one
+-- digits are an element if their value is one
 pub positive_read : (word : List ℕ) (n : ℕ) → numeral_in word ≡ Some n → element_in word ≡ allowed is_element (Some (pos n))
 unfolding element_in
 positive_read word n read =
     ap (allowed is_element) (signed-plain word (unsigned_read word n read) ∙ ap (option_map pos) read)
 
--- digits behind `-` are an element where their value with its sign turned is one
+-- digits after `-` are an element if their value with its sign changed is one
 pub negative_read : (digits : List ℕ) (n : ℕ) → numeral_in digits ≡ Some n → element_in (45 ∷ digits) ≡ allowed is_element (Some (neg_ℤ (pos n)))
 unfolding element_in
 negative_read digits n read =

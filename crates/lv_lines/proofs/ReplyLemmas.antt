@@ -65,7 +65,7 @@ module _ {C : Type 0} (answers : Line C → List ℕ → Type 0) (written : List
   pub asked_ok : {T E : Type 0} (result : Result T E) → OnOk result ((reply : List ℕ) × answers (Do c) reply × written reply) → OnOk result ((reply : List ℕ) × answers line reply × written reply)
   asked_ok result answered = rw is answered
 
-  -- and where a front of it was written
+  -- and if a prefix of it was written
   pub asked_fault : {T : Type 0} (result : Result T Fault) → IfErr result (λ fault. (fault ≡ WriteFault) × (reply : List ℕ) × answers (Do c) reply × written reply)
       → IfErr result (λ fault. (fault ≡ WriteFault) × (reply : List ℕ) × answers line reply × written reply)
   asked_fault result answered = rw is answered

@@ -10,7 +10,7 @@ use Rattle.lv_bodies.specs.Plain.{affine_from, over_256, plain_affine, remainder
 use Rattle.lv_bodies.specs.RemainderLaws.{remainder_by}
 use Rattle.lv_bodies.specs.declared.affine.AffineMap.{AffineMap}
 
--- where a map takes a number after another map
+-- the number to which a map takes a number after another map
 start_assoc : (m b y c z d : ℕ) → (z * ((y * b + c) % m) + d) % m ≡ ((y * z) % m * b + (z * c + d) % m) % m
 start_assoc m b y c z d =
     sym (mod-add-mod (z * ((y * b + c) % m)) m d)
@@ -22,7 +22,7 @@ start_assoc m b y c z d =
     ∙ mod-add-mod ((y * z) % m * b) m (z * c + d)
     ∙ sym (add-mod-mod ((y * z) % m * b) (z * c + d) m)
 
--- a number goes where the map of the fold takes it
+-- a number is taken where the map of the fold takes it
 goes : (y : ℕ) (xs : List ℤ) → y < 2 ^ 32 → let p = fold_of affine_operations xs in affine_from y xs ≡ (p.a * y + p.b) % 2 ^ 32
 goes y xs h =
     fold_along (λ z x. (remainder (over_256 x) (2 ^ 32) * z + remainder x 256) % 2 ^ 32) (λ p x. join_maps p (map_of x))
@@ -32,7 +32,7 @@ goes y xs h =
     ∙ start_assoc (2 ^ 32) y p.a p.b (remainder (over_256 x) (2 ^ 32)) (remainder x 256))
     y affine_operations.identity xs (omega arith)
 
--- a map is known from where it takes 0 and 1
+-- a map is known from the numbers to which it takes 0 and 1
 known_from : (a b at_one at_zero : ℕ) → a < 2 ^ 32 → b < 2 ^ 32 → at_one ≡ (a * 1 + b) % 2 ^ 32 → at_zero ≡ (a * 0 + b) % 2 ^ 32 → (a ≡ remainder (pos at_one -ℤ pos at_zero) (2 ^ 32)) × (b ≡ at_zero)
 known_from a b at_one at_zero h k e f =
     let start : b ≡ at_zero = omega arith in
@@ -48,7 +48,7 @@ maps_within p (x ∷ xs) h =
     maps_within (join_maps p (map_of x)) xs
     record { a = mod_below (p.a * (map_of x).a) (2 ^ 32) (omega arith); b = mod_below ((map_of x).a * p.b + (map_of x).b) (2 ^ 32) (omega arith) }
 
--- the fold's map is the one that is known from where 0 and 1 go
+-- the fold's map is the one that is known from the numbers to which 0 and 1 are taken
 pub fold_of-maps : (xs : List ℤ) → let p = fold_of affine_operations xs in (p.a ≡ (plain_affine xs).0) × (p.b ≡ (plain_affine xs).1)
 fold_of-maps xs =
     let p = fold_of affine_operations xs in

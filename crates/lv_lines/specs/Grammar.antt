@@ -60,7 +60,7 @@ bounds_up_to most words = first_and (number_up_to most) (lone (number_up_to most
 unfoldable pub range_up_to : ℕ → List (List ℕ) → Option (Kind × ℕ × ℕ)
 range_up_to most words = option_map (λ w. (w.0, w.1.0, w.1.1)) (first_and kind_in (bounds_up_to most) words)
 
--- the same of numbers that fit into 32 bits
+-- two numbers that fit into 32 bits, and a kind with two such numbers
 abbrev pub bounds_in : List (List ℕ) → Option (ℕ × ℕ)
 bounds_in words = bounds_up_to most_32 words
 
@@ -123,12 +123,13 @@ without_cr bytes = if ends_with nat_eq bytes (13 ∷ []) then take (length bytes
 abbrev pub is_comment : List ℕ → Bool
 is_comment word = starts_with nat_eq word (codes "#")
 
--- what the words of a line say, by how a command is read: nothing where there are none, or behind `#`; what is not read as a command is bad
+-- what the words of a line say, given how a command is read. There is nothing to do if there are no words or if the first begins with `#`.
+-- Words that are not read as a command are bad
 abbrev pub line_in : {C : Type 0} → (List (List ℕ) → Option C) → List (List ℕ) → Line C
 line_in read [] = Nothing
 line_in read (word ∷ words) = if is_comment word then Nothing else option_map_or Do (read (word ∷ words)) Bad
 
--- what a line says, given without its LF: a line of more than 120 bytes is bad, whatever they are
+-- what a line says, given without its LF. A line of more than 120 bytes is bad, whatever they are
 unfoldable pub line_by : {C : Type 0} → (List (List ℕ) → Option C) → List ℕ → Line C
 line_by read bytes = if nat_lt 120 (length bytes) then Bad else line_in read (words_of (without_cr bytes))
 

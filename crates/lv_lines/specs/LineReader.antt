@@ -28,13 +28,13 @@ point_of state line_reader contents buffer = record {
 abbrev pub start_of : {S : Type 0} → S → Option (List ℕ) → Point S
 start_of state contents = record { state = state; number = 1; kept = []; contents = contents; held = [] }
 
--- what is kept is the beginning of a line
+-- the bytes that are kept are the start of a line: they have no LF, and there are at most 121
 pub record IsReady (line_reader : LineReader) : Type 0 where
   pub begun : has_end line_reader.kept.items ≡ false
   pub short : length line_reader.kept.items ≤ 121
 
 module _ {S : Type 0} (step : S → ℕ → List ℕ → List ℕ → S → Type 0) where
-  -- the lines that the bytes end were answered in turn, and their replies written; what they leave of a line is kept
+  -- the lines that the bytes end were answered in turn, and their replies were written. Of an unended line after them the first 121 bytes are kept
   pub record PushesBytes (old new : Point S) (bytes : List ℕ) : Type 0 where
     pub text : List ℕ
     pub answered : Answered step old.state old.number (map (take 121) (whole_lines_of (old.kept ++ bytes))) text new.state
@@ -42,7 +42,7 @@ module _ {S : Type 0} (step : S → ℕ → List ℕ → List ℕ → S → Type
     pub kept : new.kept ≡ take 121 (unended_of (old.kept ++ bytes))
     pub number : new.number ≡ old.number + length (whole_lines_of (old.kept ++ bytes))
 
-  -- a front of those lines was answered, and no more than a front of the replies written
+  -- a prefix of those lines was answered, and no more than a prefix of the replies was written
   pub record PushesBytesFront (old new : Point S) (bytes : List ℕ) : Type 0 where
     pub front : List (List ℕ)
     pub rest : List (List ℕ)

@@ -4,15 +4,15 @@ use Rattle.std.specs.List.{starts_with}
 use Rattle.std.specs.Str.{all_ascii_digits}
 use Rattle.lv_lines.specs.Words.{is_word}
 
--- what decimal digits stand for
+-- the number that decimal digits denote
 abbrev pub value_of : List ℕ → ℕ
 value_of digits = fold (λ n digit. 10 * n + (digit - 48)) 0 digits
 
--- what one or more digits stand for; leading zeros are read
+-- the number that one or more digits denote; leading zeros are allowed
 abbrev pub numeral_in : List ℕ → Option ℕ
 numeral_in word = if is_word word && all_ascii_digits word then Some (value_of word) else None
 
--- the value, where it is allowed
+-- the value, if the test allows it
 abbrev pub allowed : {X : Type 0} → (X → Bool) → Option X → Option X
 allowed test None = None
 allowed test (Some x) = if test x then Some x else None
@@ -33,7 +33,7 @@ most_32 = 2 ^ 32 - 1
 abbrev pub number_in : List ℕ → Option ℕ
 number_in word = number_up_to most_32 word
 
--- what one or more digits stand for, behind a `-` with its sign turned
+-- the integer that one or more digits denote, negated if they follow a `-`
 abbrev pub signed_numeral_in : List ℕ → Option ℤ
 signed_numeral_in word = if starts_with nat_eq word (codes "-") then option_map (λ n. neg_ℤ (pos n)) (numeral_in (drop 1 word)) else option_map pos (numeral_in word)
 

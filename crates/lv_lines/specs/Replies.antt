@@ -1,4 +1,4 @@
--- What it means that lines are answered in turn, and that all lines of an input were served.
+-- The meaning of answering lines in turn, and of serving all lines of an input.
 use Rattle.std.specs.Prelude.{◌≡◌, ◌⊎◌, ℕ, ◌+◌, ◌^◌, ◌≤◌, List, [], ◌∷◌, ◌++◌, length, take, map, Option, Result, Ok, Err}
 use Rattle.std.specs.Io.KnownBytes.{Appends, Consumes, IsAtEnd}
 use Rattle.lv_lines.specs.declared.fault.Fault.{Fault}
@@ -6,15 +6,15 @@ use Rattle.lv_lines.specs.declared.fault.Fault.TheVariants.{NoMemory, ReadFault,
 use Rattle.lv_lines.specs.Input.{lines_of, whole_lines_of}
 use Rattle.lv_lines.specs.Output.{WritesFront}
 
--- of an input no more bytes were seen than it may have
+-- no more bytes of an input were seen than it may have
 abbrev pub HasAtMost : ℕ → List ℕ → Type 0
 HasAtMost most seen = length seen ≤ most
 
--- one more was seen. Then no more are read
+-- one byte more was seen than an input may have. Then no more are read
 abbrev pub HasOneMore : ℕ → List ℕ → Type 0
 HasOneMore most seen = length seen ≡ most + 1
 
--- at most how many bytes an input may have for which no other bound is given
+-- how many bytes an input may have if no other bound is given
 abbrev pub most_read : ℕ
 most_read = 2 ^ 30
 
@@ -40,23 +40,24 @@ module _ {S : Type 0} (step : S → ℕ → List ℕ → List ℕ → S → Type
     pub second : Answered mid (n + length xs) ys rest new
     pub joined : text ≡ front ++ rest
 
-  -- from state old line n was answered, to state new, with a reply that was written so
+  -- line n was answered in state old, which led to state new, and its reply was written as `written_so` says
   pub record Replies (old : S) (n : ℕ) (line : List ℕ) (new : S) (written_so : List ℕ → Type 0) : Type 0 where
     pub reply : List ℕ
     pub answered : step old n line reply new
     pub written : written_so reply
 
-  -- nothing was answered, and of what was held no more than a front written; or line n was, to state new, with a reply that was written in part
+  -- no line was answered, and no more than a prefix of the buffered bytes was written; or line n was answered, which led to state new, and its reply
+  -- was written in part
   abbrev pub FailsToReply : S → ℕ → List ℕ → S → (List ℕ → Type 0) → Type 0
   FailsToReply old n line new written_in_part = ((new ≡ old) × written_in_part []) ⊎ Replies old n line new written_in_part
 
-  -- the lines, of each its first 121 bytes, were answered in turn from number 1, and all replies written
+  -- all lines were answered in turn from number 1, by the first 121 bytes of each, and all replies were written
   pub record AnswersAll (old : S) (lines : List (List ℕ)) (new : S) (old_contents new_contents : Option (List ℕ)) : Type 0 where
     pub text : List ℕ
     pub answered : Answered old 1 (map (take 121) lines) text new
     pub written : Appends old_contents new_contents text
 
-  -- a front of the lines was answered so, to state new, and no more than a front of the replies written
+  -- a prefix of the lines was answered in this way, which led to state new, and no more than a prefix of the replies was written
   pub record AnswersFront (old : S) (lines : List (List ℕ)) (new : S) (old_contents new_contents : Option (List ℕ)) : Type 0 where
     pub front : List (List ℕ)
     pub rest : List (List ℕ)
@@ -65,9 +66,9 @@ module _ {S : Type 0} (step : S → ℕ → List ℕ → List ℕ → S → Type
     pub answered : Answered old 1 front text new
     pub written : WritesFront old_contents [] new_contents text
 
-  -- how the serving ended, by the bytes that were seen. Ok: at the end of the input. ReadFault: a read failed, and what was seen is
-  -- not too long. TooLong: what was seen is. WriteFault: a write failed. NoMemory: it never began.
-  -- No clause can say of ReadFault that the reader answered an error: all that `Read` tells of an error is that no byte is lost by it
+  -- how the serving ended, given the bytes that were seen. Ok: the input has ended. ReadFault: a read failed, and the input is not too long so far.
+  -- TooLong: the input is too long. WriteFault: a write failed. NoMemory: the serving never began.
+  -- No clause can say of ReadFault that the reader returned an error: all that `Read` promises about an error is that no byte is lost by it
   abbrev pub Ends : {T : Type 0} → ℕ → S → S → Option (List ℕ) → Option (List ℕ) → Option (List ℕ) → Option (List ℕ) → List ℕ → Result T Fault → Type 0
   Ends most old new remaining_old remaining_new contents_old contents_new seen (Ok _) =
       IsAtEnd remaining_new × HasAtMost most seen × AnswersAll old (lines_of seen) new contents_old contents_new
@@ -81,14 +82,14 @@ module _ {S : Type 0} (step : S → ℕ → List ℕ → List ℕ → S → Type
   Ends most old new remaining_old remaining_new contents_old contents_new seen (Err NoMemory) =
       (new ≡ old) × (remaining_new ≡ remaining_old) × (contents_new ≡ contents_old)
 
-  -- bytes were read, at most so many and one more, and their lines answered, from state old to state new
+  -- at most `most + 1` bytes were read, and their lines were answered, from state old to state new, as `Ends` says
   pub record LinesServedWithin {T : Type 0} (most : ℕ) (old new : S) (remaining_old remaining_new contents_old contents_new : Option (List ℕ)) (result : Result T Fault) : Type 0 where
     pub seen : List ℕ
     pub read : Consumes remaining_old remaining_new seen
     pub few : length seen ≤ most + 1
     pub ends : Ends most old new remaining_old remaining_new contents_old contents_new seen result
 
-  -- the same of an input for which no other bound is given
+  -- the lines of an input were served, which may have as many bytes as `most_read` says
   abbrev pub LinesServed : {T : Type 0} → S → S → Option (List ℕ) → Option (List ℕ) → Option (List ℕ) → Option (List ℕ) → Result T Fault → Type 0
   LinesServed old new remaining_old remaining_new contents_old contents_new result =
       LinesServedWithin most_read old new remaining_old remaining_new contents_old contents_new result

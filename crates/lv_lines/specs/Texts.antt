@@ -21,23 +21,23 @@ use Rattle.lv_lines.specs.Words.{spaced}
 abbrev pub reply_line : List ℕ → List ℕ
 reply_line text = text ++ 10 ∷ []
 
--- what a refusal is answered by, by its number
+-- the reply that reports an error, given its number
 abbrev pub refused_by : ℕ → List ℕ
 refused_by number = reply_line (codes "refused " ++ decimal number)
 
 abbrev pub refused_text : Refusal → List ℕ
 refused_text refusal = refused_by (number_of refusal)
 
--- the reply to a line that is not understood: its number
+-- the reply to a line that is not understood: the line's number
 abbrev pub bad_text : ℕ → List ℕ
 bad_text n = reply_line (codes "bad " ++ decimal n)
 
--- what a line is answered before its command is: one that says nothing by nothing, and one that says nothing known by its number
+-- the reply to a line that is not a command: none if it says nothing, and its number if it is not understood. A command has none here
 abbrev pub unasked_text : {C : Type 0} → ℕ → Line C → List ℕ
 unasked_text n Bad = bad_text n
 unasked_text n _ = []
 
--- what an accepted edit is answered by
+-- the reply to an accepted update
 abbrev pub receipt_text : Receipt → List ℕ
 receipt_text (Pushed edit index) = reply_line (codes "edit " ++ decimal edit ++ codes " at " ++ decimal index)
 receipt_text (Popped edit value) = reply_line (codes "edit " ++ decimal edit ++ codes " value " ++ signed_decimal value)
@@ -46,7 +46,7 @@ receipt_text (Reserved edit capacity) = reply_line (codes "edit " ++ decimal edi
 receipt_text (Swapped edit first second) = reply_line (codes "edit " ++ decimal edit ++ codes " now " ++ signed_decimal first ++ codes " " ++ signed_decimal second)
 receipt_text (Truncated edit dropped) = reply_line (codes "edit " ++ decimal edit ++ codes " dropped " ++ decimal dropped)
 
--- the same receipt with this number as its edit's
+-- a receipt with the number of its update replaced by this one
 abbrev pub numbered : ℕ → Receipt → Receipt
 numbered n (Pushed edit index) = Pushed n index
 numbered n (Popped edit value) = Popped n value
@@ -72,7 +72,7 @@ size_text size edit = reply_line (codes "size " ++ decimal size ++ codes " edit 
 abbrev pub capacity_text : ℕ → List ℕ
 capacity_text cells = reply_line (codes "capacity " ++ decimal cells)
 
--- that a pending write is complete
+-- the reply that a pending write is complete
 abbrev pub settled_text : List ℕ
 settled_text = reply_line (codes "settled")
 
@@ -123,36 +123,36 @@ scan_text edit inclusive kind values = scan_head edit inclusive kind (length val
 abbrev pub cost_text : ℕ → ℕ → List ℕ
 cost_text cells summaries = reply_line (codes "cells " ++ decimal cells ++ codes " summaries " ++ decimal summaries)
 
--- a job that is handed out: its number, and the node and the version that it is for
+-- a task that is handed out: its number, and the node and the version that it is for
 abbrev pub job_text : ℕ → Node → ℕ → List ℕ
 job_text number node version =
     reply_line (codes "job " ++ decimal number ++ codes " node " ++ decimal node.level ++ codes " " ++ decimal node.number ++ codes " version " ++ decimal version)
 
--- that there is no job
+-- the reply that there is no task
 abbrev pub idle_text : List ℕ
 idle_text = reply_line (codes "idle")
 
--- what became of a summary that was delivered
+-- the fate of an aggregate that was delivered
 abbrev pub accepted_text : Accepted → List ℕ
 accepted_text Installed = reply_line (codes "installed")
 accepted_text Held = reply_line (codes "held")
 accepted_text (Stale now) = reply_line (codes "stale " ++ decimal now)
 
--- that the parts of a block's summary were made, at a version
+-- the reply that the words (parts) of a block's aggregate were computed, at a version
 abbrev pub fresh_text : ℕ → ℕ → List ℕ
 fresh_text block version = reply_line (codes "fresh " ++ decimal block ++ codes " version " ++ decimal version)
 
--- that every claim is void
+-- the reply that every claim is void
 abbrev pub forgotten_text : List ℕ
 forgotten_text = reply_line (codes "forgotten")
 
 -- ---- standing queries
 
--- that a query stands under a name
+-- the reply that a query is registered under a name
 abbrev pub watching_text : List ℕ → List ℕ
 watching_text name = reply_line (codes "watching " ++ name)
 
--- that no query stands under a name any more
+-- the reply that no query is registered under a name any more
 abbrev pub unwatched_text : List ℕ → List ℕ
 unwatched_text name = reply_line (codes "unwatched " ++ name)
 
@@ -160,6 +160,6 @@ unwatched_text name = reply_line (codes "unwatched " ++ name)
 abbrev pub named_text : ℕ → List ℕ → Shown → List ℕ
 named_text edit name value = reply_line (codes "at " ++ decimal edit ++ codes " " ++ name ++ codes " " ++ shown_text value)
 
--- that the answer of the query under a name is another than before
+-- the notification that the answer of the query under a name has changed, with the new answer
 abbrev pub note_text : List ℕ → Shown → List ℕ
 note_text name value = reply_line (codes "note " ++ name ++ codes " " ++ shown_text value)

@@ -1,14 +1,14 @@
-//! Lines of reply that are written from their end to their front, so that the digits of each number are written where they stay.
+//! Lines of reply that are written from their end to their start, so that the digits of each number are written where they stay.
 ghost use Rattle.std.specs.Prelude.{◌≡◌, ◌+◌, ◌≤◌, [], ◌∷◌, ◌++◌, decimal, length};
 ghost use Rattle.std.specs.Fmt.{signed_decimal};
 
 use itoa::write_digits;
 use std::marker::Model;
 
-/// At most how many bytes such a line has.
+/// The greatest number of bytes of such a line.
 const LONGEST: usize = 80;
 
-/// A line of reply, or a part of one, of which the last bytes are written.
+/// A line of reply, or a part of one, whose last bytes are written.
 #[derive(Drop)]
 pub(crate) struct BackwardLine {
     bytes: [u8; LONGEST],
@@ -38,7 +38,7 @@ impl BackwardLine {
         }
     }
 
-    /// The end of a line that goes on behind it.
+    /// No bytes, for a part of a line that more bytes will follow.
     #[inline(always)]
     pub(crate) fn empty() -> BackwardLine
         ensures bytes { result ≡ [] }

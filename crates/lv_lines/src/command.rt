@@ -26,7 +26,7 @@ pub enum Command {
         lo: u32,
         hi: u32,
     },
-    /// The reductions of each front of the range: up to each element, and with it where the scan is inclusive.
+    /// The reductions of the prefixes of the range: up to each element, and including it if the scan is inclusive.
     Scan {
         inclusive: bool,
         kind: Kind,

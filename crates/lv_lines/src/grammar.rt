@@ -1,4 +1,4 @@
-//! What words are: kinds, numbers up to a bound, elements, names, and some of them in a row.
+//! How words are read: as kinds, numbers up to a bound, elements and names, and several words in a row.
 ghost use Rattle.std.specs.Prelude.{◌≡◌, ◌≤◌, IfSome};
 ghost use Rattle.std.specs.Str.{bytes_eq};
 ghost use Rattle.lv_lines.specs.Words.{words_of};
@@ -43,7 +43,7 @@ pub fn kind(word: &[u8]) -> Option<Kind>
     None
 }
 
-/// The number up to a bound that the one word is; none where there are no words, or more than one.
+/// The number up to a bound that the only word is. None if there are no words, or more than one.
 #[inline(always)]
 pub fn lone_up_to(words: &[u8], most: u64) -> Option<u64>
     ensures number { result ≡ lone (number_up_to most) (words_of words.now) }
@@ -56,7 +56,7 @@ pub fn lone_up_to(words: &[u8], most: u64) -> Option<u64>
     }
 }
 
-/// The same of a number that fits into 32 bits.
+/// The 32-bit number that the only word is. None if there are no words, or more than one.
 pub fn lone_number(words: &[u8]) -> Option<u32>
     ensures { result ≡ lone_number (words_of words.now) }
 {
@@ -64,7 +64,7 @@ pub fn lone_number(words: &[u8]) -> Option<u32>
     Some(narrow(number))
 }
 
-/// The element that the one word is.
+/// The element that the only word is.
 #[inline(always)]
 pub fn lone_element(words: &[u8]) -> Option<i64>
     ensures { result ≡ lone element_in (words_of words.now) }
@@ -76,7 +76,7 @@ pub fn lone_element(words: &[u8]) -> Option<i64>
     }
 }
 
-/// The name that the one word is.
+/// The name that the only word is.
 pub fn lone_name(words: &[u8]) -> Option<Name>
     ensures { result ≡ lone name_in (words_of words.now) }
 {
@@ -95,7 +95,7 @@ pub fn bounds_up_to(words: &[u8], most: u64) -> Option<(u64, u64)>
     Some((lo, hi))
 }
 
-/// The same of two numbers that fit into 32 bits.
+/// The two 32-bit numbers that two words are.
 pub fn bounds(words: &[u8]) -> Option<(u32, u32)>
     ensures { result ≡ bounds_in (words_of words.now) }
 {

@@ -1,10 +1,10 @@
 //! Lines: what a line says, the texts of replies, and the loop that reads lines from any reader and writes the replies
 //! to any writer.
 //!
-//! The model is bytes: a line is its words, `read_line` gives exactly what the grammar says of it, and what
-//! `print_command` writes is read as the same command. `serve_lines` has a `LineHandler` answer the lines of what it reads
-//! one after the other, and writes the replies joined end to end; a fault leaves a front of them. Memory is fixed,
-//! however long the input or a line of it is. What a line is answered is for the crates above to say.
+//! The model is bytes: a line is its words, `read_line` gives exactly what the grammar says of it, and the output of `print_command` is
+//! read as the same command. `serve_lines` has a `LineHandler` answer the lines that it reads one after the other, and writes the replies
+//! joined end to end. After a fault, a prefix of the replies was written. Memory is fixed, however long the input or a line of it is.
+//! The crates above define the reply to a line.
 #![tactic(auto)]
 
 mod backward_line;

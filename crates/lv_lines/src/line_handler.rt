@@ -10,7 +10,7 @@ use std::io::Write;
 
 /// Who answers lines, one after the other, into a reply buffer before a writer of type `W`.
 pub trait LineHandler<W: Write> {
-    // What the answers depend on, and what they change.
+    // The state that the answers depend on and change.
     ghost State: { Type 0 };
 
     // The state that it is in.
@@ -22,8 +22,8 @@ pub trait LineHandler<W: Write> {
     // Replies may go out in this state.
     ghost may_send: { State → Type 0 };
 
-    /// Answers a line, of which it gets the first 121 bytes: puts the reply into the reply buffer, which it may
-    /// send to make room. It has no other fault than `WriteFault`.
+    /// Answers a line, given its first 121 bytes: puts the reply into the reply buffer, which it may send to make room. Its only fault
+    /// is `WriteFault`.
     fn handle(
         &mut self,
         number: u32,
@@ -36,13 +36,13 @@ pub trait LineHandler<W: Write> {
         ensures fault { IfErr result (λ fault. (fault ≡ Fault.WriteFault)
             × FailsToReply step (state self.old) number line.now (state self.new) (PutsFront W.contents buffer.old buffer.new)) };
 
-    /// Does what has to be done before replies go out: then they may. It has no other fault than `WriteFault`, after which no reply goes out.
+    /// Does what must be done before replies go out; after it they may. Its only fault is `WriteFault`, after which no reply goes out.
     fn before_send(&self) -> Result<(), Fault>
         ensures may { OnOk result (may_send (state self.now)) }
         ensures fault { IfErr result (λ fault. fault ≡ Fault.WriteFault) };
 }
 
-/// Sends replies, once what answers has done what it has to before. A fault is `WriteFault`; what is held then stays.
+/// Sends replies, after the handler has done what must be done before. The fault is `WriteFault`; what is held then stays.
 pub(crate) fn send<A: LineHandler<W>, W: Write>(
     handler: &A,
     buffer: &mut ReplyBuffer<'_, W>,

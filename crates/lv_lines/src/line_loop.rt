@@ -14,18 +14,17 @@ use std::io::{Read, Write};
 // At most how many bytes one read takes.
 const CHUNK: usize = 65_536;
 
-/// At most how many bytes an input may have for which no other bound is given. One more is read, to tell that there are too many.
+/// How many bytes an input may have if no other bound is given. One more is read, to find out that there are too many.
 pub const MOST_READ: usize = 1 << 30;
 
 /// The greatest bound that may be given. The lines of so many bytes have numbers of 32 bits.
 pub const MOST_NUMBERED: usize = 4_294_967_293;
 
-/// Reads lines and has each answered, in turn and numbered from 1, until the input ends, of at most so many bytes. The replies are
+/// Reads lines and has each answered, in turn and numbered from 1, until the input ends. The input may have at most `most` bytes. The replies are
 /// sent before more is read.
 ///
-/// Memory is taken before anything is read or written: where there is none, the fault is `NoMemory`. A
-/// failed read is `ReadFault`; an input of more bytes `TooLong`; a failed write, and one that takes
-/// no byte, `WriteFault`.
+/// Memory is taken before anything is read or written; if there is none, the fault is `NoMemory`. A failed read is `ReadFault`, an input of more
+/// bytes is `TooLong`, and a failed write, or one that takes no byte, is `WriteFault`.
 pub fn serve_lines<A: LineHandler<W>, R: Read, W: Write>(
     most: usize,
     alloc: Global,
@@ -93,7 +92,7 @@ fn read_lines<A: LineHandler<W>, R: Read, W: Write>(
     }
 }
 
-// Reads at most `most` bytes into the front of the chunk. None are the end of the input.
+// Reads at most `most` bytes into the start of the chunk. If there are none, the input has ended.
 fn read_front<R: Read>(reader: &mut R, chunk: &mut [u8], most: usize) -> Result<usize, Fault>
     requires chunk { 0 < length chunk.old }
     requires most { 0 < most }

@@ -1,4 +1,4 @@
-//! What is kept between two reads: the number of the next line, and the first bytes of a line that was begun.
+//! The data that is kept between two reads: the number of the next line, and the first bytes of an unended line.
 ghost use Rattle.std.specs.Prelude.{◌≡◌, ◌+◌, ◌^◌, ◌<◌, ◌≤◌, [], ◌++◌, length, take, OnOk, IfErr};
 ghost use Rattle.lv_lines.specs.Output.{Puts, PutsFront, SamePlaces};
 ghost use Rattle.lv_lines.specs.Replies.{Replies, FailsToReply};
@@ -12,7 +12,7 @@ use std::io::Write;
 
 const LF: u8 = 10;
 
-/// How many bytes of a line tell whether it is too long, and what it says where it isn't.
+/// How many bytes of a line decide whether it is too long, and what it says if it isn't.
 const LONGEST: usize = 121;
 
 #[derive(Drop)]

@@ -1,4 +1,4 @@
-//! What a line is, and how it is read by the grammar of its commands.
+//! Lines, and how they are read by the grammar of their commands.
 ghost use Rattle.std.specs.Prelude.{◌≡◌, ℕ, ◌∷◌, List, Option};
 ghost use Rattle.lv_lines.specs.Grammar.{line_by, line_of, without_cr, is_comment};
 ghost use Rattle.lv_lines.specs.Words.{words_of};
@@ -7,7 +7,7 @@ use crate::command::Command;
 use crate::script_grammar::ScriptGrammar;
 use crate::words::next_word;
 
-/// What a line is, by the commands that a grammar knows.
+/// A line, as a grammar reads it.
 #[derive(Clone, Copy)]
 pub enum Line<C> {
     /// Blank, or a comment. It has no reply.
@@ -20,7 +20,7 @@ pub enum Line<C> {
 
 /// How the words of a line are read as a command.
 pub trait LineGrammar {
-    /// What a line asks for.
+    /// The commands of lines.
     type Command;
 
     // The command that the words of a line are.
@@ -31,7 +31,7 @@ pub trait LineGrammar {
         ensures { result ≡ command_in self.now (verb.now ∷ words_of words.now) };
 }
 
-/// What a line says by a grammar. The bytes are those of one line, without the LF at its end.
+/// What a line says, according to a grammar. The bytes are those of one line, without the LF at its end.
 #[tactic(auto, unfolding(crate::specs::Grammar::line_by))]
 pub fn read_line_by<G: LineGrammar>(grammar: &G, bytes: &[u8]) -> Line<G::Command>
     ensures { result ≡ line_by (G.command_in grammar.now) bytes.now }
@@ -58,7 +58,7 @@ pub fn read_line(bytes: &[u8]) -> Line<Command>
     read_line_by(&ScriptGrammar, bytes)
 }
 
-// A line without the CR at its end, where there is one.
+// A line without the CR at its end, if there is one.
 fn without_cr(bytes: &[u8]) -> &[u8]
     ensures { result.now ≡ without_cr bytes.now }
 {

@@ -7,7 +7,7 @@ use crate::output::{put, put_name, put_number};
 use crate::replies::{LINE, put_shown};
 use lv_bodies::{Name, Shown};
 
-/// That a query stands under the name from now on.
+/// Puts the reply that a query is registered under the name from now on.
 pub fn put_watching(held: &mut Vec<u8>, name: Name)
     requires { HasRoom held.old LINE }
     ensures text { held.new.items ≡ held.old.items ++ watching_text name }
@@ -18,7 +18,7 @@ pub fn put_watching(held: &mut Vec<u8>, name: Name)
     put(held, b"\n");
 }
 
-/// That no query stands under the name any more.
+/// Puts the reply that no query is registered under the name any more.
 pub fn put_unwatched(held: &mut Vec<u8>, name: Name)
     requires { HasRoom held.old LINE }
     ensures text { held.new.items ≡ held.old.items ++ unwatched_text name }
@@ -29,7 +29,7 @@ pub fn put_unwatched(held: &mut Vec<u8>, name: Name)
     put(held, b"\n");
 }
 
-/// The answer of the query under the name, at an edit.
+/// Puts the answer of the query under the name, at an update.
 pub fn put_named(held: &mut Vec<u8>, edit: u64, name: Name, value: Shown)
     requires { HasRoom held.old LINE }
     ensures text { held.new.items ≡ held.old.items ++ named_text edit name value }
@@ -44,7 +44,7 @@ pub fn put_named(held: &mut Vec<u8>, edit: u64, name: Name, value: Shown)
     put(held, b"\n");
 }
 
-/// That an edit changed the answer of the query under the name, to this value.
+/// Puts the notification that an update changed the answer of the query under the name to this value.
 pub fn put_note(held: &mut Vec<u8>, name: Name, value: Shown)
     requires { HasRoom held.old LINE }
     ensures text { held.new.items ≡ held.old.items ++ note_text name value }

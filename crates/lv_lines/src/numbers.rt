@@ -8,7 +8,7 @@ use crate::words::{ends_word, from_word, next_word};
 /// The most that fits into 32 bits.
 pub(crate) const MOST_32: u64 = u32::MAX as u64;
 
-/// What one or more digits stand for, where it has 64 bits.
+/// The number that one or more digits denote, if it fits into 64 bits.
 fn numeral(digits: &[u8]) -> Option<u64>
     ensures { result ≡ allowed fits_64 (numeral_in digits.now) }
 {
@@ -27,7 +27,7 @@ fn numeral(digits: &[u8]) -> Option<u64>
     Some(value)
 }
 
-/// What the digits at the front of a text stand for, and how many they are: of more than 18 the first 18.
+/// The number that the digits at the start of a text denote, and how many digits they are. Of more than 18 only the first 18 are read.
 #[inline(always)]
 fn front_digits(text: &[u8]) -> (u64, usize)
     ensures few { result.1 ≤ length text.now }
@@ -74,7 +74,7 @@ pub(crate) fn first_element(bytes: &[u8]) -> Option<(i64, &[u8])>
     positive_at(text)
 }
 
-// The same where the text begins with the word.
+// The element that the first word is, and the bytes after it, in a text that begins with the word.
 #[inline(always)]
 fn positive_at(text: &[u8]) -> Option<(i64, &[u8])>
     ensures { MatchOption result (first_read element_in (words_of text.now) ≡ None)
@@ -88,7 +88,7 @@ fn positive_at(text: &[u8]) -> Option<(i64, &[u8])>
     element_at(text)
 }
 
-// The same where the word begins with `-`.
+// The element that the first word is, and the bytes after it, in a text that begins with the word and its `-`.
 #[inline(always)]
 fn negative_at(text: &[u8]) -> Option<(i64, &[u8])>
     requires some { 0 < length text.now }
@@ -105,7 +105,7 @@ fn negative_at(text: &[u8]) -> Option<(i64, &[u8])>
     element_at(text)
 }
 
-// The same of any text, by cutting the word first.
+// The element that the first word of any text is, and the bytes after it. The word is cut out first.
 fn element_at(text: &[u8]) -> Option<(i64, &[u8])>
     ensures { MatchOption result (first_read element_in (words_of text.now) ≡ None)
         (λ read. (first_read element_in (words_of text.now) ≡ Some read.0) × (drop 1 (words_of text.now) ≡ words_of read.1.now)) }
@@ -126,7 +126,7 @@ fn fit(value: u64, most: u64) -> Option<u64>
     Some(value)
 }
 
-// A value as an element, where it has 63 bits.
+// A value as an element, if it has at most 63 bits.
 #[inline(always)]
 fn fit_positive(value: u64) -> Option<i64>
     ensures { result ≡ allowed is_element (Some (pos value)) }
@@ -134,7 +134,7 @@ fn fit_positive(value: u64) -> Option<i64>
     i64::try_from(value).ok()
 }
 
-// A value as an element with its sign turned, where that is one.
+// The negated value as an element, if it is one.
 #[inline(always)]
 fn fit_negative(value: u64) -> Option<i64>
     ensures { result ≡ allowed is_element (Some (neg_ℤ (pos value))) }
@@ -150,7 +150,7 @@ pub fn number_up_to(word: &[u8], most: u64) -> Option<u64>
     fit(numeral(word)?, most)
 }
 
-/// The number that a word is, where it fits into 32 bits.
+/// The number that a word is, if it fits into 32 bits.
 pub fn number(word: &[u8]) -> Option<u32>
     ensures { result ≡ number_in word.now }
 {
@@ -158,7 +158,7 @@ pub fn number(word: &[u8]) -> Option<u32>
     Some(narrow(number))
 }
 
-/// A number in 32 bits, where it fits into them.
+/// A number that fits into 32 bits, in 32 bits.
 #[inline(always)]
 pub(crate) fn narrow(number: u64) -> u32
     requires { number ≤ most_32 }

@@ -1,4 +1,4 @@
-//! How bytes and numbers are held, and how all of them are written.
+//! How bytes and numbers are put into a buffer, and how all of them are written.
 ghost use Rattle.std.specs.Prelude.{◌≡◌, ◌+◌, ◌≤◌, [], ◌++◌, length, IsOk, OnOk, OnErr, IfErr, vec_len};
 ghost use Rattle.std.specs.Io.KnownBytes.{Appends};
 ghost use Rattle.std.specs.Fmt.{decimal, signed_decimal};
@@ -15,7 +15,7 @@ pub const HELD: usize = 65_536;
 
 /// Writes all of the bytes, and flushes.
 ///
-/// A failed write or flush, and a write that takes no byte, is `WriteFault`; what went out is then a front of the bytes.
+/// A failed write or flush, and a write that takes no byte, is `WriteFault`; then a prefix of the bytes was written.
 pub fn write_whole<W: Write>(writer: &mut W, bytes: &[u8]) -> Result<(), Fault>
     ensures ok { OnOk result (Appends (W.contents writer.old) (W.contents writer.new) bytes.now) }
     ensures fault { IfErr result (λ fault. (fault ≡ Fault.WriteFault)
@@ -46,7 +46,7 @@ pub fn put(held: &mut Vec<u8>, bytes: &[u8])
     };
 }
 
-/// Puts the bytes of a name, of which there are at most 16, after what is held.
+/// Puts the bytes of a name, at most 16, after what is held.
 pub fn put_name(held: &mut Vec<u8>, name: Name)
     requires { HasRoom held.old 16 }
     ensures text { held.new.items ≡ held.old.items ++ name }
@@ -67,7 +67,7 @@ pub fn put_number(held: &mut Vec<u8>, n: u64)
     put(held, Buffer::new().format(n).as_bytes());
 }
 
-/// Puts a number in plain decimal, with a `-` where it is negative, after what is held.
+/// Puts a number in plain decimal, with a `-` if it is negative, after what is held.
 pub fn put_element(held: &mut Vec<u8>, x: i64)
     requires { HasRoom held.old 20 }
     ensures items { held.new.items ≡ held.old.items ++ signed_decimal x }
@@ -77,7 +77,7 @@ pub fn put_element(held: &mut Vec<u8>, x: i64)
     put(held, Buffer::new().format(x).as_bytes());
 }
 
-/// Puts a number of up to 128 bits so.
+/// Puts a number of up to 128 bits in plain decimal, with a `-` if it is negative, after what is held.
 pub fn put_wide(held: &mut Vec<u8>, wide: i128)
     requires { HasRoom held.old 40 }
     ensures items { held.new.items ≡ held.old.items ++ signed_decimal wide }

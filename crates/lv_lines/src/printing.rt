@@ -18,8 +18,7 @@ use std::alloc::{AllocError, Global};
 /// At most how many bytes the text of a command has.
 pub const COMMAND: usize = 78;
 
-/// The text of a command: its words with one space between, and no zeros before a number. It fails only
-/// where there is no memory.
+/// The text of a command: its words with one space between, and no zeros before a number. It fails only if there is no memory.
 pub fn print_command(alloc: Global, command: &Command) -> Result<Vec<u8>, AllocError>
     ensures printed { IfOk result (λ text. text.items ≡ printed command.now) }
     // Read as a line, it is the same command.
@@ -30,7 +29,7 @@ pub fn print_command(alloc: Global, command: &Command) -> Result<Vec<u8>, AllocE
     Ok(text)
 }
 
-/// Puts the text of a command behind what is held.
+/// Puts the text of a command after what is held.
 pub fn put_command(held: &mut Vec<u8>, command: &Command)
     requires { HasRoom held.old COMMAND }
     ensures text { held.new.items ≡ held.old.items ++ printed command.now }
@@ -70,7 +69,7 @@ fn verb(command: &Command) -> &'static str
     }
 }
 
-// Puts a word behind a space.
+// Puts a word after a space.
 fn put_word(held: &mut Vec<u8>, word: &[u8])
     requires { HasRoom held.old (1 + length word.now) }
     ensures text { held.new.items ≡ held.old.items ++ (32 ∷ word.now) }
@@ -112,7 +111,7 @@ fn put_element_word(held: &mut Vec<u8>, value: i64)
     put_element(held, value);
 }
 
-// Two numbers, each behind a space.
+// Puts two numbers, each after a space.
 fn put_numbers(held: &mut Vec<u8>, first: u32, second: u32)
     requires { HasRoom held.old 42 }
     ensures text { held.new.items ≡ held.old.items ++ behind_spaces (decimal first ∷ decimal second ∷ []) }
@@ -133,7 +132,7 @@ fn put_range(held: &mut Vec<u8>, kind: Kind, lo: u32, hi: u32)
     put_numbers(held, lo, hi);
 }
 
-// The words of a command after its first, each behind a space.
+// Puts the words of a command after its first, each after a space.
 fn put_arguments(held: &mut Vec<u8>, command: &Command)
     requires { HasRoom held.old 69 }
     ensures words { held.new.items ≡ held.old.items ++ behind_spaces (arguments_of command.now) }

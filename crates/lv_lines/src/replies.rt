@@ -18,7 +18,7 @@ use lv_geometry::Refusal;
 /// At most how many bytes one line of reply has.
 pub const LINE: usize = 256;
 
-/// What an accepted edit answers.
+/// Puts the reply to an accepted update.
 pub fn put_receipt(held: &mut Vec<u8>, receipt: Receipt)
     requires { HasRoom held.old LINE }
     ensures text { held.new.items ≡ held.old.items ++ receipt_text receipt }
@@ -43,7 +43,7 @@ fn edit_of(receipt: Receipt) -> u64
     }
 }
 
-/// What an accepted edit answers where its number is told as another than its own.
+/// Puts the reply to an accepted update, with another number than the update's own.
 #[inline(always)]
 pub fn put_receipt_at(held: &mut Vec<u8>, number: u64, receipt: Receipt)
     requires { HasRoom held.old LINE }
@@ -69,7 +69,7 @@ pub fn put_receipt_at(held: &mut Vec<u8>, number: u64, receipt: Receipt)
     }
 }
 
-/// A line of an edit, a word, and a count behind it.
+/// Puts a line of an update, with a word and a count after it.
 #[inline(always)]
 pub fn put_counted(held: &mut Vec<u8>, edit: u64, word: &[u8], count: u64)
     requires room { HasRoom held.old 80 }
@@ -86,7 +86,7 @@ pub fn put_counted(held: &mut Vec<u8>, edit: u64, word: &[u8], count: u64)
     put(held, line.as_bytes());
 }
 
-/// A line of an edit, a word, and an element behind it.
+/// Puts a line of an update, with a word and an element after it.
 #[inline(always)]
 pub fn put_valued(held: &mut Vec<u8>, edit: u64, word: &[u8], x: i64)
     requires room { HasRoom held.old 80 }
@@ -103,7 +103,7 @@ pub fn put_valued(held: &mut Vec<u8>, edit: u64, word: &[u8], x: i64)
     put(held, line.as_bytes());
 }
 
-/// A line of a swap: the elements that stand at its two indices after it.
+/// Puts the line of a swap: the elements at its two indices after it.
 pub fn put_swapped(held: &mut Vec<u8>, edit: u64, first: i64, second: i64)
     requires { HasRoom held.old 80 }
     ensures text { held.new.items ≡ held.old.items ++ receipt_text (receipt.Swapped edit first second) }
@@ -151,7 +151,7 @@ pub fn put_bad(held: &mut Vec<u8>, number: u32)
     put(held, b"\n");
 }
 
-/// The command that a line is, if it is one. A bad line is answered by its number, and one that says nothing by nothing.
+/// The command that a line is, if it is one. A bad line is answered by its number, and a line that says nothing has no reply.
 pub fn command_of<C: Copy>(number: u32, line: Line<C>, held: &mut Vec<u8>) -> Option<C>
     requires { HasRoom held.old LINE }
     ensures command { result ≡ command_of line }

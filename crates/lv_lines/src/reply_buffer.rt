@@ -9,10 +9,10 @@ use std::io::Write;
 
 /// Replies on their way: those that are held, and the writer that they go to.
 ///
-/// It owns neither: so what it leaves in both is the caller's once it is gone.
+/// It owns neither of them. What it leaves in both is the caller's once it is gone.
 #[derive(Drop)]
 pub struct ReplyBuffer<'w, W> {
-    /// What gets the replies.
+    /// The writer that receives the replies.
     pub writer: &'w mut W,
     /// The replies that were not sent.
     pub held: &'w mut Vec<u8>,

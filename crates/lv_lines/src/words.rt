@@ -6,7 +6,7 @@ ghost use Rattle.lv_lines.specs.Words.{is_space, words_of, only_word};
 
 use lv_bodies::Kind;
 
-/// The first word and the bytes after it, or nothing where there are no words.
+/// The first word and the bytes after it, or nothing if there are no words.
 pub fn next_word(bytes: &[u8]) -> Option<(&[u8], &[u8])>
     ensures { MatchOption result (words_of bytes.now ≡ [])
         (λ found. words_of bytes.now ≡ found.0.now ∷ words_of found.1.now) }
@@ -17,7 +17,7 @@ pub fn next_word(bytes: &[u8]) -> Option<(&[u8], &[u8])>
     Some(bytes.split_at(end))
 }
 
-/// The bytes from the first word on, or nothing where there are no words.
+/// The bytes from the first word on, or nothing if there are no words.
 #[inline(always)]
 pub(crate) fn from_word(bytes: &[u8]) -> Option<&[u8]>
     ensures { MatchOption result (words_of bytes.now ≡ [])
@@ -39,7 +39,7 @@ pub(crate) fn ends_word(bytes: &[u8]) -> bool
     }
 }
 
-/// The one word, where there is one and no other.
+/// The only word, if there is exactly one.
 pub fn only_word(bytes: &[u8]) -> Option<&[u8]>
     ensures { option_copied result ≡ only_word (words_of bytes.now) }
 {

@@ -71,7 +71,7 @@ module _ {B S : Type 0} (o : Operations S) (same : B → Type 0) where
   delivers_then (first ∷ jobs) job old mid new before between after some one =
       (some.0, some.1, some.2, delivers_then jobs job some.0 mid new some.1 between after some.3 one)
 
-  -- the same where the outcomes are the first of some, and the one is the next of them
+  -- one more outcome after some, if these are the first of a list and it is the next of that list
   pub delivers_next : (jobs : List (BlockJob B)) (i : ℕ) (d job : BlockJob B) → i < length jobs → job ≡ get_or jobs i d → (old mid new : LiveState B S) (before between after : Batched) → DeliversFrom o same (take i jobs) old mid before between
       → DeliversOne o same job mid new between after → DeliversFrom o same (take (i + 1) jobs) old new before after
   delivers_next jobs i d job inside is old mid new before between after some one =

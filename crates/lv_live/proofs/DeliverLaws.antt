@@ -84,7 +84,7 @@ module _ {B S : Type 0} (o : Operations S) (within : S → ℕ → Type 0) (laws
   claimed_heard c n Held hears = λ m. ap (λ c. claimed_in c m) hears
   claimed_heard c n (Stale now) hears = λ m. ap (λ c. claimed_in c m) hears
 
-  -- what can be made anew has its children's summaries where it is to be installed
+  -- what can be made anew has its children's summaries if it is to be installed
   pub ready_to_remake : (n : Node) (v : ℕ) → CanRemake (recorded s) n v → delivery_in s.table n v ≡ Installed → IsReady s.table n
   ready_to_remake n v remake installed above =
       let current = current_of_installed s.table n v installed in
@@ -102,7 +102,7 @@ module _ {B S : Type 0} (o : Operations S) (within : S → ℕ → Type 0) (laws
   live_after_anew t c n v Held is same hears = rw same (rw hears live)
   live_after_anew t c n v (Stale now) is same hears = rw same (rw hears live)
 
-  -- whether an outcome is vouched for, where its node is whole and was touched at its version last
+  -- whether an outcome is vouched for, if its node is whole and was touched at its version last
   pub vouched_where : (n : Node) (v : ℕ) (contents : Contents S) (same : Type 0) (told : Bool) → whole_in s.table n ≡ true → touched_in s.table n ≡ v → same → (IsTrue told ↔ Stands o (recorded s) n contents) → IsTrue told ↔ Vouched o (recorded s) same n v contents
   vouched_where n v contents same told whole touched is stands =
       let node = (and_parts _ _ whole).0 in

@@ -33,7 +33,7 @@ written_inside h e indices limits free written = subst HaveBlocks written (insid
         (omega (arith, both.0, limits.few), (omega (arith, both.1, limits.few), tt))
     inside (Truncate k) free = tt
 
--- the list after an accepted edit has its room where the indices that it wrote at have
+-- the list after an accepted edit has its room if the indices that it wrote at have
 pub room_accepted : (h next : History) (e : Edit) (indices : List ℕ) (blocks : ℕ) → IsLegalInLimits h → verdict_of h.limits h.journal e ≡ None → next ≡ with_edit h e → indices_written (list_of h.journal) e ≡ indices → length (list_of h.journal) ≤ 8 * blocks → HaveRows blocks indices → length (list_of next.journal) ≤ 8 * blocks
 room_accepted h next e indices blocks limits free is written room rows =
     let able = accepted_is_possible h.limits h.journal e free in

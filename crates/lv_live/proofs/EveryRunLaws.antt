@@ -38,12 +38,12 @@ receipt_behind edits rest edit receipt is =
       receipt_there = is ∙ ap (λ edits. receipt_of edits edit) (sym (take-append_seam edits (edit ∷ rest)));
     }
 
--- the first edits, where others came later
+-- the first edits, if others came later
 first_edits : (edits now rest : List Edit) → now ≡ edits → take (length edits) (now ++ rest) ≡ edits
 first_edits edits now rest same = ap (λ now. take (length edits) (now ++ rest)) same ∙ take-append_seam edits rest
 
 module _ {S : Type 0} (o : Operations S) (limits : Bounds) where
-  -- an edit adds itself where it is accepted
+  -- an edit adds itself if it is accepted
   edit_made : (r next : Record) (edit : Edit) (answer : Result Receipt Refusal) → EditStep limits r edit answer next → next.edits ≡ r.edits ++ made_by {S = S} (event.Edit edit) (edit_reply answer)
   edit_made r next edit (Ok receipt) step = step.2.edits
   edit_made r next edit (Err refusal) step = step.1.edits ∙ sym (append-nil r.edits)
@@ -75,13 +75,13 @@ module _ {S : Type 0} (o : Operations S) (limits : Bounds) where
       (Ok receipt, refl, subst (λ edits. IsReceiptAt edits (length r.edits) edit receipt) (sym (ap (λ edits. edits ++ rest) step.2.edits ∙ append_assoc r.edits (edit ∷ []) rest)) (receipt_behind r.edits rest edit receipt step.1))
   edit_true r next rest edit (Err refusal) step = (Err refusal, refl, tt)
 
-  -- so is what a reduction is answered
+  -- the reply to a reduction is true of the edits after it, and of any that go on from there
   reduction_true : (r next : Record) (rest : List Edit) (lo hi : ℕ) (answer : Result (Answer S) Refusal) → Reduces o r lo hi answer → next.edits ≡ r.edits → IsTrueOf o (next.edits ++ rest) (length r.edits) (event.Reduce lo hi) (reduction_reply answer)
   reduction_true r next rest lo hi (Ok answer) reduces same =
       (Ok answer, refl, record { at = reduces.0.edit; answers = subst (λ edits. IsAnswer o edits lo hi answer) (sym (first_edits r.edits next.edits rest same)) reduces.0 })
   reduction_true r next rest lo hi (Err refusal) reduces same = (Err refusal, refl, tt)
 
-  -- and what a scan is
+  -- the reply to a scan is true of them too
   scan_true : (r next : Record) (rest : List Edit) (lo hi : ℕ) (inclusive : Bool) (answer : Result (Scan S) Refusal) → Scans o r lo hi inclusive answer → next.edits ≡ r.edits → IsTrueOf o (next.edits ++ rest) (length r.edits) (event.Scan lo hi inclusive) (scan_reply answer)
   scan_true r next rest lo hi inclusive (Ok scan) is same =
       (Ok scan, refl, record { at = is.edit; answers = subst (λ edits. IsScan edits lo hi (scan_of inclusive o (slice_of edits lo hi)) scan) (sym (first_edits r.edits next.edits rest same)) is })
@@ -114,7 +114,7 @@ module _ {S : Type 0} (o : Operations S) (limits : Bounds) where
     subst (λ e. AreTrueOf o next.edits e events replies) (step_counts r mid event answered step) (run_true mid next events replies run),
   )
 
-  -- legal edits stay so where they are the same
+  -- legal edits stay so if they are the same
   same_legal : (edits now : List Edit) → now ≡ edits → replayed edits ≡ Some (list_of edits) → replayed now ≡ Some (list_of now)
   same_legal edits now same = subst (λ edits. replayed edits ≡ Some (list_of edits)) (sym same)
 
@@ -125,7 +125,7 @@ module _ {S : Type 0} (o : Operations S) (limits : Bounds) where
       same_legal (r.edits ++ edit ∷ []) next.edits step.2.edits (legal-snoc r.edits edit able.0 legal able.1)
   edit_legal r next edit (Err refusal) step legal = same_legal r.edits next.edits step.1.edits legal
 
-  -- so does every step
+  -- every step leaves legal edits
   step_legal : (r next : Record) (event : Event) (answered : ReplyOf S) → Step o limits r event answered next → replayed r.edits ≡ Some (list_of r.edits) → replayed next.edits ≡ Some (list_of next.edits)
   step_legal r next (event.Edit edit) answered step = edit_legal r next edit step.0 step.2
   step_legal r next event.Settle answered step = same_legal r.edits next.edits step.1.edits

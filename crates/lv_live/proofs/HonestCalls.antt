@@ -50,7 +50,7 @@ module _ {S : Type 0} (o : Operations S) (n : Node) (v : ℕ) (c : Contents S) w
         | inr early ↦ inl (eq-eqb _ _ (untouched_since es v m legal whole early).2)
       ]
 
--- a record that has what was delivered, where that was installed, and is else the same
+-- a record that has what was delivered, if that was installed, and is else the same
 same_delivered : (r next : Record) (m : Node) (w : ℕ) (accepted : Accepted) → next.edits ≡ r.edits → next.issued ≡ r.issued → ((k : Node) → next.claimed k ≡ r.claimed k) → ((k : Node) → next.kept k ≡ (after_accepted r m w accepted).kept k) → SameRecord (after_accepted r m w accepted) next
 same_delivered r next m w Installed edits issued claimed kept = record { edits = edits; issued = issued; claimed = claimed; kept = kept }
 same_delivered r next m w Held edits issued claimed kept = record { edits = edits; issued = issued; claimed = claimed; kept = kept }
@@ -99,7 +99,7 @@ module _ {B S : Type 0} (o : Operations S) (old new : LiveState B S) where
       let after = run_honest o old.history.limits n v c (recorded old) (with_issued new turned.jobs) (turns 1 count) (turn_replies 1 (map node_and_version turned.jobs)) turned.run legal honest in
       honest_same o (with_issued new turned.jobs) (recorded new) n v c refl (λ k. refl) after.1
 
--- through outcomes of blocks, one after another, of which each is taken in or is a stranger's
+-- through outcomes of blocks, one after another, each taken in or a stranger's
 pub lasts_through_batch : {B S : Type 0} (o : Operations S) (same : B → Type 0) (jobs : List (BlockJob B)) (old new : LiveState B S) (before after : Batched) → replayed old.history.journal ≡ Some (list_of old.history.journal) → DeliversFrom o same jobs old new before after → HonestyLasts o old new
 lasts_through_batch o same [] old new before after legal is n v c honest = subst (λ s. IsHonest o (recorded s) n v c) (sym is.0) honest
 lasts_through_batch o same (job ∷ jobs) old new before after legal (mid, between, inl taken, rest) n v c honest =

@@ -34,7 +34,7 @@ use Rattle.lv_live.specs.Follows.{ClaimsAlike, ClaimsFollow, HaveRows, TableFoll
 use Rattle.lv_live.specs.Kept.{IsLive}
 use Rattle.lv_live.specs.State.{LiveState, recorded}
 
--- the list after an edit has its room where the indices that it wrote at have
+-- the list after an edit has its room if the indices that it wrote at have
 pub room_after : (xs ys : List ℤ) (e : Edit) (indices : List ℕ) (blocks : ℕ) → applied xs e ≡ Some ys → indices_written xs e ≡ indices → length xs ≤ 8 * blocks → HaveRows blocks indices → length ys ≤ 8 * blocks
 room_after xs ys (Push x) indices blocks made written room rows =
     let here : HaveRows blocks (length xs ∷ []) = subst (HaveRows blocks) (sym written) rows in
@@ -53,7 +53,7 @@ room_after xs ys (Truncate k) indices blocks made written room rows =
 pub kept_followed : {S : Type 0} (t u : Table S) (indices : List ℕ) (edit size : ℕ) → TableFollows t u indices edit size → (n : Node) → kept_in u n ≡ kept_in t n
 kept_followed t u indices edit size (mid, touch, sized) n = sized.kept n ∙ touch.kept n
 
--- a block that has one of some indices is hinted where the block of each is
+-- a block that has one of some indices is hinted if the block of each is
 pub block_hinted : (c : ClaimTable) (indices : List ℕ) (n : Node) → n.level ≡ 1 → AllByRecursion (λ i. is_hinted c (over 1 i) ≡ true) indices → list_any (covers n) indices ≡ true → is_hinted c n ≡ true
 block_hinted c [] n block hinted covered = absurd (false≢true covered)
 block_hinted c (i ∷ rest) n block hinted covered =

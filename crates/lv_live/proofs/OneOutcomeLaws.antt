@@ -1,4 +1,4 @@
--- Where memory is never wanted, a run has one outcome: its events decide the replies and the record after them.
+-- If no reply is `NoMemory`, a run has one outcome: its events decide the replies and the record after them.
 use Rattle.std.proofs.Common.{◌≡◌, ◌≢◌, ℕ, Bool, true, false, Option, Some, None, Result, Ok, Err, List, [], ◌∷◌, ◌+◌, length, refl, sym, ap, ◌∙◌, subst, inl, inr}
 use Rattle.std.proofs.lemmas.Bool.{cases_order, true≢false}
 use Rattle.std.proofs.lemmas.List.Elements.{All-head, All-tail}
@@ -35,7 +35,7 @@ same_of r next is = subst (SameRecord r) is record { edits = refl; issued = refl
 both_records : (r next after : Record) → SameRecord r next → SameRecord r after → next ≡ after
 both_records r next after same other = sym (one_record r next same) ∙ one_record r after other
 
--- what is refused is not granted
+-- a call that nothing refuses isn't one that is refused for a known reason
 refused_or_granted : (known : Option Refusal) (refusal : Refusal) → known ≡ None → known ≡ Some refusal → ⊥
 refused_or_granted known refusal granted refused = cc
 
@@ -43,7 +43,7 @@ refused_or_granted known refusal granted refused = cc
 same_refusal : (known : Option Refusal) (a b : Refusal) → known ≡ Some a → known ≡ Some b → a ≡ b
 same_refusal known a b first second = cc
 
--- a refusal that is none for want of memory is what is known
+-- a refusal other than `NoMemory` is the known one
 one_refusal : (known : Option Refusal) (a b : Refusal) → IsRefusal known a → IsRefusal known b → a ≢ NoMemory → b ≢ NoMemory → a ≡ b
 one_refusal known a b first second room other =
     elim first [
@@ -54,7 +54,7 @@ one_refusal known a b first second room other =
       | inr want ↦ absurd (room want.1)
     ]
 
--- of a range or an edit that nothing refuses a refusal is for want of memory
+-- if nothing refuses a range or an edit, its only refusal is `NoMemory`
 wanted_memory : (known : Option Refusal) (refusal : Refusal) → known ≡ None → IsRefusal known refusal → refusal ≡ NoMemory
 wanted_memory known refusal granted is = elim is [ inl refused ↦ absurd (refused_or_granted known refusal granted refused) | inr want ↦ want.1 ]
 
@@ -148,7 +148,7 @@ module _ {S : Type 0} (o : Operations S) (limits : Bounds) where
   one_step r next after (event.Scan lo hi inclusive) answered other (a, is, first, same) (b, was, second, same_too) room had =
       (is ∙ ap scan_reply (one_scan r lo hi inclusive a b first second (λ want. room (is ∙ want)) (λ want. had (was ∙ want))) ∙ sym was, both_records r next after same same_too)
 
-  -- a run that meets no want of memory has one list of replies, and one record at its end
+  -- a run in which no reply is `NoMemory` has one list of replies, and one record at its end
   pub one_outcome : (r next after : Record) (events : List Event) (replies answers : List (ReplyOf S)) → Run o limits r events replies next → AllHadRoom replies
       → Run o limits r events answers after → AllHadRoom answers → (replies ≡ answers) × (next ≡ after)
   one_outcome r next after [] [] [] first room second had = (refl, first ∙ sym second)

@@ -38,7 +38,7 @@ use Rattle.lv_live.proofs.RememberLaws.{remembers_same}
 abbrev after : Record → History → Record
 after r h = record r { edits = h.journal }
 
--- every node that wants a job after pushes in a block is hinted, where the block is, and each that wanted one before
+-- every node that wants a job after pushes in a block is hinted, if the block is, and each that wanted one before
 hints_run : (r : Record) (h : History) (xs : List ℤ) (i : ℕ) (d : ClaimTable) → replayed h.journal ≡ Some (list_of h.journal) → AreOfBlock (length (list_of h.journal)) (length xs) i → is_hinted d (over 1 i) ≡ true → ((m : Node) (v : ℕ) → r.kept m ≡ Some v → v ≤ length h.journal)
     → ((n : Node) → wants_job (after r h) n ≡ true → is_hinted d n ≡ true) → (n : Node) → wants_job (after r (with_pushes h xs)) n ≡ true → is_hinted d n ≡ true
 hints_run r h [] i d legal of hinted past before = before

@@ -16,7 +16,7 @@ use Rattle.lv_refresh.proofs.RecordLaws.{fresh_agrees}
 use Rattle.lv_live.specs.Step.{Costs, Reduces}
 
 module _ {S : Type 0} (o : Operations S) (es : List Edit) (t : Table S) (c : ClaimTable) (agrees : Agrees o es t) where
-  -- the same nodes are fresh by table and by record
+  -- a node is fresh by the table if and only if it is by the record
   same_fresh : fresh_in t ≡ is_fresh (record_of es t c)
   same_fresh = λ i n. fresh_agrees o es t c agrees n i
 
@@ -26,7 +26,7 @@ module _ {S : Type 0} (o : Operations S) (es : List Edit) (t : Table S) (c : Cla
   reduces_by lo hi (Ok answer) is refused cost = (is, rw (← same_fresh) cost)
   reduces_by lo hi (Err refusal) is refused cost = refused
 
-  -- and the same, counted alone
+  -- a reduction's reads by the record, where only the counts are returned
   pub costs_by : (lo hi : ℕ) (result : Result Reads Refusal) → IfOk result (λ reads. IsCost (fresh_in t) lo hi reads.cells reads.summaries) → OnOk result (range_refusal es lo hi ≡ None)
       → IfErr result (λ refusal. range_refusal es lo hi ≡ Some refusal) → Costs (record_of es t c) lo hi result
   costs_by lo hi (Ok reads) cost granted refused = (granted, rw (← same_fresh) cost)

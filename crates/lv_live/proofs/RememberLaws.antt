@@ -48,7 +48,7 @@ module _ {B S : Type 0} where
         let edit : touched_in new.table n ≡ touched_in old.table n = after.agrees.touched n node ∙ touched ∙ sym (live.agrees.touched n node) in
         fresh_in-same old.table new.table n still edit (kept n) ∙ fresh
 
-    -- and so does one whose table grew and then followed an edit
+    -- a live vector whose table grew and then followed an edit remembers too
     pub remembers_edit : (s : LiveState B S) (h : History) (t u : Table S) (d : ClaimTable) (indices : List ℕ) (edit size : ℕ) → IsLive o s → IsLive o (record s { history = h; table = u; claims = d }) → AnswersAlike s.table t → TableFollows t u indices edit size → Remembers s (record s { history = h; table = u; claims = d })
     remembers_edit s h t u d indices edit size live after alike (mid, touch, sized) =
         remembers_same s (record s { history = h; table = u; claims = d }) live after (λ n. sized.kept n ∙ touch.kept n ∙ alike.kept n)

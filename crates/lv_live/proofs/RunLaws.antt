@@ -1,4 +1,4 @@
--- Every run answers edits and queries by the edits alone.
+-- In every run the replies to edits and queries are decided by the edits only.
 use Rattle.std.proofs.Common.{◌≡◌, ◌≢◌, ℕ, Bool, true, false, not, Option, Some, None, Result, Ok, Err, List, [], ◌∷◌, length, refl, sym, ap, ◌∙◌, inl, inr}
 use Rattle.std.proofs.lemmas.Bool.{cases_Bool, cond-false, cond-true}
 use Rattle.std.proofs.lemmas.List.Elements.{All-head, All-tail}
@@ -40,11 +40,11 @@ claimed_edits r None = refl
 claimed_edits r (Some job) = refl
 
 module _ {S : Type 0} (o : Operations S) (limits : Bounds) where
-  -- an event met want of memory
+  -- the reply to an event for which memory ran out
   abbrev refused_for_want : ReplyOf S
   refused_for_want = reply.Refused NoMemory
 
-  -- an edit that did not meet want of memory: its reply, and the edits after it
+  -- an edit that wasn't refused for lack of memory: its reply, and the edits after it
   plain_edit : (r next : Record) (edit : Edit) (answer : Result Receipt Refusal) → EditStep limits r edit answer next → edit_reply answer ≢ refused_for_want
       → (without_counts {S = S} (edit_reply answer) ≡ plain_edit_reply r.edits edit (verdict_of limits r.edits edit)) × (next.edits ≡ edits_with r.edits edit (verdict_of limits r.edits edit))
   plain_edit r next edit (Ok receipt) step room =
@@ -65,7 +65,7 @@ module _ {S : Type 0} (o : Operations S) (limits : Bounds) where
       ∙ ap (plain_reduction_reply o r.edits lo hi) (sym is.granted)
   plain_reduces r lo hi (Err refusal) refused = ap (plain_reduction_reply o r.edits lo hi) (sym refused)
 
-  -- a scan that did not meet want of memory
+  -- a scan that wasn't refused for lack of memory
   plain_scans : (r : Record) (lo hi : ℕ) (inclusive : Bool) (answer : Result (Scan S) Refusal) → Scans o r lo hi inclusive answer → scan_reply answer ≢ reply.Refused NoMemory
       → without_counts (scan_reply answer) ≡ plain_scan_reply o r.edits lo hi inclusive (range_refusal r.edits lo hi)
   plain_scans r lo hi inclusive (Ok scan) is room =
@@ -103,7 +103,7 @@ module _ {S : Type 0} (o : Operations S) (limits : Bounds) where
   refresh_edits edits (event.Reduce lo hi) is = refl
   refresh_edits edits (event.Scan lo hi inclusive) is = refl
 
-  -- every run answers edits and queries by the edits alone
+  -- in every run the replies to edits and queries are decided by the edits only
   pub run_is_plain : (r next : Record) (events : List Event) (replies : List (ReplyOf S)) → Run o limits r events replies next → AllHadRoom replies
       → answers_in events replies ≡ plain_answers o limits r.edits (without_refresh events)
   run_is_plain r next [] [] run room = refl

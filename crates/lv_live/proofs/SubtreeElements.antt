@@ -43,7 +43,7 @@ module _ (es : List Edit) (number : ℕ) where
       ∙ ap (take 8) (drop-drop (8 * k) (number * 4096) (list_of es) ∙ ap (λ at. drop at (list_of es)) place)
       )
 
-  -- where the node's elements are these, so are those of each block
+  -- if the node's elements are these, each block's elements are the eight at its place among them
   pub block_of_same : (xs : List ℤ) (k : ℕ) → k < 512 → xs ≡ elements_under es (node_at 4 number) → slice_range xs (8 * k) (8 * k + 8) ≡ take 8 (drop ((512 * number + k) * 8) (list_of es))
   block_of_same xs k small same = eight_at xs k ∙ ap (λ xs. take 8 (drop (8 * k) xs)) same ∙ sym (block_in k small)
 
@@ -54,7 +54,7 @@ module _ (es : List Edit) (number : ℕ) where
       let from = drop (number * 4096) (list_of es) in
       ap (λ m. take m (take 4096 from)) many ∙ take-take 4096 4096 from (omega arith)
 
-  -- so are those of a list as long
+  -- a list of 4,096 elements that begins with as many of the node's is the node's
   pub all_same : (xs : List ℤ) (k : ℕ) → k ≡ 512 → length xs ≡ 4096 → take (8 * k) xs ≡ take (8 * k) (elements_under es (node_at 4 number)) → xs ≡ elements_under es (node_at 4 number)
   all_same xs k is long same = sym (take_all (8 * k) xs (omega (arith, is, long))) ∙ same ∙ all_in k is
 

@@ -24,7 +24,7 @@ use Rattle.lv_live.specs.Kept.{IsLive}
 use Rattle.lv_live.specs.State.{LiveState, Remembers, recorded}
 use Rattle.lv_live.specs.Subtrees.{HasSubtree, Takes}
 
--- where a node of a subtree lies among its elements
+-- the place of a node of a subtree among the subtree's elements
 record Span (level k number : ℕ) : Type 0 where
   low : 4096 * number ≤ k * 8 ^ level
   high : k * 8 ^ level + 8 ^ level ≤ 4096 * number + 4096
@@ -61,7 +61,7 @@ inside_below number size n inside is =
     let wide : (n.number + 1) * 8 ^ n.level ≡ n.number * 8 ^ n.level + 8 ^ n.level = omega arith in
     le-leb ((n.number + 1) * 8 ^ n.level) size (omega (arith, wide, i.span.high, inside))
 
--- so it is whole, where the subtree is
+-- so it is whole, if the subtree is
 pub whole_inside : (es : List Edit) (number : ℕ) (n : Node) → IsInside number (length (list_of es)) → is_in_subtree number n ≡ true → is_whole es n ≡ true
 whole_inside es number n inside is = and_from _ _ (inside_of number n is).node (inside_below number (length (list_of es)) n inside is)
 

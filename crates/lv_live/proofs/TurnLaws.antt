@@ -66,7 +66,7 @@ module _ {B S : Type 0} (o : Operations S) where
       let next : n + 1 ≡ suc n = omega arith in
       rw (← next) (one_taken s mid t between c n (each_taken s mid between n agrees so) one)
 
-  -- all is kept where a table agrees still, and each node that wants a job is hinted at
+  -- all is kept if a table agrees still, and each node that wants a job is hinted at
   pub live_swept : (s : LiveState B S) → IsLive o s → (t : Table S) (c : ClaimTable) → Agrees o s.history.journal t → AreHints (record_of s.history.journal t c) c → claim_blocks c ≡ claim_blocks s.claims → IsLive o (record s { table = t; claims = c })
   live_swept s live t c agrees hints blocks =
       record { limits = live.limits; agrees = agrees; hints = hints; grown = omega (arith, live.grown, live.agrees.size, agrees.size, blocks) }

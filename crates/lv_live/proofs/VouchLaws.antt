@@ -1,4 +1,4 @@
--- Contents gathered from a table that agrees are those that stand, and no others are.
+-- Contents gathered from a table that agrees with a record are current, and no others are.
 use Rattle.std.proofs.Common.{◌≡◌, ℕ, ◌<◌, true, false, Some, List, get_or, slice_get, sym, ap, ◌∙◌}
 use Rattle.std.proofs.lemmas.Bool.{true≢false}
 use Rattle.lv_geometry.specs.declared.nodes.Node.{Node}
@@ -43,18 +43,18 @@ module _ {S : Type 0} (o : Operations S) (within : S → ℕ → Type 0) (laws :
       let is = entry_of_fresh t (child n k) (fresh_agrees o es t c agrees (child n k) ∙ each_child_fresh (record_of es t c) n fresh k small) in
       is.1 ∙ ap Some (agrees.folds (child n k) is.0 is.1)
 
-  -- gathered summaries stand
+  -- gathered summaries are current
   pub stands_of_children : (n : Node) (x : Eight S) → 1 < n.level → children_fresh_in t n ≡ true → HaveEntries n x → Stands o (record_of es t c) n (Children x)
   stands_of_children n x above ready are =
       let fresh = sym (children_agree o es t c agrees n) ∙ ready in
       (above, fresh, λ k small. are k small ∙ child_entry n k small fresh)
 
-  -- summaries that stand are those gathered
+  -- summaries that are current are those gathered
   pub children_of_stands : (n : Node) (x y : Eight S) → 1 < n.level → children_fresh_in t n ≡ true → HaveEntries n x → Stands o (record_of es t c) n (Children y) → x ≡ y
   children_of_stands n x y above ready are stands =
       let here = stands_of_children n x above ready are in
       eight_of_list x y (summaries_in_order o within laws es n x here.2 ∙ sym (summaries_in_order o within laws es n y stands.2))
 
-  -- where a child isn't fresh no summaries stand
+  -- if a child isn't fresh, no summaries are current
   pub nothing_stands : (n : Node) (y : Eight S) → children_fresh_in t n ≡ false → Stands o (record_of es t c) n (Children y) → ⊥
   nothing_stands n y stale stands = true≢false (sym (children_agree o es t c agrees n ∙ stands.1) ∙ stale)

@@ -79,7 +79,7 @@ same_delivered old new name jobs has = by_accepted (delivery_of (recorded old) n
     by_accepted Held has = record { edits = ap (λ h. h.journal) has.history; issued = refl; claimed = has.claimed; kept = has.kept }
     by_accepted (Stale now) has = record { edits = ap (λ h. h.journal) has.history; issued = refl; claimed = has.claimed; kept = has.kept }
 
--- where contents stand here, they can be made anew
+-- contents that are current can be made anew
 remake_of_standing : {S : Type 0} (o : Operations S) (r : Record) (n : Node) (contents : Contents S) → Stands o r n contents → 1 < n.level → children_fresh r n ≡ true
 remake_of_standing o r n (Elements xs) stands above = absurd (omega (arith, stands.0, above))
 remake_of_standing o r n (Children summaries) stands above = stands.1
@@ -90,7 +90,7 @@ module _ {B S : Type 0} (o : Operations S) where
   own_after_edit old new e jobs same journal own =
       all_mono (IsOwn o old) (IsOwn o new) jobs (λ job is. (is.0 ∙ sym same.body, honest_same o (after_edit (recorded old) e) (recorded new) job.node job.version job.contents journal same.kept (honest_after_edit o (recorded old) job.node job.version job.contents e is.1))) own
 
-  -- jobs stay own where neither edits nor kept versions change
+  -- jobs stay own if neither edits nor kept versions change
   pub own_same : (old new : LiveState B S) (jobs : List (Carried B S)) → new.body ≡ old.body → new.history ≡ old.history → ((n : Node) → (recorded new).kept n ≡ (recorded old).kept n) → AllOwn o old jobs → AllOwn o new jobs
   own_same old new jobs body history kept own =
       all_mono (IsOwn o old) (IsOwn o new) jobs (λ job is. (is.0 ∙ sym body, honest_same o (recorded old) (recorded new) job.node job.version job.contents (ap (λ h. h.journal) history) kept is.1)) own
@@ -136,7 +136,7 @@ module _ {B S : Type 0} (o : Operations S) where
   step_claim old new None jobs next has =
       (None, next, refl, record { edits = ap (λ h. h.journal) has.history; issued = refl; claimed = has.claimed; kept = has.kept })
 
-  -- jobs stay own under a claim, and so is its job
+  -- jobs stay own under a claim, and the job that it hands out is own too
   pub own_claim : (old new : LiveState B S) (job : Option (Carried B S)) (jobs : List (Carried B S)) → HasClaim old new (option_map node_and_version job) → IfSome job (λ job. job.body ≡ old.body) → IfSome job (λ job. IsHonest o (recorded new) job.node job.version job.contents) → AllOwn o old jobs → AllOwn o new (jobs_with jobs job)
   own_claim old new (Some job) jobs has body honest own = All-push (IsOwn o new) jobs job (own_same old new jobs has.body has.history has.kept own) (body ∙ sym has.body, honest)
   own_claim old new None jobs has body honest own = own_same old new jobs has.body has.history has.kept own
@@ -167,12 +167,12 @@ module _ {B S : Type 0} (o : Operations S) where
   step_reduction s lo hi (Ok answer) jobs is = (Ok answer, refl, is, SameRecord-self)
   step_reduction s lo hi (Err refusal) jobs is = (Err refusal, refl, is, SameRecord-self)
 
-  -- and so is a scan
+  -- a scan is a step that changes nothing
   pub step_scan : (s : LiveState B S) (lo hi : ℕ) (inclusive : Bool) (answer : Result (Scan S) Refusal) (jobs : List (Carried B S)) → Scans o (recorded s) lo hi inclusive answer → Step o s.history.limits (with_issued s jobs) (event.Scan lo hi inclusive) (scan_reply answer) (with_issued s jobs)
   step_scan s lo hi inclusive (Ok scan) jobs is = (Ok scan, refl, is, SameRecord-self)
   step_scan s lo hi inclusive (Err refusal) jobs is = (Err refusal, refl, is, SameRecord-self)
 
-  -- a job of a number is own where all are
+  -- a job of a number is own if all are
   own_job : (s : LiveState B S) (jobs : List (Carried B S)) (k : ℕ) (job : Carried B S) → AllOwn o s jobs → job_at jobs k ≡ Some job → IsOwn o s job
   own_job s jobs k job own is = by_number (nat_eq k 0) is
     where
@@ -184,7 +184,7 @@ module _ {B S : Type 0} (o : Operations S) where
       by_number true is = absurd (none-some job is)
       by_number false is = own_at (slice_get_cases jobs (k - 1)).1 is
 
-  -- a world stays one where the journal does
+  -- a world stays one if the journal does
   world_same : (old new : LiveState B S) (jobs more : List (Carried B S)) → new.history ≡ old.history → IsWorld o old jobs → AllOwn o new more → IsWorld o new more
   world_same old new jobs more history world own = record { limits = rw history world.limits; own = own }
 
@@ -200,11 +200,11 @@ module _ {B S : Type 0} (o : Operations S) where
   pub world_delivery : (old new : LiveState B S) (n : Node) (v : ℕ) (jobs : List (Carried B S)) → HasDelivery old new n v (delivery_of (recorded old) n v) → IsWorld o old jobs → IsWorld o new jobs
   world_delivery old new n v jobs has world = world_same old new jobs jobs has.history world (own_after_delivery old new n v jobs world.limits.legal has world.own)
 
-  -- where claims are forgotten
+  -- if claims are forgotten
   pub world_forget : (old new : LiveState B S) (jobs : List (Carried B S)) → HasNoClaims old new → IsWorld o old jobs → IsWorld o new jobs
   world_forget old new jobs has world = world_same old new jobs jobs has.history world (own_same old new jobs has.body has.history has.kept world.own)
 
-  -- and where what is pending is completed
+  -- and if what is pending is completed
   pub world_settle : (old new : LiveState B S) (jobs : List (Carried B S)) → SameLive old new → IsWorld o old jobs → IsWorld o new jobs
   world_settle old new jobs same world = world_same old new jobs jobs same.history world (own_same old new jobs same.body same.history same.kept world.own)
 

@@ -25,7 +25,7 @@ pub size_written : (h : History) (i : ℕ) (x : ℤ) → replayed h.journal ≡ 
 size_written h i x legal inside =
     ap length (list_of-snoc h.journal (Write i x) _ legal (applied_write (list_of h.journal) i x inside)).1 ∙ length-set (list_of h.journal) i x
 
--- so do many
+-- many writes leave the list as long, and the journal legal
 pub record Overwritten (h new : History) (indices : List ℕ) : Type 0 where
   pub legal : replayed new.journal ≡ Some (list_of new.journal)
   pub edits : length new.journal ≡ length h.journal + length indices

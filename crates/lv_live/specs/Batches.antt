@@ -23,7 +23,7 @@ abbrev pub job_at_block : {B : Type 0} → B → List Edit → ℕ → BlockJob 
 job_at_block body edits number =
     record { number = number; version = touched_by edits (node_at 1 number); elements = elements_under edits (node_at 1 number); body = body }
 
--- the same as a list, which is empty where the block isn't due
+-- the job of a block as a list, which is empty if the block isn't due
 abbrev pub due_at : {B : Type 0} → B → Record → ℕ → List (BlockJob B)
 due_at body r number = if is_due r number then job_at_block body r.edits number ∷ [] else []
 
@@ -36,7 +36,7 @@ due_jobs body r first (suc n) = due_jobs body r first n ++ due_at body r (first 
 abbrev pub none_told : Batched
 none_told = record { installed = 0; held = 0; stale = 0; strangers = 0 }
 
--- how many outcomes were told
+-- how many outcomes were counted
 abbrev pub all_told : Batched → ℕ
 all_told told = told.installed + told.held + told.stale + told.strangers
 
@@ -46,8 +46,8 @@ told_with told Installed = record told { installed = told.installed + 1 }
 told_with told Held = record told { held = told.held + 1 }
 told_with told (Stale now) = record told { stale = told.stale + 1 }
 
--- an outcome was taken in where it is vouched for, as one alone would be, and counted as what became of it; else it is counted as a
--- stranger, and nothing has changed
+-- an outcome that is vouched for was taken in as a single one is, and counted by what became of it; any other is counted as a stranger, and
+-- changes nothing
 abbrev pub DeliversOne : {B S : Type 0} → Operations S → (B → Type 0) → BlockJob B → LiveState B S → LiveState B S → Batched → Batched → Type 0
 DeliversOne o same job old new before after =
     (Vouched o (recorded old) (same job.body) (node_at 1 job.number) job.version (Elements job.elements)
@@ -57,12 +57,12 @@ DeliversOne o same job old new before after =
     × (new ≡ old)
     × (after ≡ record before { strangers = before.strangers + 1 }))
 
--- the same of each of some outcomes, in order, from some counts on
+-- each of some outcomes was taken in or is a stranger, in order, with the counts continued from some others
 abbrev pub DeliversFrom : {B S : Type 0} → Operations S → (B → Type 0) → List (BlockJob B) → LiveState B S → LiveState B S → Batched → Batched → Type 0
 DeliversFrom o same [] old new before after = (new ≡ old) × (after ≡ before)
 DeliversFrom {B} {S} o same (job ∷ jobs) old new before after =
     (mid : LiveState B S) × (between : Batched) × DeliversOne o same job old mid before between × DeliversFrom o same jobs mid new between after
 
--- the same of all
+-- each of all outcomes was taken in or is a stranger, in order, with the counts from 0 on
 abbrev pub DeliversEach : {B S : Type 0} → Operations S → (B → Type 0) → List (BlockJob B) → LiveState B S → LiveState B S → Batched → Type 0
 DeliversEach o same jobs old new told = DeliversFrom o same jobs old new none_told told

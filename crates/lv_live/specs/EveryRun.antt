@@ -1,5 +1,5 @@
--- What holds of every run, also of one that meets want of memory: which edits it accepted, and that each of its answers is true of
--- those that were accepted before it.
+-- What holds of every run, also of one in which memory runs out: which edits it accepted, and that each of its answers is true of those that were
+-- accepted before it.
 use Rattle.std.specs.Prelude.{⊤, ◌≡◌, ℕ, ◌+◌, Bool, true, false, Some, Result, IfOk, List, [], ◌∷◌, ◌++◌, length, take, slice_get, if◌then◌else◌}
 use Rattle.lv_geometry.specs.declared.refusals.Refusal.{Refusal}
 use Rattle.lv_bodies.specs.Body.{Operations}
@@ -60,8 +60,8 @@ module _ {S : Type 0} where
   accepted_in (event ∷ events) [] = []
   accepted_in (event ∷ events) (answered ∷ replies) = made_by event answered ++ accepted_in events replies
 
-  -- what an event is answered is true of a list of edits, of which the first e were accepted before it: an accepted edit is the next
-  -- of them, with its receipt there; a reduction and a scan are answered at edit e. What is refused tells nothing of them.
+  -- the reply to an event is true of a list of edits whose first e were accepted before it: an accepted edit is the next of them, with its
+  -- receipt there; a reduction and a scan are answered at edit e. A refusal says nothing of them.
   abbrev pub IsTrueOf : Operations S → List Edit → ℕ → Event → ReplyOf S → Type 0
   IsTrueOf o edits e (event.Edit edit) answered =
       (answer : Result Receipt Refusal) × (answered ≡ edit_reply answer) × IfOk answer (IsReceiptAt edits e edit)
@@ -74,7 +74,7 @@ module _ {S : Type 0} where
   IsTrueOf o edits e (event.Scan lo hi inclusive) answered =
       (answer : Result (Scan S) Refusal) × (answered ≡ scan_reply answer) × IfOk answer (IsScanAt o edits e lo hi inclusive)
 
-  -- so is each answer of a run, before which the first e were accepted: behind an edit that was accepted it is one more
+  -- each reply of a run is true of a list of edits, whose first e were accepted before that run; behind an edit that was accepted, e is one more
   abbrev pub AreTrueOf : Operations S → List Edit → ℕ → List Event → List (ReplyOf S) → Type 0
   AreTrueOf o edits e [] [] = ⊤
   AreTrueOf o edits e [] (answered ∷ replies) = ⊥

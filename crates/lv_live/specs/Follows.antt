@@ -41,7 +41,7 @@ pub record ClaimsFollow (old new : ClaimTable) (indices : List ℕ) : Type 0 whe
   pub alike : ClaimsAlike old new
   pub blocks : AllByRecursion (λ i. is_hinted new (over 1 i) ≡ true) indices
 
--- the claims after a delivery to a node: its parent is hinted at where it was installed
+-- the claims after a delivery to a node: its parent is hinted at if the summary was installed
 abbrev pub ClaimsHear : ClaimTable → ClaimTable → Node → Accepted → Type 0
 ClaimsHear old new node Installed = HintsNode old new (parent node)
 ClaimsHear old new node Held = new ≡ old

@@ -1,4 +1,4 @@
--- What edits and queries are answered by the edits alone, with no word of refresh.
+-- The replies to edits and queries in terms of the edits only, without refresh.
 use Rattle.std.specs.Prelude.{◌≢◌, ℕ, Bool, true, false, not, Option, Some, None, List, [], ◌∷◌, ◌++◌, length, filter, All, if◌then◌else◌}
 use Rattle.lv_geometry.specs.Bounds.{Bounds}
 use Rattle.lv_geometry.specs.declared.refusals.Refusal.{Refusal}
@@ -13,7 +13,7 @@ use Rattle.lv_live.specs.declared.events.Event.TheVariants as event
 use Rattle.lv_live.specs.declared.replies.ReplyOf.{ReplyOf}
 use Rattle.lv_live.specs.declared.replies.ReplyOf.TheVariants as reply
 
--- whether an event is of refresh alone: a claim, a delivery, or that claims are forgotten
+-- whether an event is only of refresh: a claim, a delivery, or that claims are forgotten
 abbrev pub is_refresh : Event → Bool
 is_refresh (event.Edit edit) = false
 is_refresh event.Settle = false
@@ -27,7 +27,7 @@ is_refresh (event.Scan lo hi inclusive) = false
 abbrev pub without_refresh : List Event → List Event
 without_refresh events = filter (λ e. not (is_refresh e)) events
 
--- the edits after one more, which is added where nothing refuses it
+-- the edits after one more, which is added if nothing refuses it
 abbrev pub edits_with : List Edit → Edit → Option Refusal → List Edit
 edits_with edits edit None = edits ++ edit ∷ []
 edits_with edits edit (Some refusal) = edits
@@ -43,7 +43,7 @@ edits_after limits edits (event.Reduce lo hi) = edits
 edits_after limits edits (event.Scan lo hi inclusive) = edits
 
 module _ {S : Type 0} where
-  -- a reply, without the counts of what was read for it
+  -- a reply, without the counts of reads
   abbrev pub without_counts : ReplyOf S → ReplyOf S
   without_counts (reply.Answered answer) = reply.Answered (record answer { cells_read = 0; summaries_read = 0 })
   without_counts (reply.Did receipt) = reply.Did receipt
@@ -62,29 +62,28 @@ module _ {S : Type 0} where
   answers_in (event ∷ events) (answered ∷ replies) =
       if is_refresh event then answers_in events replies else without_counts answered ∷ answers_in events replies
 
-  -- no event met want of memory
+  -- no event was refused for lack of memory
   abbrev pub AllHadRoom : List (ReplyOf S) → Type 0
   AllHadRoom replies = All (λ answered. answered ≢ reply.Refused NoMemory) replies
 
-  -- an edit's receipt where nothing refuses it, else its refusal
+  -- an edit's receipt if nothing refuses it, else its refusal
   abbrev pub plain_edit_reply : List Edit → Edit → Option Refusal → ReplyOf S
   plain_edit_reply edits edit None = reply.Did (receipt_of edits edit)
   plain_edit_reply edits edit (Some refusal) = reply.Refused refusal
 
-  -- the plain left fold of a range, where nothing refuses it
+  -- the plain left fold of a range if nothing refuses it, else its refusal
   abbrev pub plain_reduction_reply : Operations S → List Edit → ℕ → ℕ → Option Refusal → ReplyOf S
   plain_reduction_reply o edits lo hi None =
       reply.Answered record { edit = length edits; value = fold_of o (slice_of edits lo hi); cells_read = 0; summaries_read = 0 }
   plain_reduction_reply o edits lo hi (Some refusal) = reply.Refused refusal
 
-  -- the running folds of a range, where nothing refuses it
+  -- the running folds of a range if nothing refuses it, else its refusal
   abbrev pub plain_scan_reply : Operations S → List Edit → ℕ → ℕ → Bool → Option Refusal → ReplyOf S
   plain_scan_reply o edits lo hi inclusive None =
       reply.Scanned record { edit = length edits; values = scan_of inclusive o (slice_of edits lo hi) }
   plain_scan_reply o edits lo hi inclusive (Some refusal) = reply.Refused refusal
 
-  -- what an edit or a query is answered after some edits; of claims, deliveries and forgetting nothing is said here, and
-  -- `Settled` stands in their places
+  -- the reply to an edit or a query after some edits; of claims, deliveries and forgetting nothing is said here, and `Settled` fills their places
   abbrev pub plain_answer : Operations S → Bounds → List Edit → Event → ReplyOf S
   plain_answer o limits edits (event.Edit edit) = plain_edit_reply edits edit (verdict_of limits edits edit)
   plain_answer o limits edits event.Settle = reply.Settled

@@ -22,7 +22,7 @@ pub record LiveState (B S : Type 0) : Type 0 where
   pub table : Table S
   pub claims : ClaimTable
 
--- a vector's record: its edits, what is claimed and what is kept; its list of issued jobs is empty, and who keeps them puts them in
+-- a vector's record: its edits, what is claimed and what is kept. Its list of issued jobs is empty; whoever keeps these puts them in
 abbrev pub recorded : {B S : Type 0} → LiveState B S → Record
 recorded s = record_of s.history.journal s.table s.claims
 
@@ -56,12 +56,12 @@ HasClaim old new job = IsRefreshed old new (claimed_with (recorded old).claimed 
 abbrev pub HasNoClaims : {B S : Type 0} → LiveState B S → LiveState B S → Type 0
 HasNoClaims old new = IsRefreshed old new (λ n. None) (recorded old).kept
 
--- what was delivered is kept where it was installed, and nothing else has changed
+-- a summary that was delivered is kept if it was installed, and nothing else has changed
 abbrev pub HasDelivery : {B S : Type 0} → LiveState B S → LiveState B S → Node → ℕ → Accepted → Type 0
 HasDelivery old new node version accepted = IsRefreshed old new (recorded old).claimed (after_accepted (recorded old) node version accepted).kept
 
--- what a job of a node carried at a version can be made anew: where the node is whole, and the edit of that number touched it last, it
--- stands here still, so that above level 1 the eight children are fresh
+-- the contents of a job of a node, handed out at a version, can be made anew: if the node is whole, and the edit of that number touched it last,
+-- the vector has the contents still, so that above level 1 the eight children are fresh
 pub record CanRemake (r : Record) (n : Node) (v : ℕ) : Type 0 where
   pub node : is_node n ≡ true
   pub ready : is_whole r.edits n ≡ true → touched_by r.edits n ≡ v → 1 < n.level → children_fresh r n ≡ true

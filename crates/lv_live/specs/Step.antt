@@ -63,12 +63,12 @@ module _ {S : Type 0} where
   claim_reply k None = reply.Idle
   claim_reply k (Some job) = reply.Claimed k job.0 job.1
 
-  -- the same, by number, node and version together
+  -- a claim is answered by number, node and version of its job, given together, or by none
   abbrev pub numbered_reply : Option (ℕ × Node × ℕ) → ReplyOf S
   numbered_reply None = reply.Idle
   numbered_reply (Some (k, n, v)) = reply.Claimed k n v
 
-  -- a delivery is answered by what became of it, or refused where no such job was issued
+  -- a delivery is answered by what became of it, or refused if no such job was issued
   abbrev pub delivery_reply : Record → Option (Node × ℕ) → ReplyOf S
   delivery_reply r None = reply.Refused NoJob
   delivery_reply r (Some job) = reply.Gave (delivery_of r job.0 job.1)
@@ -88,8 +88,8 @@ module _ {S : Type 0} where
   scan_reply (Ok scan) = reply.Scanned scan
   scan_reply (Err refusal) = reply.Refused refusal
 
--- an edit is accepted where nothing refuses it; else it is refused, for want of memory where nothing else refuses it, and
--- changes nothing
+-- an edit that is accepted is one to which no error applies; one that is refused changes nothing, and its error is the one that applies, or
+-- `NoMemory` if none applies
 abbrev pub EditStep : Bounds → Record → Edit → Result Receipt Refusal → Record → Type 0
 EditStep limits r edit (Ok receipt) next =
     (verdict_of limits r.edits edit ≡ None) × (receipt ≡ receipt_of r.edits edit) × SameRecord (after_edit r edit) next
@@ -106,7 +106,7 @@ abbrev pub Reduces : {S : Type 0} → Operations S → Record → ℕ → ℕ �
 Reduces o r lo hi (Ok answer) = IsAnswer o r.edits lo hi answer × IsCost (is_fresh r) lo hi answer.cells_read answer.summaries_read
 Reduces o r lo hi (Err refusal) = range_refusal r.edits lo hi ≡ Some refusal
 
--- so many reads are those that a reduction makes over a range, or the range is refused
+-- these are the counts of reads that a reduction makes over a range, or the range is refused
 abbrev pub Costs : Record → ℕ → ℕ → Result Reads Refusal → Type 0
 Costs r lo hi (Ok reads) = (range_refusal r.edits lo hi ≡ None) × IsCost (is_fresh r) lo hi reads.cells reads.summaries
 Costs r lo hi (Err refusal) = range_refusal r.edits lo hi ≡ Some refusal

@@ -15,17 +15,17 @@ wants_subtree r number = is_whole r.edits (node_at 4 number) && not (is_fresh r 
 abbrev pub copied_at : {B : Type 0} → B → List Edit → ℕ → Copied B
 copied_at body edits number = record { number = number; elements = elements_under edits (node_at 4 number); body = body }
 
--- the same, if it is worth a job
+-- the job of a subtree, if it is worth one
 abbrev pub subtree_job : {B : Type 0} → B → Record → ℕ → Option (Copied B)
 subtree_job body r number = if wants_subtree r number then Some (copied_at body r.edits number) else None
 
--- what a subtree's job carried stands here now: its body is the vector's, its node of level 4 is whole, and has these elements
+-- what a subtree's job carried is current: its body is the vector's, its node of level 4 is whole, and has these elements
 pub record SubtreeStands {B : Type 0} (same : B → Type 0) (edits : List Edit) (copied : Copied B) : Type 0 where
   pub body : same copied.body
   pub whole : is_whole edits (node_at 4 copied.number) ≡ true
   pub elements : copied.elements ≡ elements_under edits (node_at 4 copied.number)
 
--- an outcome may be taken in: it wasn't yet, and what it is of stands here
+-- an outcome may be taken in: it wasn't yet, and what its job carried is current
 abbrev pub CanTake : {B : Type 0} → (B → Type 0) → List Edit → Option (Copied B) → Type 0
 CanTake same edits None = ⊥
 CanTake same edits (Some copied) = SubtreeStands same edits copied

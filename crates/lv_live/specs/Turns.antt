@@ -1,4 +1,4 @@
--- A vector that refreshes itself: turns, in each of which the next job is claimed and its outcome delivered at once.
+-- A vector that refreshes itself in turns: each claims the next job and delivers its outcome at once.
 use Rattle.std.specs.Prelude.{◌≡◌, ℕ, zero, suc, ◌+◌, Some, List, [], ◌∷◌, length, map}
 use Rattle.lv_geometry.specs.declared.nodes.Node.{Node}
 use Rattle.lv_bodies.specs.Body.{Operations}
@@ -30,8 +30,8 @@ pub record TakesTurn {B S : Type 0} (old new : LiveState B S) : Type 0 where
   pub claims : HasClaim old mid (Some job)
   pub delivers : HasDelivery mid new job.0 job.1 Installed
 
--- a vector took n turns: it has the body and the history that it had, and the run of the turns' events leads from its record to
--- that of now, with the jobs issued
+-- a vector took n turns: it has the body and the history that it had, and the run of the turns' events leads from its record to its present
+-- record, with the jobs issued
 pub record TakesTurns {B S : Type 0} (o : Operations S) (old new : LiveState B S) (n : ℕ) : Type 0 where
   pub body : new.body ≡ old.body
   pub history : new.history ≡ old.history

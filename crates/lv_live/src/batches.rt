@@ -29,7 +29,7 @@ impl<B: Copy> Clone for BlockJob<B> {
 
 impl<B: Copy> Copy for BlockJob<B> {}
 
-/// What a block's job gave: the job, and the fold of its elements. Only `of` makes one, so that no other summary can stand in it.
+/// The outcome of a block's job: the job, and the fold of its elements. Only `of` makes one, so that it can hold no other summary.
 pub struct BlockOutcomeOf<B: Body<S = S>, S> {
     job: BlockJob<B>,
     summary: S,

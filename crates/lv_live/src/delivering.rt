@@ -1,4 +1,4 @@
-//! What is delivered to a node, made anew from what stands here.
+//! Deliveries to a node, whose summary is computed anew from the vector's current state.
 ghost use Rattle.std.specs.Prelude.{◌≡◌, ◌*◌, true};
 ghost use Rattle.lv_geometry.specs.Nodes.{is_below};
 ghost use Rattle.lv_bodies.specs.Body.{fold_of};
@@ -16,8 +16,8 @@ use lv_geometry::Node;
 use lv_refresh::{Claims, refresh_node};
 use lv_summary::{Accepted, Summaries};
 
-/// Delivers a summary of a version to a node. It is computed only where it is to be installed, and from what stands here then; the
-/// node's parent is hinted at so.
+/// Delivers a summary of a version to a node. It is computed only if it is to be installed, from the vector's current state; the node's parent is
+/// then hinted at.
 pub fn deliver_anew<B: Body>(
     claims: &mut Claims,
     history: &Edits,

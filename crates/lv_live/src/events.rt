@@ -1,4 +1,4 @@
-//! Events: what a live vector can be told to do.
+//! Events: the calls of a live vector, as plain values.
 use lv_edits::Edit;
 
 /// What may happen to a live vector.

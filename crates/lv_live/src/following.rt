@@ -104,7 +104,7 @@ fn touch_each<S: Copy>(table: &mut Summaries<S>, claims: &mut Claims, touched: T
     }
 }
 
-/// Hears of an edit: which indices it touched, its number, and the size after it.
+/// Takes note of an edit, given the indices that it touched, its number, and the size after it.
 #[inline(always)]
 pub fn follow<S: Copy>(
     table: &mut Summaries<S>,

@@ -9,8 +9,8 @@ use lv_refresh::Job;
 use std::alloc::Global;
 use std::marker::Model;
 
-/// The jobs that were handed out, each under its number: the first is 1. Of each, node and version alone are kept, 12 bytes in all:
-/// what it carried stands in the vector still, or is not asked for any more.
+/// The jobs that were handed out, each under its number: the first is 1. Only node and version of each are kept, 12 bytes in all: what it carried
+/// is still in the vector, or is not asked for any more.
 #[derive(Drop)]
 pub struct Issued<B: Body> {
     most: usize,
@@ -54,8 +54,7 @@ impl<B: Body> Issued<B> {
         }
     }
 
-    /// Makes room for so many more jobs. The jobs stay as they are. Refused with `NoMemory`, also where there would be more of them
-    /// than may be.
+    /// Makes room for so many more jobs. The jobs stay as they are. Refused with `NoMemory`, also if there would be more jobs than are allowed.
     pub fn make_room(&mut self, more: usize) -> Result<(), Refusal>
         ensures ok { OnOk result (more ≤ self.new.room) }
         ensures few { OnOk result (length self.old.jobs + more ≤ self.old.most) }
@@ -72,7 +71,7 @@ impl<B: Body> Issued<B> {
         Ok(())
     }
 
-    /// Keeps a job, for which room was made before, and tells its number.
+    /// Keeps a job, for which room was made before, and returns its number.
     pub fn keep(&mut self, job: Job<B>) -> u64
         requires { 0 < self.old.room }
         ensures number { result ≡ length self.old.jobs + 1 }

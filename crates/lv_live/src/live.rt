@@ -1,4 +1,4 @@
-//! The live vector: what it holds, its edits, and what is read of it.
+//! The live vector: what it holds, its edits, and its simple reads.
 ghost use Rattle.std.specs.Prelude.{◌≡◌, ℤ, None, List, [], length};
 ghost use Rattle.lv_geometry.specs.declared.nodes.Node.{Node};
 ghost use Rattle.lv_edits.specs.declared.edit.Edit.{Edit as AnEdit};
@@ -85,8 +85,8 @@ impl<B: Body> Live<B> {
         }
     }
 
-    /// Makes an edit that the verdict allows, so that it is refused with `NoMemory` alone. Room for summaries, claims, element and
-    /// journal is made before anything changes.
+    /// Makes an edit that the verdict allows, so that `NoMemory` is its only refusal. Room for summaries, claims, element and journal is made
+    /// before anything changes.
     // Inlined with all that it calls: who knows the edit's kind is left with what that kind needs.
     #[inline(always)]
     pub fn make(&mut self, edit: Edit) -> Result<Receipt, Refusal>
@@ -134,9 +134,8 @@ impl<B: Body> Live<B> {
         }
     }
 
-    /// Pushes values in order, all of them or none, and tells the number of the last edit. Refused as the first push that would be
-    /// refused, then with `NoMemory`: nothing has changed then. Room for summaries, claims, elements and journal is made before
-    /// anything changes.
+    /// Pushes values in order, all of them or none, and returns the number of the last edit. Refused as the first push that would be refused,
+    /// then with `NoMemory`: nothing has changed then. Room for summaries, claims, elements and journal is made before anything changes.
     pub fn push_all(&mut self, values: &[i64]) -> Result<u32, Refusal>
         ensures answer { AnswersAll self.old.history values.now result self.new.history }
         ensures limits { IsLegalInLimits self.new.history }
@@ -162,9 +161,8 @@ impl<B: Body> Live<B> {
         Ok(last)
     }
 
-    /// Writes values at indices in order, all of them or none, and tells the number of the last edit. An index may come twice: the later
-    /// value stays. Refused as the first write that would be refused, with `Worn` or `OutOfRange`, then with `NoMemory`: nothing has
-    /// changed then.
+    /// Writes values at indices in order, all of them or none, and returns the number of the last edit. An index may come twice: the later value
+    /// stays. Refused as the first write that would be refused, with `Worn` or `OutOfRange`, then with `NoMemory`: nothing has changed then.
     pub fn write_all(&mut self, indices: &[u32], values: &[i64]) -> Result<u32, Refusal>
         requires paired { length indices.now ≡ length values.now }
         ensures answer { AnswersEdits self.old.history (writes_at indices.now values.now) result self.new.history }
@@ -178,7 +176,7 @@ impl<B: Body> Live<B> {
         Ok(last)
     }
 
-    /// Why an edit would be refused, for want of memory apart; none where it would be accepted.
+    /// Why an edit would be refused, except for memory; none if it would be accepted.
     #[inline(always)]
     pub fn verdict(&self, edit: &Edit) -> Option<Refusal>
         ensures { result ≡ verdict_of self.now.history.limits self.now.history.journal edit.now }
@@ -186,14 +184,14 @@ impl<B: Body> Live<B> {
         self.history.verdict(edit)
     }
 
-    /// Why pushes, one after another, would be refused, want of memory apart; none where all would be accepted.
+    /// Why pushes, one after another, would be refused, except for memory; none if all would be accepted.
     pub fn verdict_of_pushes(&self, values: &[i64]) -> Option<Refusal>
         ensures { result ≡ verdict_of_pushes self.now.history values.now }
     {
         self.history.verdict_of_pushes(values)
     }
 
-    /// Why writes at indices, one after another, would be refused, want of memory apart; none where all would be accepted.
+    /// Why writes at indices, one after another, would be refused, except for memory; none if all would be accepted.
     pub fn verdict_of_writes(&self, indices: &[u32]) -> Option<Refusal>
         ensures { (xs : List ℤ) → length indices.now ≡ length xs → result ≡ verdict_of_edits self.now.history (writes_at indices.now xs) }
     {
@@ -244,7 +242,7 @@ impl<B: Body> Live<B> {
         self.body
     }
 
-    /// Says what every vector keeps, to a caller who sees no invariant: it is a live one. Computes nothing.
+    /// States the invariant of every vector for a caller who doesn't see it: it is a live one. Computes nothing.
     #[inline(always)]
     pub fn keeps(&self)
         ensures { IsLive (B.operations self.now.body) self.now }

@@ -104,8 +104,8 @@ fn play_claim<B: Body>(live: &mut Live<B>, issued: &mut Issued<B>) -> Reply<B>
     }
 }
 
-/// Claims a job for the least node that wants one, and keeps it under its number: that number, the node and the version, or none where
-/// no node wants a job. Room was made before. Takes no memory.
+/// Claims a job for the least node that wants one, and keeps it under its number. Returns that number, the node and the version, or none if no
+/// node wants a job. Room was made before. Takes no memory.
 pub fn claim<B: Body>(live: &mut Live<B>, issued: &mut Issued<B>) -> Option<(u64, Node, u32)>
     requires room { 0 < issued.old.room }
     ensures step { Step (B.operations live.old.body) live.old.history.limits (with_issued live.old issued.old.jobs) event.Claim (numbered_reply result) (with_issued live.new issued.new.jobs) }
@@ -134,8 +134,7 @@ fn play_delivery<B: Body>(live: &mut Live<B>, issued: &Issued<B>, k: u64) -> Rep
     }
 }
 
-/// Delivers what the job of a number gave, however late, and however often. Refused with `NoJob` where no such job was handed out.
-/// Takes no memory.
+/// Delivers what the job of a number gave, however late, and however often. Refused with `NoJob` if no such job was handed out. Takes no memory.
 pub fn deliver<B: Body>(live: &mut Live<B>, issued: &Issued<B>, k: u64) -> Result<Accepted, Refusal>
     requires world { IsWorld (B.operations live.old.body) live.old issued.now.jobs }
     ensures step { Step (B.operations live.old.body) live.old.history.limits (with_issued live.old issued.now.jobs) (event.Deliver k) (accepted_reply result) (with_issued live.new issued.now.jobs) }

@@ -8,8 +8,7 @@ use crate::following::{Touched, follow};
 use lv_refresh::Claims;
 use lv_summary::Summaries;
 
-/// Hears of pushes that were made from an index on, after so many edits: once for each block that they touched, of the last of them
-/// there.
+/// Takes note of pushes that were made from an index on, after so many edits: once for each block that they touched, by the last of them there.
 pub fn follow_pushes<S: Copy>(
     table: &mut Summaries<S>,
     claims: &mut Claims,

@@ -20,7 +20,7 @@ pub enum ReplyOf<S> {
     Gave(Accepted),
     /// No node is claimed.
     Forgotten,
-    /// The fold that was asked for, and what was read for it.
+    /// The answer to a reduction: its fold, and how much was read for it.
     Answered(Answer<S>),
     /// The running folds that were asked for.
     Scanned(Scan<S>),

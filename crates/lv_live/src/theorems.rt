@@ -27,10 +27,10 @@ ghost use Rattle.lv_live.specs.declared.replies.ReplyOf.TheVariants.{Refused};
 
 use lv_bodies::Body;
 
-/// Every run, also one that meets want of memory, leaves the edits that there were and then those that it accepted, in order; and
-/// each of its answers is true of these. Let e be the number of edits accepted before a query, and no other: a reduction is answered
-/// at edit e, and is the plain left fold of its range after the first e edits; a scan has its running folds. An accepted edit is the
-/// next one behind the first e, and its receipt is the one there.
+/// Every run, also one in which memory runs out, leaves the edits that there were and then those that it accepted, in order, and each of its
+/// answers is true of these. Let e be the number of edits accepted before a query: a reduction is answered at edit e, and is the plain left fold
+/// of its range after the first e edits; a scan has its running folds. An accepted edit is the next one behind the first e, and its receipt is
+/// the one there.
 pub fn every_run_is_true_of_its_edits<B: Body>()
     ensures edits { (body : B) (limits : Bounds) (r next : Record) (events : List Event) (replies : List (ReplyOf B.S)) →
         Run (B.operations body) limits r events replies next → next.edits ≡ r.edits ++ accepted_in events replies }
@@ -38,16 +38,16 @@ pub fn every_run_is_true_of_its_edits<B: Body>()
         Run (B.operations body) limits r events replies next → AreTrueOf (B.operations body) next.edits (length r.edits) events replies }
 {}
 
-/// In every run edits and queries are answered by the edits alone: each reduction is the plain left fold of its range, and
-/// each scan its running folds, after the edits accepted before it, counts of reads apart. Runs that meet want of memory apart.
+/// In every run in which no reply is `NoMemory`, edits and queries are answered as the edits accepted before them decide: each reduction is the
+/// plain left fold of its range, and each scan has its running folds. This says nothing of the counts of reads.
 pub fn answers_are_plain<B: Body>()
     ensures { (body : B) (limits : Bounds) (r next : Record) (events : List Event) (replies : List (ReplyOf B.S)) →
         Run (B.operations body) limits r events replies next → AllHadRoom replies →
         answers_in events replies ≡ plain_answers (B.operations body) limits r.edits (without_refresh events) }
 {}
 
-/// Refresh changes no answer: two runs from the same edits, whose events differ in claims, deliveries and forgetting alone,
-/// answer their edits and queries alike, counts of reads apart. Runs that meet want of memory apart.
+/// Refresh changes no answer: two runs from the same edits, whose events differ only in claims, deliveries and forgetting, answer their edits and
+/// queries alike, but for the counts of reads, if no reply in either is `NoMemory`.
 pub fn refresh_changes_no_answer<B: Body>()
     ensures { (body : B) (limits : Bounds) (r next q after : Record) (events others : List Event) (replies answers : List (ReplyOf B.S)) →
         Run (B.operations body) limits r events replies next → AllHadRoom replies →
@@ -56,8 +56,8 @@ pub fn refresh_changes_no_answer<B: Body>()
         answers_in events replies ≡ answers_in others answers }
 {}
 
-/// Where memory is never wanted, a run has one outcome: from records that say the same, the same events have the same replies,
-/// with every count and every job, and leave records that say the same.
+/// If no reply is `NoMemory`, a run has one outcome: from records that say the same, the same events have the same replies, with every count and
+/// every job, and leave records that say the same.
 pub fn runs_have_one_outcome<B: Body>()
     ensures replies { (body : B) (limits : Bounds) (r next q after : Record) (events : List Event) (replies answers : List (ReplyOf B.S)) →
         SameRecord r q → Run (B.operations body) limits r events replies next → AllHadRoom replies →
@@ -81,8 +81,8 @@ pub fn honesty_lasts<B: Body>()
         IsHonest (B.operations body) r n v contents → IsHonest (B.operations body) next n v contents }
 {}
 
-/// What is honest is vouched for, where the body is the vector's. So vetting says yes, for good, to each outcome of a job that
-/// the vector handed out.
+/// What is honest is vouched for, if its body is the vector's. So vetting says yes, for good, to each outcome of a job that the vector handed
+/// out.
 pub fn honest_outcomes_are_vouched_for<B: Body>()
     ensures { (body other : B) (r : Record) (n : Node) (v : ℕ) (contents : Contents B.S) →
         B.meaning body ≡ B.meaning other → IsLegal r.edits → IsHonest (B.operations body) r n v contents → Vouched (B.operations body) r (B.meaning body ≡ B.meaning other) n v contents }
@@ -96,9 +96,9 @@ pub fn jobs_stay_vouched_for<B: Body>()
         IsHonest (B.operations body) r n v contents → Vouched (B.operations body) next (B.meaning body ≡ B.meaning other) n v contents }
 {}
 
-/// Honesty lasts through the calls that make many steps at once, as it does through every event: through many pushes and many writes,
-/// made or refused; through the outcomes of a batch of blocks, whatever becomes of each; through the outcome of a subtree that stands
-/// here; and through the turns of a vector that refreshes itself. So a job that was handed out before them is vouched for after them.
+/// Honesty lasts through the calls that make many steps at once, as it does through every event: through many pushes and many writes, made or
+/// refused; through the outcomes of a batch of blocks, whatever becomes of each; through the outcome of a subtree whose contents are current; and
+/// through the turns of a vector that refreshes itself. So a job that was handed out before them is vouched for after them.
 pub fn honesty_lasts_through_batches<B: Body>()
     ensures pushes { (body : B) (old new : LiveState B B.S) (xs : List ℤ) (answer : Result ℕ Refusal) →
         AnswersAll old.history xs answer new.history → SameRefresh old new → HonestyLasts (B.operations body) old new }

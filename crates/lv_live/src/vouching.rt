@@ -1,4 +1,4 @@
-//! Whether contents are what stands at a node now.
+//! Whether contents are those that a node has now.
 ghost use Rattle.std.specs.Prelude.{◌≡◌, ◌↔◌, ◌+◌, ◌*◌, ◌<◌, ◌≤◌, IsTrue, true, length, take, drop, slice_range};
 ghost use Rattle.lv_geometry.specs.Nodes.{is_below};
 ghost use Rattle.lv_edits.specs.History.{list_of};
@@ -16,7 +16,7 @@ use lv_geometry::Node;
 use lv_refresh::{Contents, Eight, SUBTREE_BLOCKS, children_of};
 use lv_summary::Summaries;
 
-/// Whether contents are what stands at a whole node now.
+/// Whether contents are those that a whole node has now.
 #[inline(always)]
 pub fn stands_here<B: Body>(
     body: &B,
@@ -94,7 +94,7 @@ fn have_summaries<B: Body>(
     }
 }
 
-// Whether eight summaries are the same. The body only says of which kind they are.
+// Whether eight summaries equal eight others. The body only names their type.
 fn same_summaries<B: Body>(body: &B, x: &Eight<B::S>, y: &Eight<B::S>) -> bool
     ensures { IsTrue result ↔ (x.now ≡ y.now) }
 {

@@ -55,11 +55,11 @@ impl<B: Body> World<B> {
     }
 }
 
-/// Plays a list of events, and gives the reply to each. It is refused with `NoMemory` only where there is no room for all
-/// replies and jobs, which is made first: the world is then unchanged. After that an event's own want of memory is its reply.
+/// Plays a list of events, and gives the reply to each. It is refused with `NoMemory` only if there is no room for all replies and jobs, which is
+/// made first: the world is then unchanged. After that, an event that runs out of memory has `NoMemory` as its reply.
 ///
-/// This is the theorem of the live vector: whatever the events, deliveries late, stale or repeated among them, the run is one
-/// whose every step is as `Step` says; and so, by `answers_are_plain`, each answer is the plain left fold at its edit.
+/// This is the theorem of the live vector: whatever the events, also if deliveries are late, stale or repeated, the run is one whose every step
+/// is as `Step` says. So, by `answers_are_plain`, each answer is the plain left fold at its edit.
 pub fn run<B: Body>(
     alloc: Global,
     world: &mut World<B>,

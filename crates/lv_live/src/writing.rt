@@ -7,7 +7,7 @@ use crate::following::{Touched, follow};
 use lv_refresh::Claims;
 use lv_summary::Summaries;
 
-/// Hears of writes that were made at indices, after so many edits: of each of them.
+/// Takes note of writes that were made at indices, after so many edits, one by one.
 pub fn follow_writes<S: Copy>(
     table: &mut Summaries<S>,
     claims: &mut Claims,

@@ -1,4 +1,4 @@
--- A step that an actor sees alone is the step among the others.
+-- A step on the words with only one actor's look is the step among the other actors.
 use Rattle.std.proofs.Common.{◌≡◌, ◌≢◌, ℕ, Bool, true, false, nat_eq, slice_index, refl, inl, inr}
 use Rattle.std.specs.Prelude.{if◌then◌else◌}
 use Rattle.std.proofs.lemmas.Bool.{cond-true, cond-false, eq-eqb, eqb-true, cases_Bool}

@@ -1,4 +1,4 @@
--- What is so of every legal history: its list, its words, and that a longer one never falls behind.
+-- What holds of every legal history: its list, its words, and that no cell and no mark gets smaller as it grows.
 use Rattle.std.proofs.Common.{◌≡◌, ◌⊎◌, ℕ, ℤ, ◌+◌, ◌*◌, ◌<◌, ◌≤◌, None, List, [], ◌∷◌, ◌++◌, length, false, nat_eq, slice_index_or, refl, sym, ap, ◌∙◌, subst, inl, inr, arith}
 use Rattle.std.proofs.lemmas.Bool.{cases_Bool, cond-false, cond-true, eqb-true, eq-eqb}
 use Rattle.std.proofs.lemmas.List.{length_push}
@@ -28,12 +28,12 @@ pub edits_of-nil : edits_of [] ≡ []
 unfolding edits_of
 edits_of-nil = refl
 
--- a history has as many edits as entries
+-- a history has as many updates as entries
 pub length-edits_of : (h : List Entry) → length (edits_of h) ≡ length h
 length-edits_of [] = ap length edits_of-nil
 length-edits_of (e ∷ h) = omega (arith, ap length (edits_of-cons e h), length_push (edits_of h) e.edit, length-edits_of h)
 
--- an edit of 16 bits carries an element
+-- an update of 16 bits carries an element
 carries : (e : Edit) → IsShortEdit e → CarriesElement e
 carries (Push x) short = short_element x short
 carries Pop short = tt
@@ -42,7 +42,7 @@ carries (Reserve n) short = absurd short
 carries (Swap i j) short = absurd short
 carries (Truncate n) short = absurd short
 
--- and so do its bits
+-- the bits that an update writes are 16
 pub bits_written-short : (e : Edit) → IsShortEdit e → bits_written e < 65536
 bits_written-short (Push x) short = bits_of-short x short
 bits_written-short Pop short = omega arith
@@ -54,7 +54,7 @@ bits_written-short (Truncate n) short = absurd short
 journal : Terms → List Entry → History
 journal t h = record { limits = t.limits; journal = edits_of h }
 
--- a legal history keeps the limits
+-- a legal history is within the limits
 pub legal_within : (t : Terms) (h : List Entry) → AreTerms t → IsLegalHistory t h → IsLegalInLimits record { limits = t.limits; journal = edits_of h }
 legal_within t [] terms legal = subst (λ es. IsLegalInLimits record { limits = t.limits; journal = es }) (sym edits_of-nil) (IsLegalInLimits-empty t.limits terms.allowed)
 legal_within t (e ∷ h) terms (legal, next) =
@@ -139,7 +139,7 @@ pub cell_of-nil : (i : ℕ) → cell_of i [] ≡ 0
 unfolding cell_of
 cell_of-nil i = refl
 
--- no cell is of a version above the history's length
+-- no cell has a version above the history's length
 pub cell_of-below : (t : Terms) (i : ℕ) (h : List Entry) → IsLegalHistory t h → cell_of i h < (length h + 1) * 65536
 cell_of-below t i [] legal = omega (arith, cell_of-nil i)
 cell_of-below t i (e ∷ h) (legal, next) = elim (cases_Bool (nat_eq (index_written_by h e) i)) [

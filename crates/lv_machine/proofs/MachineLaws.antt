@@ -1,4 +1,4 @@
--- A machine's words and actors stay those of a state that moves reach.
+-- A machine's words and actors remain those of a state that moves reach.
 use Rattle.std.proofs.Common.{◌≡◌, ◌≢◌, ℕ, ℤ, ◌*◌, ◌<◌, ◌≤◌, Bool, true, false, Some, None, Ok, Err, List, [], ◌∷◌, length, nat_lt, slice_get, slice_index, slice_set, replicate, length-set, refl, sym, ap, ◌∙◌, subst, inl, inr, arith}
 use Rattle.std.specs.Prelude.{if◌then◌else◌, IfSome, int_le, pos, negsuc}
 use Rattle.std.proofs.lemmas.Bool.{and_parts, cases_eq, ltb-false}
@@ -84,7 +84,7 @@ module _ {S : Type 0} (o : Operations S) (within : S → ℕ → Type 0) (laws :
     abbrev pub own : OwnStep o within laws count some parts_of whole_of are has limits seats a c k terms shows ends look t
     own = own_step o within laws count some parts_of whole_of are has limits seats a c k terms shows ends look t seat knows
 
-    -- what it came to is right in the state after it
+    -- the result of the step is right in the state after it
     pub right_after : IsRight o count parts_of limits a (moved c (move_of a t)).words (moved c (move_of a t)).history k own.now (goal_under o count parts_of limits t) (advanced o count parts_of whole_of limits (c.looks a) t (slice_index c.words (place_of (c.looks a) t)))
     right_after =
         subst (λ ws. IsRight o count parts_of limits a ws (moved c (move_of a t)).history k own.now (goal_under o count parts_of limits t) (advanced o count parts_of whole_of limits (c.looks a) t (slice_index c.words (place_of (c.looks a) t)))) (sym (alone_words c a t))
@@ -195,7 +195,7 @@ module _ {S : Type 0} (o : Operations S) (within : S → ℕ → Type 0) (laws :
           ap (λ ws. advanced o count parts_of whole_of limits (r.config.looks a) t (slice_index ws (place_of (r.config.looks a) t))) r.stands.words_are
           ∙ ap (λ l. advanced o count parts_of whole_of limits l t (slice_index words (place_of l t))) f.look
 
-      -- where the call has ended, its actor was told what the history makes of it
+      -- if the call has ended, its actor got what the history says
       pub told_after : (answer : Said S) → outcome_of (advanced o count parts_of whole_of limits before t (slice_index words (place_of before t))) ≡ outcome.Done answer → WasTold o count parts_of limits r.config (moved r.config (move_of a t)) a t answer
       told_after answer done =
           let step = own r.seats r.config r.stands.terms shows_of a seated f.seen f.ends f.shown t f.knows in
@@ -210,7 +210,7 @@ module _ {S : Type 0} (o : Operations S) (within : S → ℕ → Type 0) (laws :
             said = subst (IsRight o count parts_of limits a (moved r.config (move_of a t)).words (moved r.config (move_of a t)).history f.seen step.now (goal_under o count parts_of limits t)) (same_advance ∙ done_is _ answer done) right;
           }
 
-    -- a call that begins moves nothing
+    -- a call that begins makes no move
     abbrev pub reached_call : (a look : ℕ) (g : Goal) → slice_get actors a ≡ Some record { look = look; task = None } → IsGoal g → IsReached o count parts_of limits words (slice_set actors a record { look = look; task = Some (task.Look g) })
     reached_call a look g there may =
         let x : Actor S = record { look = look; task = Some (task.Look g) } in

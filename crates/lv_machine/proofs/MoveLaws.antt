@@ -1,4 +1,4 @@
--- Each allowed move keeps the words showing the history, so every reachable state's words do.
+-- After each allowed move the words still show the history, so the words of every reachable state do.
 use Rattle.std.proofs.Common.{◌≡◌, ◌≢◌, ℕ, zero, suc, ℤ, ◌+◌, ◌-◌, ◌*◌, ◌/◌, ◌%◌, ◌<◌, max, Some, None, List, [], ◌∷◌, length, Bool, true, false, nat_eq, slice_index, slice_set, replicate, refl, sym, ap, ◌∙◌, subst, inl, inr, length-set, arith}
 use Rattle.std.specs.Prelude.{if◌then◌else◌}
 use Rattle.std.proofs.lemmas.Bool.{cases_Bool, cases_eq, cond-false, cond-true, eqb-true}
@@ -27,14 +27,14 @@ use Rattle.lv_machine.proofs.EndsLaws.{Ends-cons, Ends-whole, legal_earlier}
 use Rattle.lv_machine.proofs.HistoryLaws.{cell_of-grows, cell_of-nil, decoded, edits_of-cons, edits_of-nil, legal_within, length-edits_of, mark_of-grows}
 use Rattle.lv_machine.proofs.ShowsLaws.{current_cell, current_mark, few_blocks, fits_raised, max_either, one_place, part_grows, pending, place_is, place_within}
 
--- a word of the words that are left with another at a place
+-- a word after another word was set
 there : (words : List ℕ) (at n : ℕ) → at < length words → slice_index (slice_set words at n) at ≡ n
 there words at n within = get_or-set_same words at n 0 within
 
 elsewhere : (words : List ℕ) (at n other : ℕ) → other ≢ at → slice_index (slice_set words at n) other ≡ slice_index words other
 elsewhere words at n other apart = get_or-set_other words at other n 0 apart
 
--- raising the word at a place keeps the words showing the history, where what is raised there still fits
+-- after a word at a place is raised, the words still show the history, if what it is raised to fits
 pub raised_shows : (t : Terms) (c : Config) (b r n : ℕ) → Shows t c → b < blocks_of t.limits → r < 16 → ((word : ℕ) → FitsPlace t.folding c.history b r word → FitsPlace t.folding c.history b r (max word n)) → Shows t (raised c (place b r) n)
 raised_shows t c b r n shows near short fits =
     let words = c.words in
@@ -104,7 +104,7 @@ mark_raised_shows t c k look terms shows ends is has =
       part = λ wrong. absurd (omega arith);
     })
 
--- a part is raised to a part
+-- a part is raised to another part
 pub part_raised_shows : (t : Terms) (c : Config) (b p n : ℕ) → AreTerms t → Shows t c → MayInstall t c b p n → Shows t (raised c (part_place b p) n)
 part_raised_shows t c b p n terms shows may =
     let few = terms.few_parts in
@@ -120,7 +120,7 @@ part_raised_shows t c b p n terms shows may =
       ];
     })
 
--- the verdict at a history's descriptor is that at the history
+-- the precondition check at a history's descriptor is that at the history
 pub same_refusal : (limits : Bounds) (xs : List ℤ) (e : Edit) → refused_on limits xs e ≡ refused_at (capacity_of limits.buckets) (length xs) e
 same_refusal limits xs (Push x) = refl
 same_refusal limits xs Pop = refl
@@ -134,7 +134,7 @@ verdict_at_descriptor t h e terms legal =
     let d = decoded t h terms legal in
     rw (d.edit, d.size, same_refusal, length-edits_of)
 
--- the size after an edit that nothing refuses
+-- the size after an update that nothing refuses
 abbrev size_after : ℕ → Edit → ℕ
 size_after n (Push x) = n + 1
 size_after n Pop = n - 1
@@ -177,11 +177,11 @@ next_by t h a (Reserve n) terms legal next = absurd next.short
 next_by t h a (Swap i j) terms legal next = absurd next.short
 next_by t h a (Truncate n) terms legal next = absurd next.short
 
--- the descriptor that an edit makes is that of the history with it
+-- the descriptor after an update is that of the history with the update
 pub next_descriptor : (t : Terms) (h : List Entry) (e : Entry) → AreTerms t → IsLegalHistory t h → MayFollow t h e → descriptor_after (descriptor_of h) e.edit ≡ descriptor_of (e ∷ h)
 next_descriptor t h e terms legal next = next_by t h e.actor e.edit terms legal next
 
--- an accepted edit's words show the history with it
+-- after an accepted update the words show the history with the update
 pub accepted_shows : (t : Terms) (c : Config) (a : ℕ) (e : Edit) → AreTerms t → Shows t c → MayExchange t c a e → slice_index c.words 0 ≡ c.looks a → Shows t (accepted c a e)
 accepted_shows t c a e terms shows may found =
     let h = c.history in
@@ -227,7 +227,7 @@ exchanged_shows : (t : Terms) (c : Config) (a : ℕ) (e : Edit) (found : Bool) �
 exchanged_shows t c a e true is terms shows may = accepted_shows t c a e terms shows may (eqb-true _ _ is)
 exchanged_shows t c a e false is terms shows may = looked_shows t c a shows
 
--- each allowed move keeps the words showing the history
+-- after each allowed move the words still show the history
 pub moved_shows : (t : Terms) (c : Config) (m : Move) → AreTerms t → Shows t c → MayMove t c m → Shows t (moved c m)
 moved_shows t c (Look a) terms shows may = looked_shows t c a shows
 moved_shows t c (Exchange a e) terms shows may = exchanged_shows t c a e (nat_eq (slice_index c.words 0) (c.looks a)) refl terms shows may

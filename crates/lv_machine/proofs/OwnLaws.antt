@@ -1,4 +1,4 @@
--- What an actor's own step makes of its call is right.
+-- The result of an actor's own step is right for its call.
 use Rattle.std.proofs.Common.{◌≡◌, ℕ, ℤ, ◌*◌, ◌/◌, ◌%◌, ◌<◌, ◌≤◌, max, true, false, None, List, ◌∷◌, length, nat_eq, slice_index, slice_set, replicate, refl, sym, ap, ◌∙◌, subst, inl, inr, arith}
 use Rattle.std.specs.Prelude.{pos}
 use Rattle.std.specs.List.{slice_index_or}
@@ -35,7 +35,7 @@ use Rattle.lv_machine.proofs.ShowsLaws.{pending, place_is, place_within}
 use Rattle.lv_machine.proofs.StepLaws.{cell_at, element_at, legal_seen, mark_at}
 use Rattle.lv_machine.proofs.WordLaws.{cell_version-grows, cell_version-word, value_of-short}
 
--- an element that is there is read alike whatever stands for none
+-- an element that is there is read alike, whatever value represents a missing one
 any_default : {X : Type 0} (xs : List X) (i : ℕ) (d e : X) → i < length xs → slice_index_or xs i d ≡ slice_index_or xs i e
 any_default xs i d e within = grind (arith, common_steps)
 
@@ -43,7 +43,7 @@ module _ {S : Type 0} (o : Operations S) (within : S → ℕ → Type 0) (laws :
   legal : IsLegalHistory (terms_of o count parts_of limits seats) k
   legal = legal_seen (terms_of o count parts_of limits seats) c k terms shows ends
 
-  -- after its step an actor's look shows an earlier history still, and what the step came to is right there
+  -- after its step an actor's look still shows an earlier history, and the result of the step is right there
   pub record OwnStep (t : Task S) : Type 0 where
     pub now : List Entry
     pub now_ends : Ends now (moved c (move_of a t)).history
@@ -231,7 +231,7 @@ module _ {S : Type 0} (o : Operations S) (within : S → ℕ → Type 0) (laws :
         };
       }
 
-  -- the descriptor of the whole history is the look only where the look shows it whole
+  -- the descriptor of the whole history is the look only if the look shows the whole history
   whole_seen : slice_index c.words 0 ≡ descriptor_of k → k ≡ c.history
   whole_seen same =
       let T = terms_of o count parts_of limits seats in
@@ -279,7 +279,7 @@ module _ {S : Type 0} (o : Operations S) (within : S → ℕ → Type 0) (laws :
             }
       ]
 
-  -- whatever step comes next
+  -- whatever the next step is
   pub own_step : (t : Task S) → a < seats → Knows o count parts_of limits c.words k t → OwnStep t
   own_step (task.Look g) seat w = own_look g w
   own_step (task.CompleteCell g) seat w = own_complete_cell g w

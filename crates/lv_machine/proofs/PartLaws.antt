@@ -1,4 +1,4 @@
--- A reduction that loads the parts of a block has the block's fold once it has all.
+-- A reduction that has loaded all parts of a block has the block's fold.
 use Rattle.std.proofs.Common.{◌≡◌, ℕ, ◌+◌, ◌-◌, ◌*◌, ◌/◌, ◌<◌, ◌≤◌, List, length, nat_eq, nat_lt, slice_index, slice_set, length-set, refl, sym, ap, ◌∙◌, subst, inl, inr, arith}
 use Rattle.std.specs.Prelude.{take, drop, slice_range, All}
 use Rattle.std.proofs.lemmas.Bool.{cases_Bool, cases_lt, cases_eq, eqb-true, ltb-true, ltb-false}
@@ -38,7 +38,7 @@ module _ {S : Type 0} (o : Operations S) (count : ℕ) (parts_of : S → List �
       let within = legal_within (terms_of o count parts_of limits seats) k terms legal in
       record { few = omega (arith, within.few); elements = within.elements }
 
-  -- the eight elements of a block that begins where a walk stands
+  -- the eight elements of a block that begins at a walk's position
   pub block_slice : (b at : ℕ) → b * 8 ≡ at → elements_under (edits_of k) (block b) ≡ slice_range (elements_of k) at (at + 8)
   block_slice b at begins =
       let wide : 8 ≡ at + 8 - at = omega arith in
@@ -97,7 +97,7 @@ module _ {S : Type 0} (o : Operations S) (count : ℕ) (parts_of : S → List �
           | inr past ↦ others_after p past ∙ sym (are.unused s p (omega arith))
         ])
 
-  -- the whole of them is the fold of the eight elements where the walk stands
+  -- all parts together make the fold of the eight elements at the walk's position
   pub whole_taken : AreParts count parts_of → HasParts parts_of whole_of o → (walk : Walk S) (parts : Parts) (found : ℕ) → WalksBlock o count parts_of limits c.words k walk → AreTaken o count parts_of limits c.words k (walk.at / 8) parts → part_value found ≡ slice_index (parts_of (block_fold o count parts_of limits c.words k (walk.at / 8))) parts.number → count ≤ parts.number + 1 → whole_of (slice_set parts.values parts.number (part_value found)) ≡ fold_of o (slice_range (elements_of k) walk.at (walk.at + 8))
   whole_taken are has walk parts found w taken value over =
       let T = terms_of o count parts_of limits seats in

@@ -1,4 +1,4 @@
--- What a loaded word tells of an earlier history that its reader knows.
+-- What a loaded word says of an earlier history that its reader knows.
 use Rattle.std.proofs.Common.{◌≡◌, ◌≢◌, ℕ, ℤ, ◌+◌, ◌-◌, ◌/◌, ◌<◌, ◌≤◌, Some, List, [], ◌∷◌, ◌++◌, length, take, true, false, nat_eq, nat_lt, length-set, refl, sym, ap, ◌∙◌, subst, inl, inr, arith}
 use Rattle.std.specs.Prelude.{All, pos, slice_set}
 use Rattle.std.specs.List.{slice_index_or}
@@ -24,7 +24,7 @@ use Rattle.lv_machine.proofs.ShowsLaws.{current_cell, current_mark, mark_of-cons
 use Rattle.lv_machine.proofs.MoveLaws.{size_next}
 use Rattle.lv_machine.proofs.WordLaws.{bits_of-short, cell_version-most, cell_version-word, part_value-word, part_version-word, part_version-zero, signed-bits_of, value_of-cell}
 
--- the edits of an earlier history come first among those of a later one
+-- the updates of an earlier history are the first of those of a later one
 edits_behind : (later k : List Entry) → edits_of k ≡ take (length k) (edits_of (later ++ k))
 edits_behind [] k = sym (take_all (length k) (edits_of k) (omega (arith, length-edits_of k)))
 edits_behind (e ∷ later) k =
@@ -40,11 +40,11 @@ take_behind (e ∷ later) k v few =
     let long : v ≤ length (edits_of (later ++ k)) = omega (arith, length-edits_of (later ++ k), Ends-length k (later ++ k) record { later = later; whole_is = refl }) in
     ap (take v) (edits_of-cons e (later ++ k)) ∙ take-append-le v (edits_of (later ++ k)) (e.edit ∷ []) long ∙ take_behind later k v few
 
--- as far as an earlier history goes, both begin alike
+-- the first updates of two histories are equal, as far as the earlier one goes
 pub same_beginning : (k h : List Entry) (v : ℕ) → Ends k h → v ≤ length k → take v (edits_of h) ≡ take v (edits_of k)
 same_beginning k h v ends few = ap (λ l. take v (edits_of l)) ends.whole_is ∙ take_behind ends.later k v few
 
--- a cell of no later version than an earlier history is that of it
+-- a cell of no later version than an earlier history is that of the earlier history
 pub cell_settled : (t : Terms) (i : ℕ) (k h : List Entry) → IsLegalHistory t h → Ends k h → cell_version (cell_of i h) ≤ length k → cell_of i h ≡ cell_of i k
 cell_settled t i k [] legal ends early = ap (cell_of i) (sym (Ends-nil k ends))
 cell_settled t i k (e ∷ h) legal ends early = elim (Ends-cases k h e ends) [
@@ -58,7 +58,7 @@ cell_settled t i k (e ∷ h) legal ends early = elim (Ends-cases k h e ends) [
   ]
 ]
 
--- and so is a mark
+-- a mark that is no later than an earlier history is that of the earlier history
 pub mark_settled : (t : Terms) (b : ℕ) (k h : List Entry) → IsLegalHistory t h → Ends k h → mark_of b h ≤ length k → mark_of b h ≡ mark_of b k
 mark_settled t b k [] legal ends early = ap (mark_of b) (sym (Ends-nil k ends))
 mark_settled t b k (e ∷ h) legal ends early = elim (Ends-cases k h e ends) [
@@ -129,7 +129,7 @@ mark_read t b k h word terms near legal ends fits complete = record {
   settled = mark_is t b k h word terms near legal ends fits complete;
 }
 
--- a part of the version at which a whole block was touched last is that of the block's fold
+-- a part of the version at which a full block was last touched is that of the block's fold
 pub part_is : (t : Terms) (b p word : ℕ) (k h : List Entry) → AreTerms t → IsLegalHistory t h → Ends k h → FitsPart t.folding h b p word → is_whole (edits_of k) (block b) ≡ true → part_version word ≡ mark_of b k → part_value word ≡ t.folding.part p (elements_under (edits_of k) (block b))
 part_is t b p word k h terms legal ends fits whole version =
     let legal' = (legal_within t k terms (legal_earlier t k h ends legal)).legal in
@@ -145,7 +145,7 @@ part_is t b p word k h terms legal ends fits whole version =
           ap part_value is ∙ part_value-word v _ (terms.short_parts p _) ∙ ap (λ es. t.folding.part p (elements_under es (block b))) begins ∙ ap (t.folding.part p) (sym kept.1)
     ]
 
--- the part of a whole block's fold may be installed with its mark as version
+-- the part of a full block's fold may be installed with the block's mark as its version
 pub part_fits : (t : Terms) (b p : ℕ) (k h : List Entry) → AreTerms t → IsLegalHistory t h → Ends k h → is_whole (edits_of k) (block b) ≡ true → FitsPart t.folding h b p (part_word (mark_of b k) (t.folding.part p (elements_under (edits_of k) (block b))))
 part_fits t b p k h terms legal ends whole =
     let legal' = (legal_within t k terms (legal_earlier t k h ends legal)).legal in
@@ -196,7 +196,7 @@ between_by t h a (Reserve n) terms legal next = absurd next.short
 between_by t h a (Swap i j) terms legal next = absurd next.short
 between_by t h a (Truncate n) terms legal next = absurd next.short
 
--- two descriptors alone tell the edit between them
+-- two successive descriptors determine the update between them
 pub between : (t : Terms) (h : List Entry) (e : Entry) → AreTerms t → IsLegalHistory t (e ∷ h) → edit_between (descriptor_of h) (descriptor_of (e ∷ h)) ≡ e.edit
 between t h e terms legal = between_by t h e.actor e.edit terms legal.0 legal.1
 

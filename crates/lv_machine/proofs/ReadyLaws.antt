@@ -22,7 +22,7 @@ use Rattle.lv_machine.specs.Words.{edit_of, size_of}
 use Rattle.lv_machine.proofs.HistoryLaws.{decoded, legal_within, length_below, length-edits_of}
 use Rattle.lv_machine.proofs.MoveLaws.{verdict_at_descriptor}
 
--- a choice that gives nothing was made by a test that held
+-- a choice that gives nothing was made by a test that succeeded
 pub held : (found : Bool) (refusal : Refusal) → (if found then None else Some refusal) ≡ None → found ≡ true
 held true refusal none = refl
 held false refusal none = absurd (cc)
@@ -32,7 +32,7 @@ not_held true refusal none = absurd (cc)
 not_held false refusal none = refl
 
 module _ (t : Terms) (k : List Entry) (terms : AreTerms t) (legal : IsLegalHistory t k) where
-  -- the sizes that a look tells
+  -- the sizes that a look shows
   pub look_size : size_of (descriptor_of k) ≡ length (elements_of k)
   look_size = (decoded t k terms legal).size
 
@@ -53,14 +53,14 @@ module _ (t : Terms) (k : List Entry) (terms : AreTerms t) (legal : IsLegalHisto
     | inr more ↦ omega (arith, look_size)
   ]
 
-  -- a refresh that was granted has a whole block
+  -- a refresh that was granted has a full block
   pub refresh_within : (b : ℕ) → IsGranted t.limits (descriptor_of k) (goal.Refresh b) → 8 * b + 8 ≤ length (elements_of k)
   refresh_within b granted = omega (arith, look_size, ltb-true _ _ (held _ (OutOfRange (size_of (descriptor_of k))) granted.granted))
 
   pub block_whole : (b : ℕ) → 8 * b + 8 ≤ length (elements_of k) → is_whole (edits_of k) (block b) ≡ true
   block_whole b within = whole_from (edits_of k) (block b) refl (omega arith)
 
-  -- an edit that was granted is refused by nothing
+  -- an update that was granted is refused by nothing
   pub edit_granted : (e : Edit) → IsGranted t.limits (descriptor_of k) (goal.Edit e) → verdict_of t.limits (edits_of k) e ≡ None
   edit_granted e granted = sym (verdict_at_descriptor t k e terms legal) ∙ granted.granted
 
@@ -80,7 +80,7 @@ module _ (t : Terms) (k : List Entry) (terms : AreTerms t) (legal : IsLegalHisto
       let apart = (not_refused t.limits (edits_of k) e free).0 in
       omega (arith, length-edits_of k, length_below t k terms legal)
 
-  -- the index that an edit reads is one of the list
+  -- the index that an update reads is one of the list
   pub before_within : {S : Type 0} (edit : Edit) (i : ℕ) → IsGranted t.limits (descriptor_of k) (goal.Edit edit) → edit_begun {S = S} (descriptor_of k) edit ≡ task.ReadBefore edit i → i < length (elements_of k)
   before_within (Push x) i granted is = absurd (cc)
   before_within Pop i granted is =

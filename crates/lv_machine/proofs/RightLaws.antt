@@ -1,4 +1,4 @@
--- What a call does once its look's pending write is complete, and what each load makes of it, is right.
+-- What a call does once its look's pending write is complete, and how it proceeds by each load, is right.
 use Rattle.std.proofs.Common.{◌≡◌, ◌≢◌, ℕ, suc, ℤ, ◌+◌, ◌-◌, ◌*◌, ◌/◌, ◌%◌, ◌<◌, ◌≤◌, Bool, true, false, ◌&&◌, Option, Some, None, List, [], ◌∷◌, length, nat_eq, nat_le, nat_lt, slice_index, refl, sym, ap, ◌∙◌, inl, inr, arith}
 use Rattle.std.specs.Prelude.{if◌then◌else◌, take, drop, slice_range, pos}
 use Rattle.std.specs.List.{slice_index_or}
@@ -32,7 +32,7 @@ use Rattle.lv_machine.proofs.HistoryLaws.{length-edits_of}
 use Rattle.lv_machine.proofs.MoveLaws.{verdict_at_descriptor}
 use Rattle.lv_machine.proofs.ReadyLaws.{block_whole, look_edit, look_size, reduce_within, refresh_within}
 
--- lists of one length with the same numbers are one
+-- lists of one length with equal numbers are equal
 pub same_list : (xs ys : List ℕ) → length xs ≡ length ys → ((p : ℕ) → slice_index xs p ≡ slice_index ys p) → xs ≡ ys
 same_list [] [] long same = refl
 same_list [] (y ∷ ys) long same = absurd (omega (arith, long))
@@ -52,7 +52,7 @@ module _ {S : Type 0} (o : Operations S) (count : ℕ) (parts_of : S → List �
   at_size : size_of (descriptor_of k) ≡ length (elements_of k)
   at_size = look_size (terms_of o count parts_of limits seats) k terms legal
 
-  -- a word of a later edit ends a call
+  -- a word of a later update ends a call
   pub unless_right : (g : Goal) (v : ℕ) (next : Advance S) → v ≤ length h → (v ≤ length k → IsRight o count parts_of limits a words h old k g next) → IsRight o count parts_of limits a words h old k g (unless_later (descriptor_of k) v next)
   unless_right g v next late right = elim (cases_Bool (nat_lt (edit_of (descriptor_of k)) v)) [
     | inl later ↦ rw later (inr (inr (v, refl, omega (arith, at_edit, ltb-true _ _ later), late)))
@@ -65,7 +65,7 @@ module _ {S : Type 0} (o : Operations S) (count : ℕ) (parts_of : S → List �
       let second : nat_lt (length (elements_of k)) hi ≡ false = elim (cases_Bool (nat_lt (length (elements_of k)) hi)) [ inl wrong ↦ absurd (omega (arith, ltb-true _ _ wrong)) | inr right ↦ right ] in
       cond-false _ _ _ first ∙ cond-false _ _ _ second
 
-  -- a walk that knows what it should goes on, or has its answer
+  -- a walk that knows what it should proceeds, or has its answer
   pub walked_right : (walk : Walk S) → Walks o count parts_of limits words k walk → IsRight o count parts_of limits a words h old k (goal.Reduce walk.lo walk.hi) (walked (descriptor_of k) walk)
   walked_right walk w = elim (cases_Bool (nat_lt walk.at walk.hi)) [
     | inl goes ↦ elim (cases_Bool (nat_eq (walk.at % 8) 0 && nat_le 8 (walk.hi - walk.at))) [
@@ -140,7 +140,7 @@ module _ {S : Type 0} (o : Operations S) (count : ℕ) (parts_of : S → List �
   looked_right g (Some refusal) may is = inl (sym (refusal_same g) ∙ is)
   looked_right g None may is = help_by g (needs_help (descriptor_of k) g) refl record { may = may; granted = is }
 
-  -- a pop and a write that loaded the element before
+  -- a pop and a write that loaded the old element
   pub before_right : (edit : Edit) (i : ℕ) (x : ℤ) → MayEdit o count parts_of limits words k edit → edit_begun {S = S} (descriptor_of k) edit ≡ task.ReadBefore edit i → x ≡ slice_index_or (elements_of k) i (pos 0) → IsRight o count parts_of limits a words h old k (goal.Edit edit) (advance.Goes (task.Exchange edit x))
   before_right (Push y) i x may is value = absurd (cc)
   before_right Pop i x may is value =
@@ -156,7 +156,7 @@ module _ {S : Type 0} (o : Operations S) (count : ℕ) (parts_of : S → List �
   before_right (Swap j k) i x may is value = absurd (cc)
   before_right (Truncate n) i x may is value = absurd (cc)
 
-  -- a reduction that loaded the element where it stands
+  -- a reduction that loaded the element at its position
   pub cell_right : (walk : Walk S) (found : ℕ) → Walks o count parts_of limits words k walk → walk.at < walk.hi → signed (value_of found) ≡ slice_index_or (elements_of k) walk.at (signed (value_of found)) → IsRight o count parts_of limits a words h old k (goal.Reduce walk.lo walk.hi) (walked (descriptor_of k) (with_cell o count parts_of whole_of walk found))
   cell_right walk found w some value =
       let inside = reduce_within (terms_of o count parts_of limits seats) k terms legal walk.lo walk.hi w.granted in

@@ -1,4 +1,4 @@
--- No word but the descriptor ever falls, and what a call knows stays so while others step.
+-- Only the descriptor can become smaller, and what a call knows remains true while others make steps.
 use Rattle.std.proofs.Common.{ℕ, ◌/◌, ◌<◌, ◌≤◌, max, Bool, true, false, Option, Some, None, List, length, nat_eq, slice_index, slice_set, sym, subst, inl, inr, arith}
 use Rattle.std.specs.Prelude.{if◌then◌else◌, IfSome}
 use Rattle.std.proofs.lemmas.Bool.{cases_eq, cases_lt}
@@ -101,7 +101,7 @@ module _ {S : Type 0} (o : Operations S) (count : ℕ) (parts_of : S → List �
   taken_rise : (b : ℕ) (parts : Parts) → AreTaken o count parts_of limits words k b parts → AreTaken o count parts_of limits more k b parts
   taken_rise b parts w = record { version = w.version; some = w.some; four = w.four; taken = w.taken; others = w.others }
 
-  -- what a call knows of an earlier history it goes on knowing
+  -- what a call knows of an earlier history remains true
   pub knows_rise : (t : Task S) → Knows o count parts_of limits words k t → Knows o count parts_of limits more k t
   knows_rise (task.Look g) w = w
   knows_rise (task.CompleteCell g) w = w

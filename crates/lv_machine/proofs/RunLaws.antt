@@ -1,4 +1,4 @@
--- A run is its steps, one after another.
+-- A run consists of its steps, one after another.
 use Rattle.std.proofs.Common.{◌≡◌, ℕ, Option, Some, None, Result, Ok, Err, List, [], ◌∷◌, ◌++◌, slice_get, refl, sym, ap, ◌∙◌}
 use Rattle.lv_geometry.specs.Bounds.{Bounds}
 use Rattle.lv_bodies.specs.Body.{Operations}
@@ -13,7 +13,7 @@ use Rattle.lv_machine.specs.Calls.{goal_of}
 use Rattle.lv_machine.specs.Machine.{begins, called, called_of, gone_on, machine_run, machine_step, MachineState, stepped_on}
 use Rattle.lv_geometry.specs.declared.refusals.Refusal.{Refusal}
 
--- what no event changes: the body and the limits
+-- what no event changes: the monoid instance and the limits
 abbrev pub setting : {S B : Type 0} → MachineState B S → B × Bounds
 setting m = (m.body, m.limits)
 
@@ -53,7 +53,7 @@ module _ {S B : Type 0} (o : Operations S) (count : ℕ) (parts_of : S → List 
   unfolding machine_run
   run-nil m = refl
 
-  -- one event more
+  -- one more event
   pub run-snoc : (m : MachineState B S) (events : List Event) (e : Event) → machine_run o count parts_of whole_of m (events ++ e ∷ []) ≡ ((machine_step o count parts_of whole_of (machine_run o count parts_of whole_of m events).0 e).0, (machine_run o count parts_of whole_of m events).1 ++ (machine_step o count parts_of whole_of (machine_run o count parts_of whole_of m events).0 e).1 ∷ [])
   unfolding machine_run
   run-snoc m [] e = refl
@@ -63,7 +63,7 @@ module _ {S B : Type 0} (op : B → Operations S) (count : ℕ) (parts_of : S �
   body_kept : now.body ≡ m.body
   body_kept = ap (λ n. n.body) state ∙ ap (λ p. p.0) (run_keeps (op m.body) count parts_of whole_of m events)
 
-  -- a run with one event more
+  -- a run with one more event
   pub run_more : (new : MachineState B S) → new ≡ (machine_step (op now.body) count parts_of whole_of now e).0 → new ≡ (machine_run (op m.body) count parts_of whole_of m more).0
   run_more new is =
       is ∙ ap (λ b. (machine_step (op b) count parts_of whole_of now e).0) body_kept

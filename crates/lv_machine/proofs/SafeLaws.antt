@@ -104,7 +104,7 @@ module _ {S : Type 0} (o : Operations S) (within : S → ℕ → Type 0) (laws :
   mark_fits : (b : ℕ) → b < blocks_of limits → IsComplete c.words (descriptor_of k) → slice_index c.words (mark_place b) < 16777216
   mark_fits b near complete = omega (arith, (mark_at (terms_of o count parts_of limits seats) c k terms shows ends b near complete).late, few_entries)
 
-  -- the fold of a part of the list is that of no more elements than lie before its end
+  -- the fold of a part of the list is that of no more elements than there are before its end
   holds : (s : S) (lo at : ℕ) → lo ≤ at → at ≤ length (elements_of k) → s ≡ fold_of o (slice_range (elements_of k) lo at) → CoversAtMost within s at
   holds s lo at low inside is = record {
     count = at - lo;
@@ -121,7 +121,7 @@ module _ {S : Type 0} (o : Operations S) (within : S → ℕ → Type 0) (laws :
     summaries = omega (arith, w.counts);
   }
 
-  -- what the step finds can be told, or put to what was loaded
+  -- what the step finds can be returned, or combined with what was loaded
   pub can_advance : (t : Task S) → Knows o count parts_of limits c.words k t → CanAdvance within count whole_of t (slice_index c.words (place_of (descriptor_of k) t))
   can_advance (task.Look g) w = tt
   can_advance (task.CompleteCell g) w = tt

@@ -1,4 +1,4 @@
--- A list of events has one history, and each further event is the move of its name, or none.
+-- A list of events has one history, and each further event is the move that belongs to it, or none.
 use Rattle.std.proofs.Common.{◌≡◌, ◌≢◌, ℕ, zero, suc, ◌<◌, ◌≤◌, Bool, true, false, Option, Some, None, Result, Ok, Err, List, [], ◌∷◌, ◌++◌, length, nat_eq, replicate, slice_get, slice_index, slice_set, length-set, append_assoc, option_map, refl, sym, ap, ◌∙◌, subst, inl, inr}
 use Rattle.std.specs.Prelude.{if◌then◌else◌}
 use Rattle.std.proofs.lemmas.Bool.{cases_eq}
@@ -58,7 +58,7 @@ not_refused : {S : Type 0} (next : Advance S) (refusal : Refusal) → outcome_of
 not_refused (advance.Goes t) refusal is = cc
 not_refused (advance.Ends answer) refusal is = cc
 
--- the look of an actor that was put at a place, and of the others
+-- the look of an actor that was set at a place, and of the others
 look_put : {S : Type 0} (xs : List (Actor S)) (a : ℕ) (x : Actor S) → a < length xs → look_in (slice_get (slice_set xs a x) a) ≡ x.look
 look_put xs a x within = ap look_in (slice_get_read (slice_set xs a x) (length xs) a x (sym (length-set xs a x)) within (sym (get_or-set_same xs a x x within)))
 
@@ -69,7 +69,7 @@ get_kept (y ∷ ys) zero (suc b) x apart = refl
 get_kept (y ∷ ys) (suc a) zero x apart = refl
 get_kept (y ∷ ys) (suc a) (suc b) x apart = get_kept ys a b x (λ same. apart (ap suc same))
 
--- a call that begins keeps its actor's look
+-- a call that begins leaves its actor's look unchanged
 look_kept : {S : Type 0} (xs : List (Actor S)) (a : ℕ) (x y : Actor S) → slice_get xs a ≡ Some x → y.look ≡ x.look → (b : ℕ) → look_in (slice_get (slice_set xs a y) b) ≡ look_in (slice_get xs b)
 look_kept xs a x y there same b = elim (cases_eq b a) [
   | inl is ↦ subst (λ d. look_in (slice_get (slice_set xs a y) d) ≡ look_in (slice_get xs d)) (sym is) (look_put xs a y (slice_get_within xs a x there) ∙ same ∙ sym (ap look_in there))
@@ -95,7 +95,7 @@ added c a (task.KeepMark b) = refl
 added c a (task.KeepCell keep) = refl
 added c a (task.KeepPart b parts) = refl
 
--- states of the same words, history and looks are one
+-- two states with the same words, history and looks are equal
 one_config : (c d : Config) → c.words ≡ d.words → c.history ≡ d.history → ((a : ℕ) → c.looks a ≡ d.looks a) → c ≡ d
 one_config c d words history looks = λ i. record { words = words i; history = history i; looks = λ a. looks a i }
 
@@ -112,11 +112,11 @@ module _ {S B : Type 0} (o : Operations S) (within : S → ℕ → Type 0) (laws
   at_state seats h m r = record { config = config_of m h; seats = seats; stands = r }
 
   module _ (seats : ℕ) (h : List Entry) (m : MachineState B S) (r : Sound seats h m) where
-    -- what an event is that leads to another machine, and adds some entries
+    -- an event that leads to another machine, and adds some entries
     abbrev Moves : MachineState B S → List Entry → Event → Option Move → Outcome S → Type 0
     Moves next entries e made out = IsOneMove o count parts_of m.limits seats (config_of m h) (config_of next (entries ++ h)) m next e made out
 
-    -- an event that changes nothing and ends no call by a step
+    -- an event that changes nothing, and that isn't a step which ends a call
     quiet : (e : Event) (out : Outcome S) → ((a : ℕ) (answer : Said S) → e ≡ event.Step a → out ≡ outcome.Done answer → ⊥) → Moves m [] e None out
     quiet e out never = record { before = r; after = r; moves = tt; stays = refl; refused = λ refusal is. (refl, refl); told = λ a look t answer step there done. absurd (never a answer step done) }
 
@@ -187,7 +187,7 @@ module _ {S B : Type 0} (o : Operations S) (within : S → ℕ → Type 0) (laws
     gone_on_moves a None there = quiet (event.Step a) (outcome.Refused NotNow) (λ b answer step done. not_done answer done)
     gone_on_moves a (Some actor) there = stepped_on_moves a actor.look actor.task there
 
-    -- each event is the move of its name, or none
+    -- each event is the move that belongs to it, or none
     one_move : (e : Event) → Moves (machine_step o count parts_of whole_of m e).0 (accepted_by m e) e (move_made m e) (machine_step o count parts_of whole_of m e).1
     unfolding machine_step
     one_move (event.Call a c) = called_moves a c (slice_get m.actors a) refl
@@ -210,18 +210,18 @@ module _ {S B : Type 0} (o : Operations S) (within : S → ℕ → Type 0) (laws
       ap (λ entries. entries ++ accepted_by m e) (accepted-append (next_of m e) events more)
       ∙ append_assoc (entries_of (run_of (next_of m e) events) more) (entries_of (next_of m e) events) (accepted_by m e)
 
-  -- the history of a list of events is a beginning of that of each longer list
+  -- the history of a list of events is an earlier state of that of each longer list
   pub histories_grow : HistoriesGrow B o count parts_of whole_of
   histories_grow m events more = record { later = entries_of (run_of m events) more; whole_is = accepted-append m events more }
 
-  -- the state after one event more
+  -- the state after one more event
   config-snoc : (m : MachineState B S) (events : List Event) (e : Event) → config_after o count parts_of whole_of m (events ++ e ∷ []) ≡ config_of (next_of (run_of m events) e) (accepted_by (run_of m events) e ++ entries_of m events)
   unfolding accepted_in
   config-snoc m events e =
       ap (λ n. config_of n (entries_of m (events ++ e ∷ []))) (ap (λ r. r.0) (run-snoc o count parts_of whole_of m events e))
       ∙ ap (config_of (next_of (run_of m events) e)) (accepted-append m events (e ∷ []))
 
-  -- and so each list of events leaves a machine in the state of its history
+  -- so each list of events leaves a machine in the state of its history
   run_sound : (seats : ℕ) (h : List Entry) (m : MachineState B S) (events : List Event) → Sound seats h m → Sound seats (entries_of m events ++ h) (run_of m events)
   unfolding machine_run accepted_in
   run_sound seats h m [] r = r
@@ -254,7 +254,7 @@ module _ {S B : Type 0} (o : Operations S) (within : S → ℕ → Type 0) (laws
       (subst (λ l. OneMove l seats (config_of (next_of (run_of first events) e) (accepted_by (run_of first events) e ++ entries_of first events)) first events e) kept
       one)
 
-  -- after any list of events from the start each further event is the move of its name, or none, and tells what the history makes of it
+  -- after any list of events from the start each further event is the move that belongs to it, or none, and returns what the history says
   pub every_event_moves : (body : B) → count ≤ 4 → EveryEventIsOneMove o count parts_of whole_of body
   every_event_moves body few limits actors events e allowed buckets seats =
       let sound = from_start body limits actors events (terms_are o count parts_of limits actors few are allowed buckets seats) in

@@ -1,4 +1,4 @@
--- What moves do to words that show a history: they show it still, or the longer one.
+-- The effect of moves on words that show a history: they show it still, or the longer one.
 use Rattle.std.proofs.Common.{◌≡◌, ◌⊎◌, ℕ, ℤ, ◌+◌, ◌*◌, ◌/◌, ◌<◌, ◌≤◌, max, List, [], ◌∷◌, ◌++◌, length, take, true, nat_eq, slice_index_or, refl, sym, ap, ◌∙◌, inl, inr, arith}
 use Rattle.std.specs.Prelude.{if◌then◌else◌}
 use Rattle.std.specs.List.{list_any}
@@ -27,11 +27,11 @@ pub place_is : (b r : ℕ) → place b r ≡ 1 + 16 * b + r
 unfolding place
 place_is b r = refl
 
--- two places of blocks are one only where block and place are
+-- two places of blocks are equal only if block and offset are
 pub one_place : (b r c s : ℕ) → r < 16 → s < 16 → place b r ≡ place c s → (b ≡ c) × (r ≡ s)
 one_place b r c s short brief same = let p = place_is b r in let q = place_is c s in (omega arith, omega arith)
 
--- each place lies among the words
+-- each place is among the words
 pub place_within : (limits : Bounds) (b r : ℕ) → b < blocks_of limits → r < 16 → place b r < count_of limits
 place_within limits b r near short = omega (arith, place_is b r)
 
@@ -65,7 +65,7 @@ fits_raised t f grows k (e ∷ h) word ends legal fits =
       ]
     ]
 
--- an edit of the lock-free form writes at one index at most
+-- an update of the lock-free form writes at one index at most
 one_at_most : (xs : List ℤ) (e : Edit) → IsShortEdit e → length (indices_written xs e) ≤ 1
 one_at_most xs (Push x) short = omega arith
 one_at_most xs Pop short = omega arith
@@ -116,7 +116,7 @@ current_cell t i (e ∷ h) word terms legal fits complete = elim fits.shown [
   ]
 ]
 
--- and so is such a mark
+-- a mark without a pending write shows the present history
 pub current_mark : (t : Terms) (b : ℕ) (h : List Entry) (word : ℕ) → AreTerms t → b < blocks_of t.limits → IsLegalHistory t h → Fits (mark_of b) h word → (HasPending (descriptor_of h) → index_of (descriptor_of h) / 8 ≡ b → length h ≤ word) → word ≡ mark_of b h
 current_mark t b [] word terms near legal fits complete = elim fits.shown [
   | inl is ↦ is
@@ -138,7 +138,7 @@ current_mark t b (e ∷ h) word terms near legal fits complete = elim fits.shown
   ]
 ]
 
--- a pending write: it lies in a cell, and this is what completes it
+-- a pending write: its cell, and the word that completes it
 pub record IsPending (t : Terms) (k : List Entry) : Type 0 where
   pub within : index_of (descriptor_of k) < capacity_of t.limits.buckets
   pub cell : completing (descriptor_of k) ≡ cell_of (index_of (descriptor_of k)) k
@@ -159,7 +159,7 @@ pending t (e ∷ k) terms legal has =
       mark = edit ∙ rw (index, mark_of-cons, touched, cond-true) (omega arith);
     }
 
--- a part stays one as the history grows
+-- a part remains one as the history grows
 pub part_grows : (f : Folding) (h : List Entry) (e : Entry) (b p word : ℕ) → FitsPart f h b p word → FitsPart f (e ∷ h) b p word
 part_grows f h e b p word fits = elim fits.shown [
   | inl none ↦ record { shown = inl none }

@@ -1,4 +1,4 @@
--- A step of a call that knows what it should is allowed, and is right: the call goes on knowing what it should, or ends as it should.
+-- A step of a call that knows what it should is allowed, and is right: the call still knows what it should, or ends as it should.
 use Rattle.std.proofs.Common.{◌≡◌, ℕ, ◌+◌, ◌-◌, ◌*◌, ◌/◌, ◌%◌, ◌<◌, ◌≤◌, List, length, slice_index, refl, sym, ap, ◌∙◌, subst, arith}
 use Rattle.std.specs.Prelude.{pos}
 use Rattle.std.specs.List.{slice_index_or}
@@ -20,7 +20,7 @@ use Rattle.lv_machine.proofs.ReadLaws.{cell_element, cell_read, mark_read, part_
 use Rattle.lv_machine.proofs.ReadyLaws.{block_whole, look_edit, refresh_within, size_in_blocks}
 use Rattle.lv_machine.proofs.ShowsLaws.{few_blocks}
 
--- what a load tells that a call makes, whose look shows an earlier history
+-- what a load of a call finds, if the call's look shows an earlier history
 module _ (t : Terms) (c : Config) (k : List Entry) (terms : AreTerms t) (shows : Shows t c) (ends : Ends k c.history) where
   pub legal_seen : IsLegalHistory t k
   legal_seen = legal_earlier t k c.history ends shows.legal
@@ -46,7 +46,7 @@ module _ (t : Terms) (c : Config) (k : List Entry) (terms : AreTerms t) (shows :
       let back : (9 + p) - 9 ≡ p = omega arith in
       subst (λ q. FitsPart t.folding c.history b q (slice_index c.words (part_place b p))) back ((shows.places b (9 + p) near (omega arith)).part (omega arith))
 
-  -- an element that was loaded, in time, at an index of the history
+  -- a loaded element at an index of the history, if its cell's version is no later than that history
   pub element_at : (i : ℕ) → i < length (elements_of k) → IsComplete c.words (descriptor_of k) → cell_version (slice_index c.words (cell_place i)) ≤ length k → signed (value_of (slice_index c.words (cell_place i))) ≡ slice_index_or (elements_of k) i (pos 0)
   element_at i within complete early =
       let near : i < 8 * blocks_of t.limits = omega (arith, size_in_blocks t k terms legal_seen) in

@@ -23,7 +23,7 @@ module _ (edit size index bits : ℕ) (few : size < 4096) (near : index < 4096) 
   unfolding value_of descriptor
   value_of-descriptor = omega arith
 
--- a descriptor is a word where its edit is
+-- a descriptor fits into a word if its fields are short enough
 pub descriptor-below : (edit size index bits : ℕ) → edit < 16777216 → size < 4096 → index < 4096 → bits < 65536 → descriptor edit size index bits < 18446744073709551616
 unfolding descriptor
 descriptor-below edit size index bits e s i b = omega arith
@@ -36,17 +36,17 @@ pub value_of-cell : (version bits : ℕ) → bits < 65536 → value_of (cell_wor
 unfolding value_of cell_word
 value_of-cell version bits short = omega arith
 
--- a cell is below each cell of a later version
+-- a cell is less than each cell of a later version
 pub cell_word-below : (version bits later : ℕ) → bits < 65536 → version < later → cell_word version bits < later * 65536
 unfolding cell_word
 cell_word-below version bits later short before = omega arith
 
--- and no less than its version says
+-- and no less than the cell of its version with the bits 0
 pub cell_word-above : (version bits : ℕ) → version * 65536 ≤ cell_word version bits
 unfolding cell_word
 cell_word-above version bits = omega arith
 
--- a cell is of at least the version that it is above
+-- a cell of at least some version is no less than that version's cell with the bits 0
 pub cell_version-least : (version word : ℕ) → version ≤ cell_version word → version * 65536 ≤ word
 unfolding cell_version
 cell_version-least version word least = omega arith
@@ -88,7 +88,7 @@ pub value_of-short : (word : ℕ) → value_of word < 65536
 unfolding value_of
 value_of-short word = omega arith
 
--- the bits of a short element are 16, and stand for it
+-- the bits of a short element are 16, and represent it
 pub bits_of-short : (x : ℤ) → IsShort x → bits_of x < 65536
 unfolding bits_of
 bits_of-short x short = omega (arith, ints)

@@ -1,4 +1,4 @@
--- A call of the lock-free form by its steps: where each is, what comes of it, and how the call ends.
+-- A call of the lock-free form in terms of its steps: the word of each step, how the call proceeds, and how it ends.
 use Rattle.std.specs.Prelude.{ℕ, ℤ, pos, negsuc, int_le, ◌+◌, ◌-◌, ◌*◌, ◌/◌, ◌%◌, Bool, false, ◌&&◌, Option, Some, None, Result, Ok, Err, List, [], nat_eq, nat_le, nat_lt, slice_index, slice_set, replicate, if◌then◌else◌}
 use Rattle.lv_geometry.specs.Bounds.{Bounds}
 use Rattle.lv_geometry.specs.declared.refusals.Refusal.{Refusal}
@@ -28,11 +28,11 @@ use Rattle.lv_machine.specs.declared.moves.Move.TheVariants.{Look, Exchange, Hel
 use Rattle.lv_machine.specs.Moves.{Config, moved, verdict_at}
 use Rattle.lv_machine.specs.Words.{cell_version, edit_of, index_of, part_value, part_version, part_word, signed, size_of, value_of}
 
--- whether a number fits 16 bits
+-- Whether a number fits into 16 bits.
 abbrev pub is_short : ℤ → Bool
 is_short x = int_le (negsuc 32767) x && int_le x (pos 32767)
 
--- what a call is for, or why it ends before its first step
+-- The goal of a call, or why it ends before its first step.
 abbrev pub goal_of : Call → Result Goal Refusal
 goal_of (call.Push x) = if is_short x then Ok (goal.Edit (Push x)) else Err TooWide
 goal_of call.Pop = Ok (goal.Edit Pop)
@@ -42,24 +42,24 @@ goal_of call.Size = Ok goal.Size
 goal_of (call.Reduce lo hi) = if nat_lt hi lo then Err BadRange else Ok (goal.Reduce lo hi)
 goal_of (call.Refresh b) = Ok (goal.Refresh b)
 
--- why a call is refused by the size alone, if it is
+-- Why a call is refused because of the size, if it is.
 abbrev pub size_refusal : ℕ → Goal → Option Refusal
 size_refusal size (goal.Get i) = if nat_lt i size then None else Some (OutOfRange size)
 size_refusal size (goal.Reduce lo hi) = if nat_lt size hi then Some (OutOfRange size) else None
 size_refusal size (goal.Refresh b) = if nat_lt b (size / 8) then None else Some (OutOfRange size)
 size_refusal size _ = None
 
--- why a call is refused at its look, if it is
+-- Why a call is refused at its look, if it is.
 abbrev pub refusal_at : Bounds → ℕ → Goal → Option Refusal
 refusal_at limits look (goal.Edit edit) = verdict_at limits look edit
 refusal_at limits look g = size_refusal (size_of look) g
 
--- whether a call completes its look's pending write: there is one, and the size alone isn't what it asks for
+-- Whether a call completes its look's pending write. It does if there is one, unless it only asks for the size.
 abbrev pub needs_help : ℕ → Goal → Bool
 needs_help look goal.Size = false
 needs_help look _ = nat_lt (index_of look) 4088
 
--- what an accepted edit is answered. The lock-free form has no reserve, no swap and no truncate
+-- The receipt of an accepted update. The lock-free form has no reserve, no swap and no truncate.
 abbrev pub receipt_at : ℕ → Edit → ℤ → Receipt
 receipt_at look (Push x) before = Pushed (edit_of look + 1) (size_of look)
 receipt_at look Pop before = Popped (edit_of look + 1) before
@@ -69,7 +69,7 @@ receipt_at look (Swap i j) before = Swapped (edit_of look + 1) before before
 receipt_at look (Truncate n) before = Truncated (edit_of look + 1) 0
 
 module _ {S : Type 0} where
-  -- the move that an actor's call makes next
+  -- The move that an actor's call makes next.
   abbrev pub move_of : ℕ → Task S → Move
   move_of a (task.Look g) = Look a
   move_of a (task.CompleteCell g) = HelpCell a
@@ -78,7 +78,7 @@ module _ {S : Type 0} where
   move_of a (task.KeepPart b parts) = Install a b parts.number (part_word parts.version (slice_index parts.values parts.number))
   move_of a _ = Read a
 
-  -- where the word lies that this step is on
+  -- The place of the word of this step.
   abbrev pub place_of : ℕ → Task S → ℕ
   place_of look (task.Look g) = 0
   place_of look (task.CompleteCell g) = cell_place (index_of look)
@@ -93,36 +93,36 @@ module _ {S : Type 0} where
   place_of look (task.KeepCell keep) = cell_place keep.at
   place_of look (task.KeepPart b parts) = part_place b parts.number
 
-  -- what an edit does once its look's pending write is complete: a pop and a write load the cell that they drop or overwrite
+  -- What an update does once its look's pending write is complete. A pop and a write load the cell that they drop or overwrite.
   abbrev pub edit_begun : ℕ → Edit → Task S
   edit_begun look Pop = task.ReadBefore Pop (size_of look - 1)
   edit_begun look (Write i x) = task.ReadBefore (Write i x) i
   edit_begun look edit = task.Exchange edit (pos 0)
 
-  -- what a reduction does next: the mark of a whole block that begins where it stands, or else the cell there; or it is over
+  -- What a reduction does next. It loads the mark of a whole block that begins at its position, or otherwise the cell there, or it has ended.
   abbrev pub walked : ℕ → Walk S → Advance S
   walked look walk =
       if nat_lt walk.at walk.hi
       then (if nat_eq (walk.at % 8) 0 && nat_le 8 (walk.hi - walk.at) then Goes (task.SumMark walk) else Goes (task.SumCell walk))
       else Ends (said.Answered record { edit = edit_of look; value = walk.sum; cells_read = walk.cells; summaries_read = walk.summaries })
 
-  -- the end of an exchange: another descriptor was found, or else the edit is accepted
+  -- The end of a compare-and-swap: another descriptor was found, or the update is accepted.
   abbrev pub exchanged : ℕ → Edit → ℤ → ℕ → Advance S
   exchanged look edit before found =
       if nat_eq found look then Ends (said.Did (receipt_at look edit before)) else Ends (said.Refused (Contended (edit_of found)))
 
-  -- a call that loaded a word of a later version than its look ends there; else it goes on
+  -- A call that loaded a word of a later version than its look ends there. Otherwise it proceeds.
   abbrev pub unless_later : ℕ → ℕ → Advance S → Advance S
   unless_later look version next = if nat_lt (edit_of look) version then Ends (said.Refused (Overtaken version)) else next
 
-  -- what a refresh does after a part of so many: the next one, or it is over
+  -- What a refresh does after one of `count` parts: it installs the next one, or has ended.
   abbrev pub part_kept : ℕ → ℕ → ℕ → Parts → Advance S
   part_kept count look b parts =
       if nat_lt (parts.number + 1) count
       then Goes (task.KeepPart b (record parts { number = parts.number + 1 }))
       else Ends (said.Refreshed record { edit = edit_of look; version = parts.version })
 
-  -- what an actor has once its call goes on, or has ended
+  -- What an actor has after its call has proceeded or ended.
   abbrev pub task_after : Advance S → Option (Task S)
   task_after (Goes t) = Some t
   task_after (Ends answer) = None
@@ -131,20 +131,20 @@ module _ {S : Type 0} where
   outcome_of (Goes t) = outcome.Going
   outcome_of (Ends answer) = outcome.Done answer
 
--- the words with one look: what an actor sees. Alone there, it goes by the number 0
+-- The words with one look: what an actor sees, which has the number 0 there.
 abbrev pub sees : List ℕ → ℕ → Config
 sees words look = record { words = words; history = []; looks = λ a. look }
 
--- the same after an actor's next step
+-- What an actor sees after its next step.
 abbrev pub sees_next : {S : Type 0} → List ℕ → ℕ → Task S → Config
 sees_next words look t = moved (sees words look) (move_of 0 t)
 
--- the block that is to be refreshed, if that is what a call is for
+-- The block that is to be refreshed, if that is the goal of the call.
 abbrev pub goal_block : Goal → Option ℕ
 goal_block (goal.Refresh b) = Some b
 goal_block _ = None
 
--- the block that a call refreshes, if it does
+-- The block that a call refreshes, if it does.
 abbrev pub task_block : {S : Type 0} → Task S → Option ℕ
 task_block (task.Look g) = goal_block g
 task_block (task.CompleteCell g) = goal_block g
@@ -155,7 +155,7 @@ task_block (task.KeepPart b parts) = Some b
 task_block _ = None
 
 module _ {S : Type 0} (o : Operations S) (count : ℕ) (parts_of : S → List ℕ) (whole_of : List ℕ → S) where
-  -- what a call does once its look's pending write is complete, or there is none
+  -- What a call does once its look's pending write is complete, or if there is none.
   abbrev pub begun : ℕ → Goal → Advance S
   begun look (goal.Edit edit) = Goes (edit_begun look edit)
   begun look (goal.Get i) = Goes (task.ReadCell i)
@@ -163,25 +163,25 @@ module _ {S : Type 0} (o : Operations S) (count : ℕ) (parts_of : S → List �
   begun look (goal.Reduce lo hi) = walked look record { lo = lo; at = lo; hi = hi; sum = o.identity; cells = 0; summaries = 0 }
   begun look (goal.Refresh b) = Goes (task.KeepMark b)
 
-  -- what a call does after its look, where it isn't refused there
+  -- What a call does after its look, unless it is refused there.
   abbrev pub looked_at : ℕ → Goal → Option Refusal → Advance S
   looked_at look g (Some refusal) = Ends (said.Refused refusal)
   looked_at look g None = if needs_help look g then Goes (task.CompleteCell g) else begun look g
 
-  -- a walk with one more cell
+  -- A walk with one more cell.
   abbrev pub with_cell : Walk S → ℕ → Walk S
   with_cell walk found = record walk { at = walk.at + 1; sum = o.join walk.sum (o.lift (signed (value_of found))); cells = walk.cells + 1 }
 
-  -- a walk with a block, taken from its parts
+  -- A walk with a whole block, from the parts of its aggregate.
   abbrev pub with_block : Walk S → List ℕ → Walk S
   with_block walk parts = record walk { at = walk.at + 8; sum = o.join walk.sum (whole_of parts); summaries = walk.summaries + 1 }
 
-  -- parts with one more that was loaded
+  -- Parts with one more that was loaded.
   abbrev pub with_part : Parts → ℕ → Parts
   with_part parts found = record parts { number = parts.number + 1; values = slice_set parts.values parts.number (part_value found) }
 
-  -- what a reduction does with a part: of another version than the mark, it goes on with the block's cells; after the last part it
-  -- takes the block from them
+  -- What a reduction does with a part. If it has another version than the mark, the reduction proceeds with the block's cells. After the last
+  -- part it takes the block's aggregate from the parts.
   abbrev pub part_loaded : ℕ → Walk S → Parts → ℕ → Advance S
   part_loaded look walk parts found =
       if nat_eq (part_version found) parts.version
@@ -190,18 +190,18 @@ module _ {S : Type 0} (o : Operations S) (count : ℕ) (parts_of : S → List �
       else walked look (with_block walk (with_part parts found).values))
       else Goes (task.SumCell walk)
 
-  -- a refresh with one more cell
+  -- A refresh with one more cell.
   abbrev pub with_kept : Keep S → ℕ → Keep S
   with_kept keep found = record keep { at = keep.at + 1; sum = o.join keep.sum (o.lift (signed (value_of found))) }
 
-  -- what a refresh does after a cell: once it has all eight, it has the parts
+  -- What a refresh does after a cell. Once it has all eight, it has the parts.
   abbrev pub cell_kept : Keep S → Advance S
   cell_kept keep =
       if nat_eq (keep.at % 8) 0
       then Goes (task.KeepPart keep.block record { version = keep.version; number = 0; values = parts_of keep.sum })
       else Goes (task.KeepCell keep)
 
-  -- what becomes of a call by its step, which was on a word; the look is the one before the step
+  -- How a call proceeds by its step, which found a word. The look is the one before the step.
   abbrev pub advanced : Bounds → ℕ → Task S → ℕ → Advance S
   advanced limits look (task.Look g) found = looked_at found g (refusal_at limits found g)
   advanced limits look (task.CompleteCell g) found = Goes (task.CompleteMark g)

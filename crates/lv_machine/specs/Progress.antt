@@ -1,4 +1,4 @@
--- What a call under way knows of the history that its look shows, and what a call that has ended was told.
+-- What a call under way knows of the history that its look shows, and what a call that has ended returned.
 use Rattle.std.specs.Prelude.{◌≡◌, ◌⊎◌, ℕ, pos, ◌+◌, ◌-◌, ◌*◌, ◌/◌, ◌%◌, ◌<◌, ◌≤◌, true, Option, Some, None, List, ◌∷◌, length, slice_get, slice_index, slice_range, IfSome}
 use Rattle.std.specs.List.{slice_index_or}
 use Rattle.lv_geometry.specs.Bounds.{Bounds}
@@ -35,27 +35,27 @@ use Rattle.lv_machine.specs.Shows.{block, mark_of}
 use Rattle.lv_machine.specs.Terms.{AreTerms, Folding, Terms}
 use Rattle.lv_machine.specs.Words.{cell_version, edit_of, HasPending, index_of}
 
--- a goal that a call may have: edits are of 16 bits, and ranges in order
+-- A goal that a call may have: updates are of 16 bits, and ranges are in order.
 abbrev pub IsGoal : Goal → Type 0
 IsGoal (goal.Edit edit) = IsShortEdit edit
 IsGoal (goal.Reduce lo hi) = lo ≤ hi
 IsGoal _ = Unit {0}
 
--- a goal that is not refused at a look
+-- A goal that is not refused at a look.
 pub record IsGranted (limits : Bounds) (look : ℕ) (g : Goal) : Type 0 where
   pub may : IsGoal g
   pub granted : refusal_at limits look g ≡ None
 
--- how a body's folds are kept in parts
+-- How the folds of a monoid instance are stored in parts.
 abbrev pub folding_of : {S : Type 0} → Operations S → ℕ → (S → List ℕ) → Folding
 folding_of o count parts_of = record { parts = count; part = λ p xs. slice_index (parts_of (fold_of o xs)) p }
 
 module _ {S : Type 0} (o : Operations S) (count : ℕ) (parts_of : S → List ℕ) (limits : Bounds) (words : List ℕ) (k : List Entry) where
-  -- the fold of a block
+  -- The fold of a block.
   abbrev pub block_fold : ℕ → S
   block_fold b = fold_of o (elements_under (edits_of k) (block b))
 
-  -- a reduction that was granted has the fold of the elements before where it stands, of which it counted each once
+  -- A reduction that was granted has the fold of the elements before its position, and has counted each of them once.
   pub record Walks (walk : Walk S) : Type 0 where
     pub granted : IsGranted limits (descriptor_of k) (goal.Reduce walk.lo walk.hi)
     pub complete : IsComplete words (descriptor_of k)
@@ -64,13 +64,13 @@ module _ {S : Type 0} (o : Operations S) (count : ℕ) (parts_of : S → List �
     pub sum : walk.sum ≡ fold_of o (slice_range (elements_of k) walk.lo walk.at)
     pub counts : walk.cells + 8 * walk.summaries + walk.lo ≡ walk.at
 
-  -- it stands where a whole block begins
+  -- It is at the beginning of a whole block.
   pub record WalksBlock (walk : Walk S) : Type 0 where
     pub walks : Walks walk
     pub begins : walk.at % 8 ≡ 0
     pub ends : walk.at + 8 ≤ walk.hi
 
-  -- the parts before the next one are those of a block, and the others 0
+  -- The parts before the next one are those of a block, and the others are 0.
   pub record AreTaken (b : ℕ) (parts : Parts) : Type 0 where
     pub version : parts.version ≡ mark_of b k
     pub some : parts.number < count
@@ -78,12 +78,12 @@ module _ {S : Type 0} (o : Operations S) (count : ℕ) (parts_of : S → List �
     pub taken : (p : ℕ) → p < parts.number → slice_index parts.values p ≡ slice_index (parts_of (block_fold b)) p
     pub others : (p : ℕ) → parts.number ≤ p → slice_index parts.values p ≡ 0
 
-  -- a refresh that was granted
+  -- A refresh that was granted.
   pub record Keeps (b : ℕ) : Type 0 where
     pub granted : IsGranted limits (descriptor_of k) (goal.Refresh b)
     pub complete : IsComplete words (descriptor_of k)
 
-  -- a refresh has the fold of the block's elements before where it stands, and the block's mark
+  -- A refresh has the fold of the block's elements before its position, and the block's mark.
   pub record KeepsCells (keep : Keep S) : Type 0 where
     pub keeps : Keeps keep.block
     pub version : keep.version ≡ mark_of keep.block k
@@ -91,19 +91,19 @@ module _ {S : Type 0} (o : Operations S) (count : ℕ) (parts_of : S → List �
     pub high : keep.at < 8 * keep.block + 8
     pub sum : keep.sum ≡ fold_of o (slice_range (elements_of k) (8 * keep.block) keep.at)
 
-  -- a refresh has the parts of its block
+  -- A refresh has the parts of its block.
   pub record KeepsParts (b : ℕ) (parts : Parts) : Type 0 where
     pub keeps : Keeps b
     pub version : parts.version ≡ mark_of b k
     pub some : parts.number < count
     pub values : parts.values ≡ parts_of (block_fold b)
 
-  -- an edit that was granted, whose look's pending write is complete
+  -- An update that was granted, whose look's pending write is complete.
   pub record MayEdit (edit : Edit) : Type 0 where
     pub granted : IsGranted limits (descriptor_of k) (goal.Edit edit)
     pub complete : IsComplete words (descriptor_of k)
 
-  -- what a call knows by its next step
+  -- What a call knows at its next step.
   abbrev pub Knows : Task S → Type 0
   Knows (task.Look g) = IsGoal g
   Knows (task.CompleteCell g) = IsGranted limits (descriptor_of k) g × HasPending (descriptor_of k)
@@ -120,12 +120,12 @@ module _ {S : Type 0} (o : Operations S) (count : ℕ) (parts_of : S → List �
   Knows (task.KeepCell keep) = KeepsCells keep
   Knows (task.KeepPart b parts) = KeepsParts b parts
 
--- why a call is refused after some edits, if it is
+-- Why a call is refused after some updates, if it is.
 abbrev pub refusal_after : Bounds → List Edit → ℕ → Goal → Option Refusal
 refusal_after limits edits size (goal.Edit edit) = verdict_of limits edits edit
 refusal_after limits edits size g = size_refusal size g
 
--- an edit was accepted: it is the last entry of the history, which the look shows now, and is answered its receipt
+-- An update was accepted. It is the last entry of the history, which the look shows now, and the call returned its receipt.
 pub record WasAccepted (limits : Bounds) (a : ℕ) (h k : List Entry) (g : Goal) (receipt : Receipt) : Type 0 where
   pub edit : Edit
   pub before : List Entry
@@ -135,7 +135,7 @@ pub record WasAccepted (limits : Bounds) (a : ℕ) (h k : List Entry) (g : Goal)
   pub verdict : verdict_of limits (edits_of before) edit ≡ None
   pub receipt_is : receipt ≡ receipt_of (edits_of before) edit
 
--- a get was told the element at its index, after the edits that its look shows
+-- A get returned the element at its index, after the updates that its look shows.
 pub record WasRead (k : List Entry) (g : Goal) (read : Read) : Type 0 where
   pub index : ℕ
   pub asked : g ≡ goal.Get index
@@ -143,13 +143,13 @@ pub record WasRead (k : List Entry) (g : Goal) (read : Read) : Type 0 where
   pub within : index < length (elements_of k)
   pub value : read.value ≡ slice_index_or (elements_of k) index (pos 0)
 
--- a call was told the size after the edits that its look shows
+-- A call returned the size after the updates that its look shows.
 pub record WasSized (k : List Entry) (g : Goal) (sized : Sized) : Type 0 where
   pub asked : g ≡ goal.Size
   pub edit : sized.edit ≡ length k
   pub size : sized.size ≡ length (elements_of k)
 
--- a reduction was told the fold of its range, after the edits that its look shows; each element was read once
+-- A reduction returned the fold of its range, after the updates that its look shows. Each element was read once.
 pub record WasAnswered {S : Type 0} (o : Operations S) (k : List Entry) (g : Goal) (answer : Answer S) : Type 0 where
   pub lo : ℕ
   pub hi : ℕ
@@ -157,7 +157,7 @@ pub record WasAnswered {S : Type 0} (o : Operations S) (k : List Entry) (g : Goa
   pub fold : IsAnswer o (edits_of k) lo hi answer
   pub reads : answer.cells_read + 8 * answer.summaries_read ≡ hi - lo
 
--- a refresh was told the number of the last edit that touched its block, which is whole, after the edits that its look shows
+-- A refresh returned the number of the last update that touched its block, which is full, after the updates that its look shows.
 pub record WasRefreshed (k : List Entry) (g : Goal) (refreshed : Refreshed) : Type 0 where
   pub block_number : ℕ
   pub asked : g ≡ goal.Refresh block_number
@@ -165,8 +165,8 @@ pub record WasRefreshed (k : List Entry) (g : Goal) (refreshed : Refreshed) : Ty
   pub edit : refreshed.edit ≡ length k
   pub version : refreshed.version ≡ mark_of block_number k
 
--- a call was refused: by what the edits that its look shows make of it; or an exchange found this many edits, which its look shows now,
--- and more than before; or a word of a later edit was loaded
+-- A call was refused. Either the updates that its look shows refuse it. Or a compare-and-swap found this many updates, which its look shows now
+-- and which are more than before. Or a word of a later update was loaded.
 abbrev pub WasRefused : Bounds → List Entry → List Entry → List Entry → Goal → Refusal → Type 0
 WasRefused limits h old k g refusal =
     (refusal_after limits (edits_of k) (length (elements_of k)) g ≡ Some refusal)
@@ -174,7 +174,7 @@ WasRefused limits h old k g refusal =
     ⊎ ((v : ℕ) × (refusal ≡ Overtaken v) × (length k < v) × (v ≤ length h))
 
 module _ {S : Type 0} (o : Operations S) (count : ℕ) (parts_of : S → List ℕ) (limits : Bounds) where
-  -- what a call of actor a has ended with, whose look showed `old` before the last step and shows k now, where h is the whole history
+  -- How a call of actor a has ended. Its look showed `old` before the last step and shows `k` now, and `h` is the whole history.
   abbrev pub WasSaid : ℕ → (h old k : List Entry) → Goal → Said S → Type 0
   WasSaid a h old k g (said.Did receipt) = WasAccepted limits a h k g receipt
   WasSaid a h old k g (said.Read read) = WasRead k g read
@@ -183,7 +183,7 @@ module _ {S : Type 0} (o : Operations S) (count : ℕ) (parts_of : S → List �
   WasSaid a h old k g (said.Refreshed refreshed) = WasRefreshed k g refreshed
   WasSaid a h old k g (said.Refused refusal) = WasRefused limits h old k g refusal
 
-  -- what a call under way is for
+  -- The goal of a call under way.
   abbrev pub goal_under : Task S → Goal
   goal_under (task.Look g) = g
   goal_under (task.CompleteCell g) = g
@@ -198,12 +198,12 @@ module _ {S : Type 0} (o : Operations S) (count : ℕ) (parts_of : S → List �
   goal_under (task.KeepCell keep) = goal.Refresh keep.block
   goal_under (task.KeepPart b parts) = goal.Refresh b
 
-  -- what a step came to is right of the same call, in the words and the history after it
+  -- The result of a step is right for the goal, given the words and the history after the step.
   abbrev pub IsRight : ℕ → (words : List ℕ) → (h old k : List Entry) → Goal → Advance S → Type 0
   IsRight a words h old k g (advance.Goes t) = Knows o count parts_of limits words k t × (goal_under t ≡ g)
   IsRight a words h old k g (advance.Ends answer) = WasSaid a h old k g answer
 
-  -- an actor in a state: its look shows an earlier history, of which its call knows what it should
+  -- An actor in a state: its look shows an earlier history, and its call knows of that what it should.
   pub record Follows (c : Config) (a : ℕ) (actor : Actor S) : Type 0 where
     pub seen : List Entry
     pub ends : Ends seen c.history
@@ -211,11 +211,11 @@ module _ {S : Type 0} (o : Operations S) (count : ℕ) (parts_of : S → List �
     pub shown : c.looks a ≡ descriptor_of seen
     pub knows : IfSome actor.task (Knows o count parts_of limits c.words seen)
 
-  -- the terms of a machine with so many actors
+  -- The terms of a machine with this number of actors.
   abbrev pub terms_of : ℕ → Terms
   terms_of seats = record { limits = limits; seats = seats; folding = folding_of o count parts_of }
 
-  -- words and actors are those of a state: moves reach it from the start, and each actor follows it
+  -- Words and actors are those of a state: moves reach it from the start, and each actor follows it.
   pub record StandsAt (seats : ℕ) (config : Config) (words : List ℕ) (actors : List (Actor S)) : Type 0 where
     pub all_seats : length actors ≡ seats
     pub terms : AreTerms (terms_of seats)
@@ -223,7 +223,7 @@ module _ {S : Type 0} (o : Operations S) (count : ℕ) (parts_of : S → List �
     pub words_are : config.words ≡ words
     pub follow : (a : ℕ) (actor : Actor S) → slice_get actors a ≡ Some actor → Follows config a actor
 
-  -- words and actors are those of some state
+  -- Words and actors are those of some state.
   pub record IsReached (words : List ℕ) (actors : List (Actor S)) : Type 0 where
     pub config : Config
     pub seats : ℕ

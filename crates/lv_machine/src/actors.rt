@@ -4,7 +4,7 @@ ghost use Rattle.std.specs.Prelude.{◌≡◌, ⊤};
 use crate::tasks::Task;
 use std::alloc::AllocError;
 
-/// What an actor has: the descriptor that it last saw, and its call, if one is under way.
+/// The state of an actor: the descriptor that it last saw, and its call, if one is under way.
 #[derive(Copy)]
 pub struct Actor<S> {
     pub look: u64,

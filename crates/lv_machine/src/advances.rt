@@ -1,4 +1,4 @@
-//! What becomes of a call by a step: each kind of step, and what it goes on to.
+//! How a call proceeds by a step: each kind of step, and what comes after it.
 ghost use Rattle.std.specs.Prelude.{◌≡◌, ◌*◌, ◌<◌};
 ghost use Rattle.lv_machine.specs.Calls.{advanced, begun, looked_at, refusal_at, unless_later};
 ghost use Rattle.lv_machine.specs.Ready.{CanAdvance};
@@ -15,7 +15,7 @@ use lv_bodies::Parted;
 use lv_edits::Edit;
 use lv_geometry::Limits;
 
-/// What becomes of a call by a step that found a word. The look is the one before the step.
+/// How a call proceeds by a step that found a word. The look is the one before the step.
 pub fn advance<B: Parted>(
     body: &B,
     limits: Limits,
@@ -42,7 +42,7 @@ pub fn advance<B: Parted>(
     }
 }
 
-// What becomes of a call after its look.
+// How a call proceeds after its look.
 fn after_look<B: Parted>(body: &B, limits: Limits, goal: Goal, look: u64) -> Advance<B::S>
     ensures { result ≡ looked_at (B.operations body.now) B.PARTS B.parts_of B.whole_of look goal (refusal_at limits look goal) }
 {
@@ -56,7 +56,7 @@ fn after_look<B: Parted>(body: &B, limits: Limits, goal: Goal, look: u64) -> Adv
     }
 }
 
-// What a call does once its look's pending write is complete, or there is none.
+// What a call does once its look's pending write is complete, or if there is none.
 fn begin<B: Parted>(body: &B, goal: Goal, look: u64) -> Advance<B::S>
     ensures { result ≡ begun (B.operations body.now) B.PARTS B.parts_of B.whole_of look goal }
 {
@@ -83,7 +83,7 @@ fn begin<B: Parted>(body: &B, goal: Goal, look: u64) -> Advance<B::S>
     }
 }
 
-// What becomes of a get after its cell.
+// How a get proceeds after its cell.
 fn after_cell<S>(look: u64, found: u64) -> Advance<S>
     requires { cell_version found < 16777216 }
     ensures { result ≡ unless_later look (cell_version found) (Advance.Ends (Said.Read record { edit = edit_of look; value = signed (value_of found) })) }

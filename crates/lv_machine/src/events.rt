@@ -1,9 +1,9 @@
 //! Events: calls that are started, and steps of them.
 
-/// What an actor may ask of a machine.
+/// The calls that an actor may make at a machine.
 #[derive(Clone, Copy)]
 pub enum Call {
-    /// Puts an element of 16 bits at the end.
+    /// Appends an element of 16 bits.
     Push(i64),
     /// Drops the last element.
     Pop,
@@ -11,15 +11,15 @@ pub enum Call {
     Write { index: u32, value: i64 },
     /// Reads the element at an index.
     Get(u32),
-    /// Asks how many elements there are.
+    /// Asks for the number of elements.
     Size,
     /// Asks for the fold of the elements from index `lo` up to `hi`.
     Reduce { lo: u32, hi: u32 },
-    /// Makes the parts of a block's summary.
+    /// Makes the parts of a block's aggregate.
     Refresh(u32),
 }
 
-/// What may happen to a machine: actor `actor`, counted from 0, starts a call, or does the next atomic step of its call.
+/// What may happen at a machine: actor `actor`, counted from 0, starts a call, or does the next atomic step of its call.
 #[derive(Clone, Copy)]
 pub enum Event {
     Call { actor: u32, call: Call },

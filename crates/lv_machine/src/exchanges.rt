@@ -1,4 +1,4 @@
-//! The steps of an edit: what it loads before, its exchange, and what it is answered.
+//! The steps of an update: what it loads before, its compare-and-swap, and its receipt.
 ghost use Rattle.std.specs.Prelude.{◌≡◌, ◌+◌, ◌<◌};
 ghost use Rattle.lv_machine.specs.Calls.{edit_begun, exchanged, receipt_at, unless_later};
 ghost use Rattle.lv_machine.specs.Words.{cell_version, signed, value_of};
@@ -10,7 +10,7 @@ use crate::tasks::{Advance, Task};
 use lv_edits::{Edit, Receipt};
 use lv_geometry::Refusal;
 
-/// What an edit does then: a pop and a write load the cell that they drop or overwrite.
+/// What an update does next. A pop and a write load the cell that they drop or overwrite.
 pub fn begin_edit<S>(edit: Edit, look: u64) -> Task<S>
     ensures { result ≡ edit_begun look edit }
 {
@@ -24,7 +24,7 @@ pub fn begin_edit<S>(edit: Edit, look: u64) -> Task<S>
     }
 }
 
-/// What becomes of a pop or a write after it loaded the element before.
+/// How a pop or a write proceeds after it loaded the old element.
 pub fn after_before<S>(edit: Edit, look: u64, found: u64) -> Advance<S>
     requires { cell_version found < 16777216 }
     ensures { result ≡ unless_later look (cell_version found) (Advance.Goes (Task.Exchange edit (signed (value_of found)))) }
@@ -38,7 +38,7 @@ pub fn after_before<S>(edit: Edit, look: u64, found: u64) -> Advance<S>
     })
 }
 
-/// What becomes of an edit after its exchange.
+/// How an update proceeds after its compare-and-swap.
 pub fn after_exchange<S>(edit: Edit, before: i64, look: u64, found: u64) -> Advance<S>
     ensures { result ≡ exchanged look edit before found }
 {
@@ -51,7 +51,7 @@ pub fn after_exchange<S>(edit: Edit, before: i64, look: u64, found: u64) -> Adva
     }
 }
 
-// What an accepted edit is answered.
+// The receipt of an accepted update.
 fn receipt(edit: Edit, before: i64, look: u64) -> Receipt
     ensures { result ≡ receipt_at look edit before }
 {

@@ -9,12 +9,12 @@ pub fn reachable_words_show_history()
     ensures { ReachableShows }
 {}
 
-/// The edit between two descriptors that follow one another is told by them alone.
+/// The update between two successive descriptors is determined by these descriptors.
 pub fn descriptors_tell_the_edit()
     ensures { DescriptorsTellEdits }
 {}
 
-/// The edits of an earlier history come first among those of a later one.
+/// The updates of an earlier history are the first of those of a later one.
 pub fn earlier_edits_come_first()
     ensures { (k : List Entry) (h : List Entry) → Ends k h → edits_of k ≡ take (length k) (edits_of h) }
 {}

@@ -1,9 +1,9 @@
-//! The lock-free form of the vector as a plain value, one atomic step at a time; and as plain data: its words, the histories that
-//! they show, and its atomic steps.
+//! The lock-free form of the vector as a plain value that makes one atomic step at a time, and as plain data: its words, the histories that they
+//! show, and its atomic steps.
 //!
-//! A machine is the words of the lock-free form, and of each actor the descriptor that it last saw and its call, if one is under
-//! way. An event starts a call or does its next step; nothing happens between events. Its edits are those whose exchange found
-//! the descriptor unchanged, in that order; they are not stored. No thread is started here, and nothing waits.
+//! A machine has the words of the lock-free form and, for each actor, the descriptor that it last saw and its call, if one is under way. An event
+//! starts a call or does its next step, and nothing happens between events. The machine's updates are those whose compare-and-swap found the
+//! descriptor unchanged, in that order. They are not stored. No thread is started here, and nothing waits.
 #![tactic(auto)]
 
 mod actors;

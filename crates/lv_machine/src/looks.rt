@@ -1,4 +1,4 @@
-//! What a look says of a call: that it is refused, that a pending write comes first, or that a later edit overtook it.
+//! What a look determines of a call: that it is refused, that a pending write comes first, or that a later update overtook it.
 ghost use Rattle.std.specs.Prelude.{◌≡◌, ◌<◌};
 ghost use Rattle.lv_machine.specs.Calls.{needs_help, refusal_at};
 ghost use Rattle.lv_machine.specs.Moves.{verdict_at};
@@ -24,7 +24,7 @@ pub fn refused_at(limits: Limits, goal: Goal, look: u64) -> Option<Refusal>
     }
 }
 
-// Why an edit is refused at a look, if it is.
+// Why an update is refused at a look, if it is.
 fn verdict_on(limits: Limits, edit: Edit, look: u64) -> Option<Refusal>
     ensures { result ≡ verdict_at limits look edit }
 {
@@ -34,7 +34,7 @@ fn verdict_on(limits: Limits, edit: Edit, look: u64) -> Option<Refusal>
     refused_by_size(limits.capacity(), size_in(look), edit)
 }
 
-/// Whether a call completes its look's pending write: there is one, and the size alone is not what it asks for.
+/// Whether a call completes its look's pending write. It does if there is one, unless it only asks for the size.
 pub fn wants_help(goal: Goal, look: u64) -> bool
     ensures { result ≡ needs_help look goal }
 {

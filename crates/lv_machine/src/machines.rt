@@ -19,7 +19,7 @@ use lv_geometry::{Limits, Refusal};
 use std::alloc::{AllocError, Global};
 use std::marker::Model;
 
-/// The lock-free form as a plain value: words, and calls under way. Its actors have the numbers from 0 on.
+/// The lock-free form as a plain value: words, and calls under way. Its actors are numbered from 0.
 #[derive(Drop)]
 pub struct Machine<B: Parted> {
     alloc: Global,
@@ -41,8 +41,8 @@ impl<B: Parted> Model for Machine<B> {
 }
 
 impl<B: Parted> Machine<B> {
-    /// An empty vector, and so many idle actors. Refused with `BadLimits` where there may be more than 9 buckets or the actors
-    /// are not 1 to 8, then with `NoMemory`.
+    /// An empty vector, and this many idle actors. Refused with `BadLimits` if there may be more than 9 buckets or the actors are not 1 to 8,
+    /// then with `NoMemory`.
     pub fn new(alloc: Global, limits: Limits, actors: u32, body: B) -> Result<Machine<B>, Refusal>
         ensures ok { IfOk result (λ machine. machine ≡ first_state body limits actors) }
         ensures fits { IfOk result (λ machine. setting_refusal limits actors ≡ None) }
@@ -95,8 +95,8 @@ impl<B: Parted> Machine<B> {
         }
     }
 
-    /// Does a list of events, and tells what each comes to. Refused with `NoMemory` where there is no room for the outcomes,
-    /// which is made first; nothing has changed then.
+    /// Does a list of events, and returns the outcome of each. Room for the outcomes is made first. Refused with `NoMemory` if there is none, and
+    /// nothing has changed then.
     pub fn run(&mut self, events: &[Event]) -> Result<Vec<Outcome<B::S>>, Refusal>
         ensures state { OnOk result (self.new ≡ (machine_run (B.operations self.old.body) B.PARTS B.parts_of B.whole_of self.old events.now).0) }
         ensures outcomes { IfOk result (λ outcomes. outcomes.items ≡ (machine_run (B.operations self.old.body) B.PARTS B.parts_of B.whole_of self.old events.now).1) }
@@ -125,7 +125,7 @@ impl<B: Parted> Machine<B> {
         }
     }
 
-    // Starts a call of an actor, or tells why it ends before its first step.
+    // Starts a call of an actor, or returns why it ends before its first step.
     fn begin(&mut self, actor: u32, look: u64, goal: Result<Goal, Refusal>) -> Outcome<B::S>
         requires idle { slice_get self.old.actors actor ≡ Some record { look = look; task = None } }
         requires goal { IfOk goal IsGoal }
@@ -196,7 +196,7 @@ fn goal_block(goal: Goal) -> Option<u32>
     }
 }
 
-// So many actors at the start.
+// This many actors at the start.
 fn idle_actors<S: Copy>(alloc: Global, count: u32) -> Result<Vec<Actor<S>>, AllocError>
     ensures { IfOk result (λ actors. actors.items ≡ replicate count idle) }
 {
@@ -210,14 +210,14 @@ fn idle_actors<S: Copy>(alloc: Global, count: u32) -> Result<Vec<Actor<S>>, Allo
     Ok(actors)
 }
 
-// What an actor has, if there is one.
+// The state of an actor, if there is one.
 fn actor_at<S: Copy>(actors: &[Actor<S>], actor: u32) -> Option<Actor<S>>
     ensures { result ≡ slice_get actors.now actor }
 {
     actors.get(actor as usize).copied()
 }
 
-// Puts what an actor has.
+// Sets the state of an actor.
 fn set_actor<S: Copy>(actors: &mut [Actor<S>], actor: u32, to: Actor<S>)
     requires { actor < length actors.old }
     ensures { actors.new ≡ slice_set actors.old actor to }
@@ -225,7 +225,7 @@ fn set_actor<S: Copy>(actors: &mut [Actor<S>], actor: u32, to: Actor<S>)
     actors[actor as usize] = to;
 }
 
-// What a call is for, or why it ends before its first step.
+// The goal of a call, or why it ends before its first step.
 fn aim(call: Call) -> Result<Goal, Refusal>
     ensures value { result ≡ goal_of call }
     ensures goal { IfOk result IsGoal }
@@ -246,7 +246,7 @@ fn aim(call: Call) -> Result<Goal, Refusal>
     }
 }
 
-// An edit of an element, if that fits 16 bits.
+// An update of an element, if that fits into 16 bits.
 fn aim_edit(x: i64, edit: Edit) -> Result<Goal, Refusal>
     ensures { result ≡ (if is_short x then Ok (Goal.Edit edit) else Err Refusal.TooWide) }
 {
@@ -267,7 +267,7 @@ fn task_left<S: Copy>(next: Advance<S>) -> Option<Task<S>>
     }
 }
 
-// What a step comes to.
+// The outcome of a step.
 fn outcome<S: Copy>(next: Advance<S>) -> Outcome<S>
     ensures { result ≡ outcome_of next }
 {

@@ -1,4 +1,4 @@
-//! What calls end with, and what events come to.
+//! How calls end, and the outcomes of events.
 ghost use Rattle.std.specs.Prelude.{◌≡◌, ⊤};
 
 use lv_edits::Receipt;
@@ -6,31 +6,31 @@ use lv_geometry::Refusal;
 use lv_reduce::Answer;
 use std::alloc::AllocError;
 
-/// An element, and the number of the last edit where it was read.
+/// An element, and the number of the last update at which it was read.
 #[derive(Clone, Copy, PartialEq, Eq)]
 pub struct Read {
     pub edit: u32,
     pub value: i64,
 }
 
-/// How many elements there were after an edit.
+/// The number of elements after an update.
 #[derive(Clone, Copy, PartialEq, Eq)]
 pub struct Sized {
     pub edit: u32,
     pub size: u32,
 }
 
-/// The parts of a block were made: after `edit`, the last edit that touched the block was `version`.
+/// The parts of a block were made. After `edit`, the last update that touched the block was `version`.
 #[derive(Clone, Copy, PartialEq, Eq)]
 pub struct Refreshed {
     pub edit: u32,
     pub version: u32,
 }
 
-/// What a call ends with.
+/// How a call ends.
 #[derive(Copy, PartialEq, Eq)]
 pub enum Said<S> {
-    /// An edit was accepted.
+    /// An update was accepted.
     Did(Receipt),
     /// An element.
     Read(Read),
@@ -44,12 +44,12 @@ pub enum Said<S> {
     Refused(Refusal),
 }
 
-/// What an event comes to.
+/// The outcome of an event.
 #[derive(Copy, PartialEq, Eq)]
 pub enum Outcome<S> {
     /// The call begins, and needs a step.
     Started,
-    /// The step is done, and the call goes on.
+    /// The step is done, and the call continues.
     Going,
     /// The call has ended.
     Done(Said<S>),

@@ -1,4 +1,4 @@
-//! How words are read and made, and where they lie.
+//! How words are read and made, and their places.
 #![tactic(auto, unfolding(crate::specs::Layout::place, crate::specs::Words::bits_of, crate::specs::Words::cell_version, crate::specs::Words::cell_word, crate::specs::Words::descriptor, crate::specs::Words::edit_of, crate::specs::Words::index_of, crate::specs::Words::part_value, crate::specs::Words::part_version, crate::specs::Words::part_word, crate::specs::Words::signed, crate::specs::Words::size_of, crate::specs::Words::value_of))]
 
 ghost use Rattle.std.specs.Prelude.{◌≡◌, ◌+◌, ◌*◌, ◌<◌};
@@ -13,7 +13,7 @@ use lv_edits::Edit;
 // The index of a descriptor that has no write pending.
 const NO_INDEX: u32 = 4095;
 
-/// The number of the last edit, of a descriptor.
+/// The number of the last update, of a descriptor.
 #[inline(always)]
 pub fn edit_in(word: u64) -> u32
     ensures value { result ≡ edit_of word }
@@ -31,7 +31,7 @@ pub fn size_in(word: u64) -> u32
     ((word >> 28) % 4096) as u32
 }
 
-/// The index of the pending write, of a descriptor: 4095 where there is none.
+/// The index of the pending write of a descriptor, or 4095 if there is none.
 #[inline(always)]
 pub fn index_in(word: u64) -> u32
     ensures value { result ≡ index_of word }
@@ -48,7 +48,7 @@ pub fn value_in(word: u64) -> u16
     (word % 65536) as u16
 }
 
-/// The number of the edit that wrote a cell.
+/// The number of the update that wrote a cell.
 #[inline(always)]
 pub fn version_in(cell: u64) -> u64
     ensures { result ≡ cell_version cell }
@@ -86,7 +86,7 @@ pub fn pack(edit: u32, size: u32, index: u32, value: u16) -> u64
         + u64::from(value)
 }
 
-/// A cell that an edit wrote.
+/// A cell that an update wrote.
 #[inline(always)]
 pub fn pack_cell(version: u32, value: u16) -> u64
     ensures { result ≡ cell_word version value }
@@ -94,7 +94,7 @@ pub fn pack_cell(version: u32, value: u16) -> u64
     u64::from(version) * (1 << 16) + u64::from(value)
 }
 
-/// A part of a block's summary.
+/// A part of a block's aggregate.
 #[inline(always)]
 pub fn pack_part(version: u32, value: u32) -> u64
     ensures { result ≡ part_word version value }
@@ -102,7 +102,7 @@ pub fn pack_part(version: u32, value: u32) -> u64
     u64::from(version) * (1 << 32) + u64::from(value)
 }
 
-// Where a word of a block lies.
+// The place of a word of a block.
 #[inline(always)]
 fn place_in(block: u32, offset: u32) -> usize
     requires { offset < 16 }
@@ -111,7 +111,7 @@ fn place_in(block: u32, offset: u32) -> usize
     1 + 16 * block as usize + offset as usize
 }
 
-/// Where a cell lies.
+/// The place of a cell.
 #[inline(always)]
 pub fn cell_place_of(index: u32) -> usize
     ensures { result ≡ cell_place index }
@@ -119,7 +119,7 @@ pub fn cell_place_of(index: u32) -> usize
     place_in(index / 8, index % 8)
 }
 
-/// Where a block's mark lies.
+/// The place of a block's mark.
 #[inline(always)]
 pub fn mark_place_of(block: u32) -> usize
     ensures { result ≡ mark_place block }
@@ -127,7 +127,7 @@ pub fn mark_place_of(block: u32) -> usize
     place_in(block, 8)
 }
 
-/// Where a part of a block's summary lies.
+/// The place of a part of a block's aggregate.
 #[inline(always)]
 pub fn part_place_of(block: u32, number: u32) -> usize
     requires { number < 4 }
@@ -144,7 +144,7 @@ pub fn fits_short(x: i64) -> bool
     x >= -32768 && x <= 32767
 }
 
-/// The element that 16 bits stand for.
+/// The element that 16 bits represent.
 #[inline(always)]
 pub fn element(bits: u16) -> i64
     ensures value { result ≡ signed bits }
@@ -162,7 +162,7 @@ fn bits_in(x: i64) -> u16
     (x.cast_unsigned() % 65536) as u16
 }
 
-/// The descriptor that an edit makes of one. The lock-free form has no reserve, no swap and no truncate.
+/// The descriptor after an update of another descriptor. The lock-free form has no reserve, no swap and no truncate.
 #[inline(always)]
 pub fn look_after(look: u64, edit: Edit) -> u64
     requires { CanPack look edit }

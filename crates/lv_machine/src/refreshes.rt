@@ -1,4 +1,4 @@
-//! The steps of a refresh: the mark of its block, the block's cells, and the parts that come of them.
+//! The steps of a refresh: the mark of its block, the block's cells, and the parts that are made of them.
 ghost use Rattle.std.specs.Prelude.{◌≡◌, ◌+◌, ◌*◌, ◌<◌};
 ghost use Rattle.lv_machine.specs.Calls.{cell_kept, part_kept, unless_later, with_kept};
 ghost use Rattle.lv_machine.specs.Ready.{CanKeep};
@@ -10,7 +10,7 @@ use crate::packing::{edit_in, element, value_in, version_in};
 use crate::tasks::{Advance, Keep, Parts, Task};
 use lv_bodies::{Parted, fold_more};
 
-/// What becomes of a refresh after the mark of its block.
+/// How a refresh proceeds after the mark of its block.
 pub fn after_keep_mark<B: Parted>(body: &B, block: u32, look: u64, found: u64) -> Advance<B::S>
     requires block { block < 511 }
     requires mark { found < 16777216 }
@@ -27,7 +27,7 @@ pub fn after_keep_mark<B: Parted>(body: &B, block: u32, look: u64, found: u64) -
     }))
 }
 
-/// What becomes of a refresh after a cell of its block.
+/// How a refresh proceeds after a cell of its block.
 pub fn after_keep_cell<B: Parted>(
     body: &B,
     keep: Keep<B::S>,
@@ -54,7 +54,7 @@ pub fn after_keep_cell<B: Parted>(
     Advance::Goes(Task::KeepCell(Keep { at, sum, ..keep }))
 }
 
-/// What becomes of a refresh after a part of its block.
+/// How a refresh proceeds after a part of its block.
 pub fn after_keep_part<B: Parted>(block: u32, parts: Parts, look: u64) -> Advance<B::S>
     requires { parts.number < 4 }
     ensures { result ≡ part_kept B.PARTS look block parts }

@@ -1,10 +1,10 @@
-//! The words of a vector with no edits.
+//! The words of a vector with no updates.
 ghost use Rattle.std.specs.Prelude.{◌≡◌, ◌*◌, [], ◌∷◌, replicate, IfOk};
 ghost use Rattle.lv_machine.specs.History.{descriptor_of};
 
 use std::alloc::{AllocError, Global};
 
-/// The descriptor before the first edit.
+/// The descriptor before the first update.
 #[tactic(auto, unfolding(crate::specs::History::descriptor_of, crate::specs::Words::descriptor))]
 pub fn first_descriptor() -> u64
     ensures { result ≡ descriptor_of [] }
@@ -12,7 +12,7 @@ pub fn first_descriptor() -> u64
     0x0fff_0000
 }
 
-/// The words for so many elements: the descriptor, and a zero for each cell, part and mark.
+/// The words for this many elements: the descriptor, and a zero for each cell, part and mark.
 pub fn first_words(alloc: Global, capacity: u32) -> Result<Vec<u64>, AllocError>
     ensures { IfOk result (λ words. words.items ≡ descriptor_of [] ∷ replicate (2 * capacity) 0) }
 {

@@ -14,7 +14,7 @@ use crate::packing::{
 use crate::tasks::{Parts, Task};
 use lv_edits::Edit;
 
-/// Does the next step of a call, on one word, and tells the word that it found.
+/// Does the next step of a call, on one word, and returns the word that it found.
 pub fn take_step<S: Copy>(words: &mut [u64], look: &mut u64, task: &Task<S>) -> u64
     requires { CanMove (length words.old) look.old task.now }
     ensures found { result ≡ slice_index words.old (place_of look.old task.now) }
@@ -88,7 +88,7 @@ fn install(words: &mut [u64], block: u32, parts: Parts) -> u64
     )
 }
 
-// Raises the word at a place to at least another, and tells what was there.
+// Raises the word at a place to at least another one, and returns what was there.
 fn raise(words: &mut [u64], place: usize, word: u64) -> u64
     requires { place < length words.old }
     ensures found { result ≡ slice_index words.old place }
@@ -99,7 +99,7 @@ fn raise(words: &mut [u64], place: usize, word: u64) -> u64
     found
 }
 
-// Makes an edit, if the descriptor is the look. What is there then is the look.
+// Makes an update, if the descriptor is the look. What is there afterwards is the look.
 fn exchange(words: &mut [u64], look: &mut u64, edit: Edit) -> u64
     requires words { 0 < length words.old }
     requires edit { CanPack look.old edit }

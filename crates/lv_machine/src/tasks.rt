@@ -5,7 +5,7 @@ use crate::outcomes::Said;
 use lv_edits::Edit;
 use std::alloc::AllocError;
 
-/// What a call is for. Its edits have elements of 16 bits.
+/// The goal of a call. Its updates have elements of 16 bits.
 #[derive(Clone, Copy)]
 pub enum Goal {
     Edit(Edit),
@@ -15,7 +15,7 @@ pub enum Goal {
     Refresh(u32),
 }
 
-/// A reduction on its way: the summary of the elements from `lo` up to `at`, and what was read for it.
+/// A reduction under way: the aggregate of the elements from `lo` up to `at`, and what was read for it.
 #[derive(Copy)]
 pub struct Walk<S> {
     pub lo: u32,
@@ -26,7 +26,7 @@ pub struct Walk<S> {
     pub summaries: u32,
 }
 
-/// The parts of a block's summary, of a version: `number` is the next one.
+/// The parts of a block's aggregate, of a version. `number` is the next one.
 #[derive(Clone, Copy)]
 pub struct Parts {
     pub version: u32,
@@ -34,7 +34,7 @@ pub struct Parts {
     pub values: [u32; 4],
 }
 
-/// A refresh on its way: the summary of the block's elements before index `at`, and the block's mark.
+/// A refresh under way: the aggregate of the block's elements before index `at`, and the block's mark.
 #[derive(Copy)]
 pub struct Keep<S> {
     pub block: u32,
@@ -43,7 +43,7 @@ pub struct Keep<S> {
     pub sum: S,
 }
 
-/// A call under way, by the step that comes next, with what its steps have loaded so far.
+/// A call under way, named by the step that comes next, with what its steps have loaded so far.
 #[derive(Copy)]
 pub enum Task<S> {
     /// Loads the descriptor.
@@ -54,25 +54,25 @@ pub enum Task<S> {
     CompleteMark(Goal),
     /// Loads the cell that a pop drops or a write overwrites.
     ReadBefore { edit: Edit, index: u32 },
-    /// Exchanges the descriptor. `before` is the element that the edit drops or overwrites.
+    /// Compare-and-swap of the descriptor. `before` is the element that the update drops or overwrites.
     Exchange { edit: Edit, before: i64 },
     /// Loads the cell that is asked for.
     ReadCell(u32),
-    /// Loads the cell that the walk stands at.
+    /// Loads the cell at the walk's position.
     SumCell(Walk<S>),
-    /// Loads the mark of the block that the walk stands at.
+    /// Loads the mark of the block at the walk's position.
     SumMark(Walk<S>),
-    /// Loads a part of that block; those before it were loaded.
+    /// Loads a part of that block. Those before it were loaded.
     SumPart { walk: Walk<S>, parts: Parts },
     /// Loads the mark of the block that is refreshed.
     KeepMark(u32),
     /// Loads a cell of that block.
     KeepCell(Keep<S>),
-    /// Raises a part of that block.
+    /// Raises a part of that block to its new value, if that is greater.
     KeepPart { block: u32, parts: Parts },
 }
 
-/// What becomes of a call by a step: it goes on, or has ended.
+/// How a call proceeds by a step: it continues, or has ended.
 #[derive(Copy)]
 pub enum Advance<S> {
     Goes(Task<S>),

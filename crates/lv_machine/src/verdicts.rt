@@ -1,11 +1,11 @@
-//! Why an edit is refused at a size.
+//! Why an update is refused at a size.
 ghost use Rattle.std.specs.Prelude.{◌≡◌};
 ghost use Rattle.lv_machine.specs.Moves.{refused_at};
 
 use lv_edits::Edit;
 use lv_geometry::Refusal;
 
-/// Why an edit is refused where there are so many elements, with room for so many, and edits are left. None if it isn't.
+/// Why an update is refused when there are this many elements and room for this many, while updates are left. None if it isn't.
 pub fn refused_by_size(room: u32, size: u32, edit: Edit) -> Option<Refusal>
     ensures { result ≡ refused_at room size edit }
 {

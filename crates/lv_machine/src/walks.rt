@@ -11,7 +11,7 @@ use crate::tasks::{Advance, Parts, Task, Walk};
 use lv_bodies::{Parted, fold_more};
 use lv_reduce::Answer;
 
-/// What a reduction does next: the mark of a whole block that begins where it stands, or else the cell there; or it is over.
+/// What a reduction does next. It loads the mark of a whole block that begins at its position, or otherwise the cell there, or it has ended.
 pub fn go_on_walking<S>(walk: Walk<S>, look: u64) -> Advance<S>
     ensures { result ≡ walked look walk }
 {
@@ -30,7 +30,7 @@ pub fn go_on_walking<S>(walk: Walk<S>, look: u64) -> Advance<S>
     }
 }
 
-/// What becomes of a reduction after the cell where it stands.
+/// How a reduction proceeds after the cell at its position.
 pub fn after_sum_cell<B: Parted>(body: &B, walk: Walk<B::S>, look: u64, found: u64) -> Advance<B::S>
     requires walk { CanWalk (B.is_within body.now) walk }
     requires version { cell_version found < 16777216 }
@@ -49,7 +49,7 @@ pub fn after_sum_cell<B: Parted>(body: &B, walk: Walk<B::S>, look: u64, found: u
     go_on_walking(more, look)
 }
 
-/// What becomes of a reduction after the mark of the block where it stands.
+/// How a reduction proceeds after the mark of the block at its position.
 pub fn after_sum_mark<S: Copy>(walk: Walk<S>, look: u64, found: u64) -> Advance<S>
     requires { found < 16777216 }
     ensures { result ≡ unless_later look found (Advance.Goes (Task.SumPart walk record { version = found; number = 0; values = replicate 4 0 })) }
@@ -65,7 +65,7 @@ pub fn after_sum_mark<S: Copy>(walk: Walk<S>, look: u64, found: u64) -> Advance<
     Advance::Goes(Task::SumPart { walk, parts })
 }
 
-/// What becomes of a reduction after a part of the block where it stands.
+/// How a reduction proceeds after a part of the block at its position.
 pub fn after_part<B: Parted>(
     body: &B,
     walk: Walk<B::S>,

@@ -5,7 +5,7 @@ use Rattle.lv_reduce.specs.Pieces.{Fits, NoneFresh}
 use Rattle.lv_reduce.proofs.NodeLaws.{cell_fits, lesser_aligned, lesser_fits}
 use Rattle.lv_reduce.proofs.WalkLaws.{IsWalk, walk_cell}
 
--- where a level above 0 fits, a block does
+-- if a level above 0 fits, a block does
 pub block_fits : (at hi level : ℕ) → 1 ≤ level → Fits at hi level → (at % 8 ≡ 0) × (at + 8 ≤ hi)
 block_fits at hi level some fits =
     let block = lesser_fits at hi 1 level some fits in

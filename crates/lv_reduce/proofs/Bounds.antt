@@ -15,15 +15,15 @@ use Rattle.lv_reduce.proofs.Counting.{passes_below, passes_below-is, passes_eigh
 use Rattle.lv_reduce.proofs.NodeLaws.{first_of_aligned}
 use Rattle.lv_reduce.proofs.UsedLaws.{bare_parts, in_greater_some, top_parts, used_from, used_parts}
 
--- a number lies behind a bound that its eight begin before, or before one that its eight end behind
+-- a number is at or behind a bound, and its group of eight begins before that; or it is before a bound, and its group ends behind that
 abbrev pub IsCut : ℕ → ℕ → ℕ → Type 0
 IsCut lo hi k = ((lo ≤ k) × (k / 8 * 8 < lo)) ⊎ ((k < hi) × (hi < k / 8 * 8 + 8))
 
--- whether a number lies behind the first bound, that its eight begin before
+-- whether a number is at or behind the first bound, and its group of eight begins before that
 is_cut_low : ℕ → ℕ → Bool
 is_cut_low lo k = nat_le lo k && nat_le (k / 8 * 8 + 1) lo
 
--- whether it lies before the second, that its eight end behind
+-- whether a number is before the second bound, and its group of eight ends behind that
 is_cut_high : ℕ → ℕ → Bool
 is_cut_high hi k = nat_le (k + 1) hi && nat_le (hi + 1) (k / 8 * 8 + 8)
 
@@ -84,7 +84,7 @@ module _ (fresh : Node → Bool) (lo hi : ℕ) where
   abbrev is_stale : ℕ → Bool
   is_stale b = nat_le lo (8 * b) && (nat_le (8 * b + 8) hi && not (fresh record { level = 1; number = b }))
 
-  -- whether a bare index is in a block of which a part is outside the range
+  -- whether a bare index is in a block that is partly outside the range
   is_bare_at_end : ℕ → Bool
   is_bare_at_end i = is_bare fresh lo hi i && not (is_stale (i / 8))
 
@@ -124,7 +124,7 @@ module _ (fresh : Node → Bool) (lo hi : ℕ) where
       let all = ap (passes_below (λ i. is_stale (i / 8))) longer in
       omega (arith, ends, either, stale, all, passes_eighths is_stale hi, passes_below-is (is_bare fresh lo hi) hi, passes_below-is is_stale hi)
 
-  -- where every node inside the range is fresh, no block inside it is stale
+  -- if every node inside the range is fresh, no block inside it is stale
   none_stale : AllFresh fresh lo hi → unfresh_blocks fresh lo hi ≡ 0
   none_stale all =
       passes_below-is is_stale hi

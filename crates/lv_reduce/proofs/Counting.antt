@@ -22,7 +22,7 @@ pub passes_below-next : (p : ℕ → Bool) (n : ℕ) → passes_below p (n + 1) 
 unfolding passes_below
 passes_below-next p n = ap (count_by p) (below_more n) ∙ sum_by_push (λ x. cond (p x) 1 0) (range_with_len 0 n) n
 
--- the same at a successor
+-- one number more, written as a successor
 passes_next : (p : ℕ → Bool) (n : ℕ) → passes_below p (suc n) ≡ passes_below p n + cond {A = ℕ} (p n) 1 0
 passes_next p n = rw add-one at (passes_below-next p n)
 
@@ -40,20 +40,20 @@ passes_none p a (suc n) fail =
     let next : a + suc n ≡ a + n + 1 = omega arith in
     ap (passes_below p) next ∙ omega (arith, passes_below-next p (a + n), passes_none p a n (λ i from below. fail i from (omega arith)))
 
--- where all fail, none is counted
+-- if all fail, none is counted
 pub passes_nowhere : (p : ℕ → Bool) (n : ℕ) → ((i : ℕ) → i < n → p i ≡ false) → passes_below p n ≡ 0
 passes_nowhere p n fail =
     let from : 0 + n ≡ n = omega arith in
     ap (passes_below p) (sym from) ∙ passes_none p 0 n (λ i low below. fail i (omega arith)) ∙ passes_below-none p
 
--- of some numbers of which the first passes alone, one is counted
+-- if only the first of some numbers passes, one is counted
 pub passes_first : (p : ℕ → Bool) (a n : ℕ) → 1 ≤ n → p a ≡ true → ((i : ℕ) → a < i → i < a + n → p i ≡ false) → passes_below p (a + n) ≡ passes_below p a + 1
 passes_first p a n some first fail =
     let count : cond {A = ℕ} (p a) 1 0 ≡ 1 = cond-true (p a) 1 0 first in
     let split : a + n ≡ a + 1 + (n - 1) = omega arith in
     ap (passes_below p) split ∙ omega (arith, passes_none p (a + 1) (n - 1) (λ i from below. fail i (omega arith) (omega arith)), passes_below-next p a)
 
--- where all of some numbers stay, so does their sum
+-- if all of some numbers stay, their sum stays
 pub all_stay : (f g : ℕ → ℕ) (from n : ℕ) → ((l : ℕ) → from ≤ l → l < from + n → g l ≡ f l) → sum_by g (range_with_len from n) ≡ sum_by f (range_with_len from n)
 all_stay f g from zero same = refl
 all_stay f g from (suc n) same =
@@ -61,7 +61,7 @@ all_stay f g from (suc n) same =
     let first : g from ≡ f from = same from (omega arith) (omega arith) in
     omega (arith, rest, first, sum_by-cons f from (range_with_len (from + 1) n), sum_by-cons g from (range_with_len (from + 1) n))
 
--- where one of them is greater by one and the others stay, so is their sum
+-- if one of some numbers is greater by one and the others stay, their sum is greater by one
 pub one_greater : (f g : ℕ → ℕ) (from n k : ℕ) → from ≤ k → k < from + n → g k ≡ f k + 1 → ((l : ℕ) → from ≤ l → l < from + n → (l ≡ k → ⊥) → g l ≡ f l) → sum_by g (range_with_len from n) ≡ sum_by f (range_with_len from n) + 1
 one_greater f g from zero k low high here others = absurd (omega arith)
 one_greater f g from (suc n) k low high here others =
@@ -119,7 +119,7 @@ passes_either p q r (suc n) either =
           ]
     ]
 
--- where all that pass lie from one number on, they are no more than lie there
+-- if all numbers that pass are at or above one, there are at most as many as there are numbers from that one on
 passes_from : (p : ℕ → Bool) (n from : ℕ) → ((i : ℕ) → i < n → p i ≡ true → from ≤ i) → passes_below p n ≤ n - from
 passes_from p zero from inside = omega (arith, passes_below-none p)
 passes_from p (suc n) from inside =
@@ -132,7 +132,7 @@ passes_from p (suc n) from inside =
       | inr fails ↦ let count : cond {A = ℕ} (p n) 1 0 ≡ 0 = cond-false (p n) 1 0 fails in omega (arith, before, passes_next p n)
     ]
 
--- where all that pass lie from one number on, and below another, they are no more than these are apart
+-- if all numbers that pass are at or above one and below another, there are at most as many as these two differ by
 pub passes_within : (p : ℕ → Bool) (n from width : ℕ) → ((i : ℕ) → i < n → p i ≡ true → (from ≤ i) × (i < from + width)) → passes_below p n ≤ width
 passes_within p n from width inside =
     elim (cases_lt (from + width) n) [

@@ -17,7 +17,7 @@ module _ {S : Type 0} (t : Table S) where
         | inr stale ↦ stale
       ]
 
-  -- where the node of a level isn't fresh either, the next level is looked at
+  -- if the node of a level isn't fresh either, the next level is looked at
   pub none_at_next : (at hi level : ℕ) → NoneFresh (fresh_in t) at hi level → 1 ≤ level → fresh_in t (over level at) ≡ false → NoneFresh (fresh_in t) at hi (level - 1)
   none_at_next at hi level none low stale above more few fits =
       elim (cases_lt level above) [

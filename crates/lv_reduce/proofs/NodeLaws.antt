@@ -51,7 +51,7 @@ multiples_apart w i j first second below =
       | inr no_less ↦ absurd (omega (arith, mul-le (j / w) w (i / w) w no_less (omega arith), div-add-mod' i w, div-add-mod' j w))
     ]
 
--- where a level fits, each lesser one does
+-- if a level fits, each lesser one does
 pub lesser_fits : (at hi lesser level : ℕ) → lesser ≤ level → Fits at hi level → Fits at hi lesser
 lesser_fits at hi lesser level less fits =
     record { begins = lesser_aligned at lesser level less fits.begins; ends = omega (arith, fits.ends, no_wider lesser level less) }

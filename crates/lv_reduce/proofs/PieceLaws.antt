@@ -81,7 +81,8 @@ slice_scanned o inclusive xs lo at end piece more s r items longer so_far scanne
       ∙ ap (scan_of inclusive o) (sym more),
 )
 
--- the same from a summary of what stands before the range
+-- the fold and the scan of a range, continued from a summary of the elements before the range, go on over a piece behind it as those of the
+-- longer range
 pub slice_scanned_from : {S : Type 0} (o : Operations S) (inclusive : Bool) (before : S) (xs : List ℤ) (lo at end : ℕ) (piece : List ℤ) → slice_range xs lo end ≡ slice_range xs lo at ++ piece → (s r : S) (items longer : List S) → s ≡ reached o before (slice_range xs lo at) → items ≡ scan_from inclusive o before (slice_range xs lo at)
     → r ≡ reached o s piece → longer ≡ items ++ scan_from inclusive o s piece → (r ≡ reached o before (slice_range xs lo end)) × (longer ≡ scan_from inclusive o before (slice_range xs lo end))
 slice_scanned_from o inclusive before xs lo at end piece more s r items longer so_far scanned is gone = (

@@ -1,4 +1,4 @@
--- What stands before each piece of a list, from the folds of the pieces.
+-- The folds of the elements before each piece of a list, from the folds of the pieces.
 use Rattle.std.proofs.Common.{◌≡◌, ℕ, ℤ, ◌+◌, ◌*◌, ◌<◌, ◌≤◌, List, ◌++◌, length, map, take, drop, sym, ap, subst, ◌∙◌, arith, length-append}
 use Rattle.std.specs.List.{range_with_len, slice_index_or}
 use Rattle.std.proofs.Math.Nat.{lt_of_mul-lt-mul_right, suc-mul}
@@ -10,7 +10,7 @@ use Rattle.lv_summary.proofs.FoldableLaws.{part_can_fold}
 use Rattle.lv_reduce.specs.Running.{AreBefore}
 
 module _ {S : Type 0} (o : Operations S) (within : S → ℕ → Type 0) (laws : BodyLaws o within) (xs : List ℤ) (can : CanFold xs) (size : ℕ) where
-  -- what stands before the next piece
+  -- the elements before the next piece
   pieces_next : (k : ℕ) → take ((k + 1) * size) xs ≡ take (k * size) xs ++ take size (drop (k * size) xs)
   pieces_next k =
       let next : (k + 1) * size ≡ k * size + size = omega (arith, suc-mul k size) in
@@ -20,7 +20,7 @@ module _ {S : Type 0} (o : Operations S) (within : S → ℕ → Type 0) (laws :
   both : (k : ℕ) → CanFold (take (k * size) xs ++ take size (drop (k * size) xs))
   both k = subst CanFold (pieces_next k) (part_can_fold ((k + 1) * size) 0 xs can)
 
-  -- the fold of a piece may be joined to that of what stands before it
+  -- the fold of a piece may be joined to that of the elements before it
   pub can_join_piece : (k : ℕ) (s t : S) → s ≡ fold_of o (take (k * size) xs) → t ≡ fold_of o (take size (drop (k * size) xs)) → CanJoin within s t
   can_join_piece k s t before fold = record {
     left = length (take (k * size) xs);
@@ -33,7 +33,7 @@ module _ {S : Type 0} (o : Operations S) (within : S → ℕ → Type 0) (laws :
     few = omega (arith, (both k).few, length-append (take (k * size) xs) (take size (drop (k * size) xs)));
   }
 
-  -- which makes the fold of what stands before the next
+  -- which makes the fold of the elements before the next piece
   pub before_next : (k : ℕ) (s t r : S) → s ≡ fold_of o (take (k * size) xs) → t ≡ fold_of o (take size (drop (k * size) xs)) → r ≡ o.join s t → r ≡ fold_of o (take ((k + 1) * size) xs)
   before_next k s t r before fold is =
       is
@@ -42,7 +42,7 @@ module _ {S : Type 0} (o : Operations S) (within : S → ℕ → Type 0) (laws :
       ∙ sym (fold_of-append o within laws (take (k * size) xs) (take size (drop (k * size) xs)) (both k))
       ∙ ap (fold_of o) (sym (pieces_next k))
 
--- the folds of what stands before each of so many pieces are those before all, where these cover the list
+-- the folds of the elements before each of so many pieces are those for the whole list, if the pieces cover it
 pub before_all : {S : Type 0} (o : Operations S) (xs : List ℤ) (size count : ℕ) (befores : List S) → befores ≡ map (λ n. fold_of o (take (n * size) xs)) (range_with_len 0 count) → length xs ≤ count * size → AreBefore o size xs befores
 before_all o xs size count befores is covered =
     let f = λ (n : ℕ). fold_of o (take (n * size) xs) in

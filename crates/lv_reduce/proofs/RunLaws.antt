@@ -85,7 +85,7 @@ module _ {S : Type 0} (o : Operations S) where
       let more : take (k + 1) xs ≡ front ++ x ∷ [] = take_more xs k d small ∙ ap (λ y. front ++ y ∷ []) (sym at) in
       joined ∙ ap (λ t. o.join t (o.lift x)) before ∙ sym (fold_push (λ t y. o.join t (o.lift y)) s front x) ∙ ap (reached o s) (sym more)
 
-  -- where a scan from a summary goes one element further, the sum goes on and the value is put at its end
+  -- if a scan from a summary goes one element further, the sum goes on and the value is put at its end
   pub scan_from-more : (inclusive : Bool) (s : S) (xs : List ℤ) (k : ℕ) (x d : ℤ) → k < length xs → x ≡ slice_index_or xs k d → (sum next value : S) (items longer : List S) → sum ≡ reached o s (take k xs) → next ≡ o.join sum (o.lift x) → value ≡ (if inclusive then next else sum) → items ≡ scan_from inclusive o s (take k xs) → longer ≡ items ++ value ∷ [] → (next ≡ reached o s (take (k + 1) xs)) × (longer ≡ scan_from inclusive o s (take (k + 1) xs))
   scan_from-more inclusive s xs k x d small at sum next value items longer before joined chosen scanned is =
       let front = take k xs in
@@ -104,13 +104,14 @@ module _ {S : Type 0} (o : Operations S) where
   pub reached-append : (s : S) (xs ys : List ℤ) → reached o s (xs ++ ys) ≡ reached o (reached o s xs) ys
   reached-append s xs ys = fold-append (λ t x. o.join t (o.lift x)) s xs ys
 
-  -- and so does a scan
+  -- a scan over two lists goes on behind the first from its fold there
   pub scan_from-append : (inclusive : Bool) (s : S) (xs ys : List ℤ) → scan_from inclusive o s (xs ++ ys) ≡ scan_from inclusive o s xs ++ scan_from inclusive o (reached o s xs) ys
   scan_from-append inclusive s [] ys = refl
   scan_from-append inclusive s (x ∷ xs) ys =
       ap (λ zs. (if inclusive then o.join s (o.lift x) else s) ∷ zs) (scan_from-append inclusive (o.join s (o.lift x)) xs ys)
 
-  -- so is the beginning of each so many pieces
+  -- if each piece of a list of values is the scan of that piece of another list, continued from the fold before it, the first so many pieces are
+  -- the scan of the first pieces
   front_pieces : (inclusive : Bool) (size : ℕ) (xs : List ℤ) (ys : List S) → length ys ≡ length xs → ((n : ℕ) → n * size < length xs → take size (drop (n * size) ys) ≡ scan_from inclusive o (fold_of o (take (n * size) xs)) (take size (drop (n * size) xs))) → (n : ℕ) → take (n * size) ys ≡ scan_of inclusive o (take (n * size) xs)
   front_pieces inclusive size xs ys same each zero =
       let none : zero * size ≡ 0 = omega arith in
@@ -129,7 +130,8 @@ module _ {S : Type 0} (o : Operations S) where
       ∙ ap (scan_of inclusive o) (sym (take-add (n * size) size xs))
       ∙ ap (λ k. scan_of inclusive o (take k xs)) (sym next)
 
-  -- where each piece of a list of values is the scan of such a piece of another list, from what stands before it, all is its scan
+  -- if each piece of a list of values is the scan of that piece of another list, continued from the fold before it, the whole is the scan of the
+  -- whole
   pub scan_of-pieces : (inclusive : Bool) (size : ℕ) (xs : List ℤ) (ys : List S) → 0 < size → length ys ≡ length xs → ((n : ℕ) → n * size < length xs → take size (drop (n * size) ys) ≡ scan_from inclusive o (fold_of o (take (n * size) xs)) (take size (drop (n * size) xs))) → ys ≡ scan_of inclusive o xs
   scan_of-pieces inclusive size xs ys positive same each =
       let most : length xs ≤ length xs * size = le-mul_of_pos_right (length xs) positive in

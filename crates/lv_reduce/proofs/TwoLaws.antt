@@ -35,7 +35,7 @@ module _ {S : Type 0} (o : Operations S) (within : S → ℕ → Type 0) (laws :
   can_front k inside =
       subst (λ zs. CanFold (take k zs)) (drop-append_seam xs ys) (part_can_fold k (length xs) (xs ++ ys) can)
 
-  -- so can the first part with a front of the second behind it
+  -- the first part can be folded with a prefix of the second behind it
   can_both : (k : ℕ) → k ≤ length ys → CanFold (xs ++ take k ys)
   can_both k inside =
       subst CanFold (take-append-add xs ys k) (part_can_fold (length xs + k) 0 (xs ++ ys) can)
@@ -45,7 +45,7 @@ module _ {S : Type 0} (o : Operations S) (within : S → ℕ → Type 0) (laws :
   front_joined k inside =
       sym (reached-append o o.identity xs (take k ys)) ∙ fold_of-append o within laws xs (take k ys) (can_both k inside)
 
-  -- a front of the second part, scanned from the first part's fold, is its own scan with that fold before each value
+  -- a prefix of the second part, scanned from the first part's fold, is its own scan with that fold joined in front of each value
   front_scanned : (inclusive : Bool) (k : ℕ) → k ≤ length ys → scan_from inclusive o (fold_of o xs) (take k ys) ≡ map (o.join (fold_of o xs)) (scan_of inclusive o (take k ys))
   front_scanned true zero inside = refl
   front_scanned false zero inside = refl
@@ -76,7 +76,7 @@ module _ {S : Type 0} (o : Operations S) (within : S → ℕ → Type 0) (laws :
       ∙ ap (λ ts. scan_of inclusive o xs ++ ts) (front_scanned inclusive (length ys) (omega arith))
       ∙ ap (λ zs. scan_of inclusive o xs ++ map (o.join (fold_of o xs)) (scan_of inclusive o zs)) all
 
-  -- the first part's fold may be joined with that of a front of the second
+  -- the first part's fold may be joined with that of a prefix of the second
   can_join_front : (k : ℕ) → k ≤ length ys → CanJoin within (fold_of o xs) (fold_of o (take k ys))
   can_join_front k inside = record {
     left = length xs;

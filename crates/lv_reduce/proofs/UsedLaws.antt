@@ -52,7 +52,7 @@ module _ (fresh : Node → Bool) (lo hi : ℕ) where
   pub bare_from : (i : ℕ) → lo ≤ i → is_in_greater fresh lo hi 0 i ≡ false → is_bare fresh lo hi i ≡ true
   bare_from i low alone = and_from _ _ (le-leb _ _ low) (not_from_false _ alone)
 
-  -- an index is in a greater used node where one over it is used
+  -- an index is in a greater used node if one over it is used
   pub in_greater_some : (l level i : ℕ) → l < level → level ≤ 6 → is_fresh_inside fresh lo hi (over level i) ≡ true → is_in_greater fresh lo hi l i ≡ true
   in_greater_some l level i above low used =
       let place : l + 1 + (level - (l + 1)) ≡ level = omega arith in
@@ -61,7 +61,7 @@ module _ (fresh : Node → Bool) (lo hi : ℕ) where
       (omega (arith, length-range_with_len (l + 1) (6 - l)))
       (ap (λ k. is_fresh_inside fresh lo hi (over k i)) at ∙ used)
 
-  -- and in none where none is
+  -- and in none if none is
   pub in_greater_none : (l i : ℕ) → ((level : ℕ) → l < level → level ≤ 6 → is_fresh_inside fresh lo hi (over level i) ≡ false) → is_in_greater fresh lo hi l i ≡ false
   in_greater_none l i none =
       list_any_none (λ k. is_fresh_inside fresh lo hi (over k i)) (range_with_len (l + 1) (6 - l))

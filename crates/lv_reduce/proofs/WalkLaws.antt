@@ -17,7 +17,7 @@ use Rattle.lv_reduce.proofs.UsedLaws.{bare_before, bare_from, bare_parts, in_gre
 abbrev pub summaries_below : (Node → Bool) → ℕ → ℕ → ℕ → ℕ
 summaries_below fresh lo hi at = sum_by (λ l. passes_below (is_top fresh lo hi l) at) (range_with_len 1 6)
 
--- where a walk over the range stands: no used node has indices on both sides, and the reads are those before it
+-- how far a walk over the range has come: no used node has indices on both sides of the place, and the reads are those before it
 pub record IsWalk (fresh : Node → Bool) (lo hi at cells summaries : ℕ) : Type 0 where
   pub low : lo ≤ at
   pub high : at ≤ hi
@@ -46,7 +46,7 @@ walk_ends fresh lo hi at cells summaries walk end =
       summaries_are = walk.summaries_are ∙ ap (summaries_below fresh lo hi) all ∙ all_stay _ (λ l. passes_below (is_top fresh lo hi l) hi) 1 6 (λ l low high. sym (passes_below-is (is_top fresh lo hi l) hi));
     }
 
--- a walk that stands at an index where a level is the greatest of which a fresh node begins there, or 0
+-- a walk at an index where a level is the greatest at which a fresh node begins, or 0
 module _ (fresh : Node → Bool) (lo hi at cells summaries level : ℕ) (walk : IsWalk fresh lo hi at cells summaries) (low : level ≤ 6) (fits : Fits at hi level) (none : NoneFresh fresh at hi level) where
   -- no node of a greater level over the index is used
   none_above : (l : ℕ) → level < l → l ≤ 6 → is_fresh_inside fresh lo hi (over l at) ≡ false
@@ -83,7 +83,7 @@ module _ (fresh : Node → Bool) (lo hi at cells summaries level : ℕ) (walk : 
             false≢true (sym (none_above l above few) ∙ ap (λ j. is_fresh_inside fresh lo hi (over l j)) same ∙ top.used)
       ])
 
-  -- where no fresh node begins, one cell is read
+  -- if no fresh node begins, one cell is read
   pub walk_cell : level ≡ 0 → at < hi → IsWalk fresh lo hi (at + 1) (cells + 1) summaries
   walk_cell lowest some =
       let wide : 8 ^ level ≡ 1 = ap (λ l. 8 ^ l) lowest in
@@ -110,7 +110,7 @@ module _ (fresh : Node → Bool) (lo hi at cells summaries level : ℕ) (walk : 
         let first = first_of_aligned level at fits.begins in
         used_from fresh lo hi (over level at) record { fresh_is = is_fresh; low = omega (arith, walk.low); high = omega (arith, fits.ends) }
 
-    -- and so is the node of its level over each of its indices
+    -- the node of its level over each of its indices is used
     inside_used : (i : ℕ) → at ≤ i → i < at + 8 ^ level → is_fresh_inside fresh lo hi (over level i) ≡ true
     inside_used i from below =
         let first = first_of_aligned level at fits.begins in

@@ -36,7 +36,7 @@ aligned_by_zeros n j fits few =
       | inr none ↦ let is : n ≡ 0 = omega arith in ap (λ m. m % 2 ^ j) is ∙ zero-mod (2 ^ j)
     ]
 
--- and of no more, where it is not 0
+-- and of no more, if it is not 0
 zeros_by_aligned : (n j : ℕ) → n < 2 ^ 32 → j ≤ 32 → n % 2 ^ j ≡ 0 → j ≤ trailing_zeros w32 n
 zeros_by_aligned n j fits small aligned =
     elim (cases_lt 0 n) [

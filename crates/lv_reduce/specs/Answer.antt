@@ -19,7 +19,7 @@ pub record IsAnswer {S : Type 0} (o : Operations S) (edits : List Edit) (lo hi :
   pub edit : answer.edit ≡ length edits
   pub value : answer.value ≡ fold_of o (slice_of edits lo hi)
 
--- the same, told as the number of the last edit and the fold
+-- a reduction's answer, given as a pair: the number of the last edit, and the fold of the range's elements
 pub record IsAnswerPair {S : Type 0} (o : Operations S) (edits : List Edit) (lo hi : ℕ) (answer : ℕ × S) : Type 0 where
   pub granted : range_refusal edits lo hi ≡ None
   pub edit : answer.0 ≡ length edits
@@ -31,6 +31,6 @@ pub record IsScan {S : Type 0} (edits : List Edit) (lo hi : ℕ) (values : List 
   pub edit : scan.edit ≡ length edits
   pub values_are : scan.values ≡ values
 
--- a scan was refused because its range is, or else for want of memory
+-- a scan was refused with the error of its range, or with `NoMemory` if nothing refuses the range
 abbrev pub IsScanRefusal : List Edit → ℕ → ℕ → Refusal → Type 0
 IsScanRefusal edits lo hi refusal = IsRefusal (range_refusal edits lo hi) refusal

@@ -4,7 +4,7 @@ use Rattle.lv_geometry.specs.declared.nodes.Node.{Node}
 use Rattle.lv_geometry.specs.Nodes.{over}
 use Rattle.lv_summary.specs.Table.{Table, entry_in, fresh_in}
 
--- a node of a level begins at index at and ends at or before hi; level 0 stands for the cell at the index
+-- a node of a level begins at index at and ends at or before hi; level 0 means the cell at the index
 pub record Fits (at hi level : ℕ) : Type 0 where
   pub begins : at % 8 ^ level ≡ 0
   pub ends : at + 8 ^ level ≤ hi

@@ -1,4 +1,4 @@
--- The elements that several threads fold or scan, where they lie.
+-- The elements that several threads fold or scan, in a vector or in a slice.
 use Rattle.std.specs.List.{slice_range}
 use Rattle.lv_bodies.specs.Body.{CanFold}
 use Rattle.std.specs.Prelude.{ℤ, ◌≤◌, List, length}

@@ -23,12 +23,12 @@ pub record CanGoOn {S : Type 0} (within : S → ℕ → Type 0) (s : S) (more : 
 abbrev pub AreOfPieces : {S : Type 0} → Operations S → ℕ → List ℤ → List S → Type 0
 AreOfPieces {S} o size xs folds = (n : ℕ) (d : S) → n < length folds → slice_index_or folds n d ≡ fold_of o (take size (drop (n * size) xs))
 
--- for each piece of so many elements of a list the fold of all that stand before it
+-- for each piece of so many elements of a list, the fold of all elements before it
 pub record AreBefore {S : Type 0} (o : Operations S) (size : ℕ) (xs : List ℤ) (befores : List S) : Type 0 where
   pub count : (n : ℕ) → n * size < length xs → n < length befores
   pub folds : (n : ℕ) (d : S) → n < length befores → slice_index_or befores n d ≡ fold_of o (take (n * size) xs)
 
--- so many elements of a part from an index on are in the piece that begins there, and what stands before each piece is told
+-- so many elements of a part from an index on are in the piece that begins there, and the fold of the elements before each piece is known
 pub record IsPiece {S : Type 0} (o : Operations S) (part : Part) (befores : List S) (size start many : ℕ) : Type 0 where
   pub can_fold : IsPart part
   pub are_before : AreBefore o size (elements_of part) befores

@@ -51,8 +51,8 @@ fn count_reads<S: Copy>(table: &Summaries<S>, lo: u32, hi: u32) -> Reads
     Reads { cells, summaries }
 }
 
-// How many cells up to the next index where a node can begin and end at or before `hi`: those of the block that begins here, or
-// this one alone.
+// How many cells there are up to the next index where a node can begin and end at or before `hi`: those of the block that begins here, or only
+// this one.
 #[inline(always)]
 fn cells_from(at: u32, hi: u32) -> u32
     requires { at < hi }

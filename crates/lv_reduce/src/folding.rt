@@ -1,4 +1,4 @@
-//! The fold of a range by any body, from the elements alone.
+//! The fold of a range by any body, from the elements only.
 ghost use Rattle.std.specs.Prelude.{◌≡◌, Some, IfOk, IfErr};
 ghost use Rattle.lv_edits.specs.Ranges.{range_refusal};
 ghost use Rattle.lv_reduce.specs.Answer.{IsAnswerPair};
@@ -8,9 +8,9 @@ use lv_bodies::Body;
 use lv_edits::{Edits, refusal_of};
 use lv_geometry::Refusal;
 
-/// The fold of the elements from index `lo` up to `hi` by any body, with the number of the last edit. It folds the elements where
-/// they lie, one after the other, and reads no summary: for a range so short that its summaries would cost more. Refused with
-/// `BadRange`, then `OutOfRange`. Takes no memory.
+/// The fold of the elements from index `lo` up to `hi` by any body, with the number of the last edit. It folds the elements one after another,
+/// without copying them, and reads no summary: it is meant for a range so short that its summaries would cost more. Refused with `BadRange`, then
+/// `OutOfRange`. Takes no memory.
 pub fn fold_elements<B: Body>(
     history: &Edits,
     body: &B,

@@ -1,10 +1,9 @@
 //! Reductions and scans of a range, from the vector's cells and the table's summaries.
 //!
-//! The model of an answer is plain: the fold of the range's elements, by definition, at the number of the last edit.
-//! `reduce` joins the summaries of the greatest fresh nodes in the range, and lifts no cell that such a node has; what
-//! it read is told, and is stated of the fresh nodes alone. It changes no table, and keeps nothing. `cost` counts what `reduce`
-//! reads. `fold_elements` folds where the elements lie, by any body. The parallel forms answer the same by several threads, from the
-//! elements where they lie.
+//! The model of an answer is plain: the fold of the range's elements, by definition, at the number of the last edit. `reduce` joins the summaries
+//! of the greatest fresh nodes in the range, and lifts no cell that such a node has. It returns how much it read, which is stated in terms of the
+//! fresh nodes only. It changes no table, and keeps nothing. `cost` counts what `reduce` reads. `fold_elements` folds the elements themselves, by
+//! any body. The parallel forms give the same answers by several threads, from the elements themselves.
 #![tactic(auto)]
 
 mod costs;

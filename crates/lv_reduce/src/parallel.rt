@@ -22,9 +22,9 @@ use slices::{scan_part, scan_slice};
 use std::alloc::{AllocError, Global};
 use std::thread::Threads;
 
-/// The fold of the elements from index `lo` up to `hi`, with the number of the last edit, by as many threads as pay, at most one
-/// for each processor. It folds the elements where they lie, and reads no summary. Refused with `BadRange`, `OutOfRange`, then
-/// `NoMemory`; it takes no memory of its own.
+/// The fold of the elements from index `lo` up to `hi`, with the number of the last edit, by as many threads as pay: one, two, or more, but
+/// more than two are at most one fewer than there are processors. It folds the elements themselves, and reads no summary. Refused with
+/// `BadRange`, then `OutOfRange`. Its contract also allows `NoMemory`, but it takes no memory of its own.
 pub fn par_reduce<R: Threads + Sync, B: Body>(
     rt: &R,
     alloc: Global,
@@ -77,8 +77,7 @@ pub fn par_scan_exclusive<R: Threads + Sync, B: Body>(
     scan_range(rt, alloc, view, body, lo, hi, false)
 }
 
-/// One of the two scans of a slice of at most 2^20 elements, by as many threads as pay. Refused with
-/// `NoMemory` alone.
+/// One of the two scans of a slice of at most 2^20 elements, by as many threads as pay. `NoMemory` is its only refusal.
 pub fn par_scan_slice<R: Threads + Sync, B: Body>(
     rt: &R,
     alloc: Global,
@@ -113,7 +112,7 @@ pub fn copy_range(alloc: Global, history: &Edits, lo: u32, hi: u32) -> Result<Ve
     Ok(xs)
 }
 
-// One of the two scans of a range, where the elements lie, by as many threads as pay.
+// One of the two scans of a range, from the elements themselves, by as many threads as pay.
 fn scan_range<R: Threads + Sync, B: Body>(
     rt: &R,
     alloc: Global,

@@ -1,4 +1,4 @@
-//! A reduction: from fresh summaries, and from cells where there are none.
+//! A reduction: from fresh summaries, and from cells if there are none.
 ghost use Rattle.std.specs.Prelude.{◌≡◌, ⊤, ◌+◌, ◌-◌, ◌*◌, ◌/◌, ◌%◌, ◌^◌, ◌<◌, ◌≤◌, ℕ, length, true, false, IfOk, IfErr, IfSome, IfNone};
 ghost use Rattle.lv_bodies.specs.Body.{CanJoin};
 ghost use Rattle.lv_edits.specs.Ranges.{range_refusal};
@@ -107,7 +107,7 @@ pub fn greatest_fresh<S: Copy>(table: &Summaries<S>, at: u32, hi: u32) -> Option
     None
 }
 
-/// The greatest level of which a node begins at index `at` and ends at or before `hi`, at most 6; 0 stands for a cell.
+/// The greatest level, at most 6, at which a node begins at index `at` and ends at or before `hi`; 0 means a single cell.
 #[inline(always)]
 pub fn greatest_level(at: u32, hi: u32) -> u32
     requires { at < hi }

@@ -1,4 +1,4 @@
-//! Elements where they lie, and the left fold of a range of them by one thread.
+//! Elements that aren't copied, and the left fold of a range of them by one thread.
 ghost use Rattle.std.specs.Prelude.{◌≡◌, ◌+◌, ◌≤◌, ◌^◌, ℕ, length};
 ghost use Rattle.std.specs.List.{slice_range};
 ghost use Rattle.lv_bodies.specs.Body.{CanFold, fold_of};
@@ -39,7 +39,7 @@ pub fn fold_range<B: Body>(row: Row<'_>, body: &B, lo: u32, hi: u32) -> B::S
     }
 }
 
-// The fold of a range of a vector, by runs of elements that lie side by side.
+// The fold of a range of a vector, by runs of neighbouring cells.
 fn fold_cells<B: Body>(history: &Edits, body: &B, lo: u32, hi: u32) -> B::S
     requires can { CanFold (list_of history.now.journal) }
     requires order { lo ≤ hi }

@@ -84,8 +84,8 @@ pub fn running_folds<B: Body>(
     })
 }
 
-/// Puts the scan of some elements, from what stands before them, behind the values that are there, and gives what they lead to. There
-/// is room for all.
+/// Puts the scan of some elements, continued from the summary `before`, behind the values that are there, and returns the fold that it reaches.
+/// There is room for all.
 #[inline(always)]
 pub fn push_folds<B: Body>(
     body: &B,

@@ -78,8 +78,8 @@ impl<B: Body> Stretch<B> {
         elements
     }
 
-    /// One of the two scans of the elements, told with the number of the edit after which they were copied, by as many threads as
-    /// there are processors. Refused with `NoMemory` alone.
+    /// One of the two scans of the elements, with the number of the edit after which they were copied, by as many threads as pay. `NoMemory` is
+    /// its only refusal.
     pub fn scan<R: Threads + Sync>(
         &self,
         rt: &R,
@@ -97,7 +97,8 @@ impl<B: Body> Stretch<B> {
         })
     }
 
-    /// The same by the thread that asks. Refused with `NoMemory` alone.
+    /// One of the two scans of the elements, with the number of the edit after which they were copied, by the calling thread only. `NoMemory` is
+    /// its only refusal.
     pub fn scan_alone(&self, alloc: Global, inclusive: bool) -> Result<Scan<B::S>, Refusal>
         ensures edit { IfOk result (λ scan. scan.edit ≡ self.now.edit) }
         ensures values { IfOk result (λ scan. scan.values ≡ scan_of inclusive (B.operations self.now.body) self.now.elements) }

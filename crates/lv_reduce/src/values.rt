@@ -33,7 +33,7 @@ impl<S> Values<S> {
         items
     }
 
-    /// The values where they lie.
+    /// The values as a slice, without a copy.
     pub fn as_slice(&self) -> &[S]
         ensures { result.now ≡ self.now }
     {

@@ -1,4 +1,4 @@
-//! What a query reads, which ranges it refuses, and runs of elements where they lie.
+//! What a query reads, which ranges it refuses, and runs of elements that aren't copied.
 ghost use Rattle.std.specs.Prelude.{◌≡◌, ⊤, ◌+◌, ◌<◌, ◌≤◌, length, IfNone};
 ghost use Rattle.std.specs.List.{slice_range};
 ghost use Rattle.lv_edits.specs.History.{list_of};
@@ -31,8 +31,8 @@ impl<'a, S> Clone for View<'a, S> {
 
 impl<'a, S> Copy for View<'a, S> {}
 
-/// Elements from index `at` on, before `hi`, one at least: a run of them where they lie, or the one at `at` alone, which is put into
-/// `cell`, where the last edit's write of it isn't in its place yet.
+/// Elements from index `at` on, before `hi`, at least one: a run of neighbouring cells; or, if the last edit's write of the element at `at` isn't
+/// in its cell yet, only that element, which is put into `cell`.
 #[inline(always)]
 pub fn run_at<'a>(history: &'a Edits, at: u32, hi: u32, cell: &'a mut [i64; 1]) -> &'a [i64]
     requires order { at < hi }

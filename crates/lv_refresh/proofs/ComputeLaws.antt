@@ -1,4 +1,4 @@
--- The summaries of a node's children, joined one after another where they lie.
+-- The summaries of a node's children, joined one after another without being copied.
 use Rattle.std.proofs.Common.{◌≡◌, ℕ, ℤ, ◌+◌, ◌-◌, ◌*◌, ◌^◌, ◌<◌, true, false, ◌&&◌, ◌||◌, not, Some, List, [], ◌++◌, length, take, drop, nat_eq, subst, sym, ap, ◌∙◌, arith}
 use Rattle.std.proofs.Math.Seq.{take-add}
 use Rattle.std.proofs.lemmas.Bool.{and_from, and_parts, cond-false, ne_eqb, not-true, or_left, or_right}
@@ -52,7 +52,7 @@ module _ {S : Type 0} (o : Operations S) (edits : List Edit) (t : Table S) (agre
   hints_refreshed m wants =
       hinted.hints m ∙ or_right _ _ (served.hints m (ap (λ claimed. wants_in t claimed m) (sym (hinted.claimed m)) ∙ sym (wants_agrees o edits t agrees new m) ∙ wants))
 
-  -- and the node was refreshed, where the fold of its elements is kept
+  -- and the node was refreshed, if the fold of its elements is kept
   pub refreshes : (u : Table S) → Keeps t u n v (fold_of o (elements_under edits n)) → RefreshesNext o edits t u old new
   refreshes u keeps =
       record {

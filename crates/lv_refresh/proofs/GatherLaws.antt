@@ -20,7 +20,7 @@ children_fit n size below above =
     let most : (n.number + 1) * 8 ≤ (n.number + 1) * 8 ^ n.level = mul-le-mul_left (n.number + 1) wide in
     omega (arith, leb-true ((n.number + 1) * 8 ^ n.level) size below)
 
--- so the numbers of four of them are of 32 bits, where the size is
+-- so the numbers of four of them are of 32 bits, if the size is
 pub four_fit : (n : Node) (size first : ℕ) → is_below n size ≡ true → 1 < n.level → size < 2 ^ 32 → first ≤ 4
     → (8 * n.number + first < 2 ^ 32) × (8 * n.number + (first + 1) < 2 ^ 32) × (8 * n.number + (first + 2) < 2 ^ 32) × (8 * n.number + (first + 3) < 2 ^ 32)
 four_fit n size first below above small few =
@@ -40,7 +40,7 @@ eight_tests true true true true true true true false = refl
 eight_tests true true true true true true true true = refl
 
 module _ {S : Type 0} (t : Table S) (n : Node) where
-  -- the eight children are fresh where the first four and the last four are
+  -- the eight children are fresh if the first four and the last four are
   pub children_fresh-fours : children_fresh_in t n ≡ (four_fresh_in t n 0 && four_fresh_in t n 4)
   children_fresh-fours =
       eight_tests (fresh_in t (child n 0)) (fresh_in t (child n 1)) (fresh_in t (child n 2)) (fresh_in t (child n 3)) (fresh_in t (child n 4)) (fresh_in t (child n 5)) (fresh_in t (child n 6)) (fresh_in t (child n 7))
@@ -60,7 +60,7 @@ module _ {S : Type 0} (t : Table S) (n : Node) where
         | inr stale ↦ stale
       ]
 
-  -- so not all four of them are, where one of them has none
+  -- so not all four of them are, if one of them has none
   pub four_stale : (first : ℕ) → entry_in t (child n first) ≡ None → four_fresh_in t n first ≡ false
   four_stale first none = and_left _ _ (and_left _ _ (and_left _ _ (stale_child first none)))
 

@@ -25,7 +25,7 @@ level_hinted {old} {new} {number} {level} hinted = record { here = λ is. hinted
 pub level_stays : {old new : ClaimTable} {k number level : ℕ} → level ≢ k → rows_at new level ≡ rows_at old level → HintsLevel old new k number level
 level_stays {old} {new} {k} {number} {level} apart same = record { here = λ is. absurd (apart is); other = λ other. same }
 
--- claims of six levels, of which one has a further hint
+-- claims of six levels, with a further hint in one of these
 pub HintsLevel-one : (of : Levels ClaimLevelState) (k number : ℕ) (changed : ClaimLevelState) → 1 ≤ k → k ≤ 6 → HintsAt (thing_at of k).rows changed.rows number → (level : ℕ) → 1 ≤ level → level ≤ 6 → HintsLevel (claims_of of) (claims_of (with_thing of k changed)) k number level
 HintsLevel-one of k number changed low high is =
     at_each_level (λ k. HintsAt (thing_at of k).rows changed.rows number → (level : ℕ) → 1 ≤ level → level ≤ 6 → HintsLevel (claims_of of) (claims_of (with_thing of k changed)) k number level)

@@ -1,5 +1,5 @@
--- Contents that were taken honestly stay so, whatever happens later; and where their node is as it was then, they
--- stand there now, and their fold is the fold of its elements.
+-- Contents that were taken honestly stay so, whatever happens later. If their node is as it was then, they are its current ones, and their fold
+-- is the fold of its elements.
 use Rattle.std.proofs.Common.{◌≡◌, ℕ, ℤ, zero, suc, ◌+◌, ◌-◌, ◌*◌, ◌^◌, ◌<◌, ◌≤◌, ◌⊎◌, true, if◌then◌else◌, Some, List, [], ◌∷◌, ◌++◌, length, take, drop, map, fold, All, slice_get, nat_le, refl, sym, ap, ◌∙◌, subst, inl, inr, arith}
 use Rattle.std.specs.List.{flat_map, range_with_len}
 use Rattle.std.proofs.Math.Nat.{mul-le-mul_right, mul_comm}
@@ -57,13 +57,13 @@ pub child_touched : (es : List Edit) (n : Node) (k : ℕ) → 1 < n.level → k 
 child_touched es n k above within =
     touched_by_parent es (child n k) n (omega arith) (omega arith)
 
--- where all eight children are fresh, each of them is
+-- if all eight children are fresh, each of them is
 pub each_child_fresh : (r : Record) (n : Node) → children_fresh r n ≡ true → (k : ℕ) → k < 8 → is_fresh r (child n k) ≡ true
 each_child_fresh r n fresh k within =
     let all = AllPass-from_list_all (λ k. is_fresh r (child n k)) (range_with_len 0 8) fresh in
     subst (λ j. is_fresh r (child n j) ≡ true) (get_or-range_with_len 0 8 k 0 within ∙ omega arith) (All-get_or (λ k. is_fresh r (child n k) ≡ true) (range_with_len 0 8) k 0 (omega (arith, length-range_with_len 0 8)) all)
 
--- where each of the eight children is fresh, all of them are
+-- if each of the eight children is fresh, all of them are
 pub children_fresh_from : (r : Record) (n : Node) → ((k : ℕ) → k < 8 → is_fresh r (child n k) ≡ true) → children_fresh r n ≡ true
 children_fresh_from r n each =
     list_all-from_AllPass (λ k. is_fresh r (child n k)) (range_with_len 0 8) (All-from_get_or (λ k. is_fresh r (child n k) ≡ true) (range_with_len 0 8) 0 (λ k inside.
@@ -82,7 +82,7 @@ child_then r n v k legal fresh early =
     let same = untouched_since r.edits v (child n k) legal parts.0 early in
     (same.1, ap (λ edit. is_version edit (r.kept (child n k))) (sym same.2) ∙ parts.1)
 
--- contents that stand for a whole node are those that it had after the edit that touched it last
+-- current contents of a whole node are those that it had after the edit that touched it last
 contents_then : {S : Type 0} (o : Operations S) (r : Record) (n : Node) (c : Contents S) → replayed r.edits ≡ Some (list_of r.edits) → is_whole r.edits n ≡ true → Stands o r n c → AreContents o (take (touched_by r.edits n) r.edits) n c
 contents_then o r n (Elements xs) legal whole stands =
     (stands.0, stands.1 ∙ (untouched_since r.edits (touched_by r.edits n) n legal whole (omega arith)).1)
@@ -93,14 +93,13 @@ contents_then o r n (Children summaries) legal whole stands = (
       ∙ ap (λ xs. Some (fold_of o xs)) (child_then r n (touched_by r.edits n) k legal (each_child_fresh r n stands.1 k within) (child_touched r.edits n k stands.0 within)).0,
 )
 
--- where contents stand for a node above level 1, its children are kept at the numbers at which they were touched when the
--- node was touched last
+-- if contents of a node above level 1 are current, its children are kept at the numbers at which they were touched when the node was touched last
 children_then : {S : Type 0} (o : Operations S) (r : Record) (n : Node) (c : Contents S) → replayed r.edits ≡ Some (list_of r.edits) → Stands o r n c → 1 < n.level → (k : ℕ) → k < 8 → is_version (touched_by (take (touched_by r.edits n) r.edits) (child n k)) (r.kept (child n k)) ≡ true
 children_then o r n (Elements xs) legal stands above k within = absurd (omega (arith, stands.0))
 children_then o r n (Children summaries) legal stands above k within =
     (child_then r n (touched_by r.edits n) k legal (each_child_fresh r n stands.1 k within) (child_touched r.edits n k above within)).1
 
--- what stands for a whole node is honest at the number of the edit that touched it last
+-- current contents of a whole node are honest at the number of the edit that touched it last
 pub honest_of_standing : {S : Type 0} (o : Operations S) (r : Record) (n : Node) (v : ℕ) (c : Contents S) → replayed r.edits ≡ Some (list_of r.edits) → is_whole r.edits n ≡ true → v ≡ touched_by r.edits n → Stands o r n c → IsHonest o r n v c
 honest_of_standing o r n v c legal whole at stands =
     rw at record {
@@ -139,7 +138,7 @@ honest_after_edit o r n v c e honest =
       ];
     }
 
--- contents that are honest for a record are so for one of the same edits, where what it keeps has the children's part
+-- contents that are honest for a record are so for one of the same edits, if what it keeps has the children's part
 with_children : {S : Type 0} (o : Operations S) (r next : Record) (n : Node) (v : ℕ) (c : Contents S) → next.edits ≡ r.edits → IsHonest o r n v c → (1 < n.level → (k : ℕ) → k < 8 → (is_version (touched_by (take v r.edits) (child n k)) (next.kept (child n k)) ≡ true) ⊎ (v < touched_by r.edits (child n k))) → IsHonest o next n v c
 with_children o r next n v c edits honest children =
     record {
@@ -151,7 +150,7 @@ with_children o r next n v c edits honest children =
       children = rw edits children;
     }
 
--- honesty depends on the edits and on what is kept alone
+-- honesty depends only on the edits and on what is kept
 pub honest_same : {S : Type 0} (o : Operations S) (r next : Record) (n : Node) (v : ℕ) (c : Contents S) → next.edits ≡ r.edits → ((k : Node) → next.kept k ≡ r.kept k) → IsHonest o r n v c → IsHonest o next n v c
 honest_same o r next n v c edits kept honest =
     with_children o r next n v c edits honest (λ above k within. rw kept (honest.children above k within))
@@ -177,7 +176,7 @@ honest_after_install o r next m n v c legal edits whole kept honest =
           rw now (honest.children above k within)
     ])
 
--- contents stand as long as the edits and what is kept stay
+-- contents are current as long as the edits and what is kept stay
 pub stands_of_same : {S : Type 0} (o : Operations S) (r next : Record) (n : Node) (c : Contents S) → next.edits ≡ r.edits → ((k : Node) → next.kept k ≡ r.kept k) → Stands o r n c → Stands o next n c
 stands_of_same o r next n (Elements xs) edits kept stands = rw edits stands
 stands_of_same o r next n (Children summaries) edits kept stands = (
@@ -186,14 +185,14 @@ stands_of_same o r next n (Children summaries) edits kept stands = (
   rw edits stands.2,
 )
 
--- a whole child that no edit after the first v touched is fresh where honesty tells of what is kept for it
+-- a whole child that no edit after the first v touched is fresh if honesty speaks of what is kept for it
 fresh_since : (r : Record) (n : Node) (v k : ℕ) → replayed r.edits ≡ Some (list_of r.edits) → is_whole r.edits (child n k) ≡ true → touched_by r.edits (child n k) ≤ v → (is_version (touched_by (take v r.edits) (child n k)) (r.kept (child n k)) ≡ true) ⊎ (v < touched_by r.edits (child n k)) → is_fresh r (child n k) ≡ true
 fresh_since r n v k legal whole early (inl kept) =
     let same = untouched_since r.edits v (child n k) legal whole early in
     and_from _ _ whole (ap (λ edit. is_version edit (r.kept (child n k))) same.2 ∙ kept)
 fresh_since r n v k legal whole early (inr later) = absurd (omega arith)
 
--- what was taken honestly stands here now, where the node is whole and no later edit touched it
+-- contents that were taken honestly are current if the node is whole and no later edit touched it
 pub vouched_of_honest : {S : Type 0} (o : Operations S) (r : Record) (n : Node) (v : ℕ) (c : Contents S) → replayed r.edits ≡ Some (list_of r.edits) → IsHonest o r n v c → is_whole r.edits n ≡ true → touched_by r.edits n ≡ v → Stands o r n c
 vouched_of_honest o r n v (Elements xs) legal honest whole touched =
     let same = untouched_since r.edits v n legal whole (omega arith) in
@@ -250,7 +249,7 @@ module _ {S : Type 0} (o : Operations S) (within : S → ℕ → Type 0) (laws :
       ∙ ap (λ t. fold (λ t x. o.join t (o.lift x)) t rest) (sym (going_on-is_join o within laws s count xs known parts.0 (omega arith)))
       ∙ sym (fold-append (λ t x. o.join t (o.lift x)) s xs rest)
 
-  -- the elements of any node can be folded where those of the whole list can
+  -- the elements of any node can be folded if those of the whole list can
   pub cells_can_fold : (es : List Edit) (n : Node) → CanFold (list_of es) → CanFold (elements_under es n)
   cells_can_fold es n can = part_can_fold (8 ^ n.level) (n.number * 8 ^ n.level) (list_of es) can
 
@@ -259,7 +258,7 @@ module _ {S : Type 0} (o : Operations S) (within : S → ℕ → Type 0) (laws :
   summaries_in_order es n summaries each =
       fill_by_all (λ k. fold_of o (elements_under es (child n k))) (in_order summaries) 8 o.identity refl (λ k inside. get_or_from_slice_get (in_order summaries) k (fold_of o (elements_under es (child n k))) o.identity (each k inside))
 
-  -- the fold of contents that stand for a node is the fold of its elements
+  -- the fold of current contents of a node is the fold of its elements
   pub fold_of_standing : (r : Record) (n : Node) (c : Contents S) → CanFold (list_of r.edits) → Stands o r n c → fold_of_contents o c ≡ fold_of o (elements_under r.edits n)
   fold_of_standing r n (Elements xs) can stands = ap (fold_of o) stands.1
   fold_of_standing r n (Children summaries) can stands =
@@ -270,7 +269,7 @@ module _ {S : Type 0} (o : Operations S) (within : S → ℕ → Type 0) (laws :
       ∙ joins_in_turn lists (range_with_len 0 8) o.identity 0 laws.identity_within folded.elements (omega (arith, folded.few))
       ∙ ap (fold_of o) (sym all)
 
-  -- contents that stand for a whole node can be folded
+  -- current contents of a whole node can be folded
   pub can_fold_standing : (r : Record) (n : Node) (c : Contents S) → CanFold (list_of r.edits) → is_whole r.edits n ≡ true → Stands o r n c → CanFoldContents within c
   can_fold_standing r n (Elements xs) can whole stands =
       let size : 8 ^ n.level ≡ 8 = ap (λ l. 8 ^ l) stands.0 in (

@@ -1,4 +1,4 @@
--- What a change of one word makes of the marks, and where the least mark is.
+-- How a change of one word changes the marks, and which mark is the least.
 use Rattle.std.proofs.Common.{◌≡◌, ◌≢◌, ℕ, ◌+◌, ◌-◌, ◌*◌, ◌/◌, ◌%◌, ◌^◌, ◌<◌, ◌≤◌, Bool, true, false, ◌&&◌, ◌||◌, not, List, [], ◌∷◌, length, get_or, set, sum, nat_eq, nat_lt, replicate, refl, subst, sym, ap, ◌∙◌, inl, inr, arith}
 use Rattle.std.specs.Int.{bit_at, bit_not, trailing_zeros, w64}
 use Rattle.std.specs.Prelude.{bit_and, bit_or}
@@ -9,7 +9,7 @@ use Rattle.std.proofs.lemmas.Nat.{and_le_l}
 use Rattle.std.proofs.lemmas.Nat.Bits.{bit_at-trailing_zeros, bit_at-zero, bit_at_clear_other, bit_at_clear_same, bit_at_ones, bit_at_set_other, bit_at_set_same}
 use Rattle.lv_refresh.specs.Marks.{is_marked}
 
--- two numbers are one where their words and their bits are
+-- two numbers are one if their words and their bits are
 same_place : (i j : ℕ) → j / 64 ≡ i / 64 → j % 64 ≡ i % 64 → j ≡ i
 same_place i j word bit = omega arith
 

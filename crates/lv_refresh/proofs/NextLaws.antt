@@ -42,11 +42,11 @@ module _ {S : Type 0} (o : Operations S) (edits : List Edit) (t : Table S) (agre
             and_left _ _ (and_left _ _ (and_left _ _ (and_left _ _ stranger))) ∙ sym (wants_in-outside t (claimed_in c n) n stranger)
       ]
 
-  -- the nodes that want a job are hinted at by the table where they are by the record
+  -- the nodes that want a job are hinted at by the table if they are by the record
   pub HintsWants-from : AreHints (record_of edits t c) c → HintsWants t c
   HintsWants-from hints n wants = hints n (wants_agrees n ∙ wants)
 
-  -- contents that are gathered from the cells and the table stand
+  -- contents that are gathered from the cells and the table are current
   pub Stands-from : (n : Node) (contents : Contents S) → AreContentsIn edits t n contents → Stands o (record_of edits t c) n contents
   Stands-from n (Elements xs) holds = holds
   Stands-from n (Children summaries) holds =
@@ -96,7 +96,7 @@ module _ {B S : Type 0} (o : Operations S) (edits : List Edit) (t : Table S) (ag
   claimed-job None is = tt
   claimed-job (Some job) is = rw (is.node_is, is.version_is) served.claimed
 
-  -- and what it carries stands
+  -- and what it carries is current
   pub Stands-job : (result : Option (Carried B S)) → IfSome result (λ job. IsJobOf edits t node version body job) → IfSome result (λ job. Stands o (record_of edits t old) job.node job.contents)
   Stands-job None is = tt
   Stands-job (Some job) is = rw is.node_is (Stands-from o edits t agrees old node job.contents is.contents)

@@ -1,4 +1,4 @@
--- What becomes of the marks over some words when the words change, and where the least mark lies below them.
+-- How the marks over some words change when the words do, and how the least mark is found below them.
 use Rattle.std.proofs.Common.{◌≡◌, ◌≢◌, ℕ, ◌+◌, ◌*◌, ◌/◌, ◌%◌, ◌-◌, ◌^◌, ◌<◌, ◌≤◌, true, false, ◌&&◌, ◌||◌, not, List, [], ◌∷◌, ◌++◌, length, get_or, set, nat_eq, nat_lt, replicate, take, refl, sym, ap, ◌∙◌, inl, inr, arith}
 use Rattle.std.specs.Int.{bit_at, bit_not, trailing_zeros, w64}
 use Rattle.std.specs.Prelude.{bit_and, bit_or}
@@ -101,7 +101,7 @@ module _ (over words : List ℕ) (is : AreOver over words) where
   pub AreOver-grow : (next : List ℕ) (n : ℕ) → ((j : ℕ) → is_marked next j ≡ is_marked over j) → AreOver next (words ++ replicate n 0)
   AreOver-grow next n alike = λ j. alike j ∙ is j ∙ sym (some_word (words ++ replicate n 0) j (get_or words j 0) (get_or-zeros words n j))
 
-  -- where every word is of ones, all are marked
+  -- if every word is of ones, all are marked
   pub AreOver-all : (next : List ℕ) → ((j : ℕ) → is_marked next j ≡ nat_lt j (length words) || is_marked over j) → AreOver next (replicate (length words) (2 ^ 64 - 1))
   AreOver-all next marks =
       λ j. elim (cases_lt j (length words)) [
@@ -117,7 +117,7 @@ module _ (over words : List ℕ) (is : AreOver over words) where
             ∙ sym (some_word (replicate (length words) (2 ^ 64 - 1)) j 0 (get_or_past (replicate (length words) (2 ^ 64 - 1)) j 0 (omega (arith, length-replicate {A = ℕ} (length words) (2 ^ 64 - 1)))))
       ]
 
-  -- the least mark lies in the least word that is marked
+  -- the least mark is in the least word that is marked
   pub least_below : (k word : ℕ) → is_marked over k ≡ true → ((j : ℕ) → j < k → is_marked over j ≡ false) → word ≡ get_or words k 0 → word < 2 ^ 64 → IsLeast words (k * 64 + trailing_zeros w64 word)
   least_below k word marked least here small =
       let some : word ≢ 0 = λ none. word_of_mark over words k is marked (sym here ∙ none) in
@@ -125,7 +125,7 @@ module _ (over words : List ℕ) (is : AreOver over words) where
       let bit = (bit_at-trailing_zeros w64 word (omega arith) small).0 in
       record { marked = found.0; room = omega (arith, bit, marked_inside over words k is marked); least = found.1 }
 
-  -- there is none where no word is marked
+  -- there is none if no word is marked
   pub none_below : ((k : ℕ) → is_marked over k ≡ false) → (j : ℕ) → is_marked words j ≡ false
   none_below none j = unmarked_word words j (word_unmarked over words (j / 64) is (none (j / 64)))
 
@@ -140,7 +140,7 @@ some_before word mask some =
     let most : bit_and word mask ≤ word = and_le_l word mask in
     omega arith
 
--- one word has its bits as marks: none where it is 0
+-- one word has its bits as marks: none if it is 0
 pub word_empty : (j : ℕ) → is_marked (0 ∷ []) j ≡ false
 word_empty j =
     unmarked_word (0 ∷ []) j (elim (cases_lt (j / 64) 1) [

@@ -18,7 +18,7 @@ whole_of_wants t claimed n wants =
     let second = and_parts (whole_in t n && not (fresh_in t n)) (not (is_version (touched_in t n) claimed)) first.0 in
     (and_parts (whole_in t n) (not (fresh_in t n)) second.0).0
 
--- and has its row, where the rows of its level are enough for the size
+-- and has its row, if the rows of its level are enough for the size
 pub row_of_wanted : {S : Type 0} (t : Table S) (claimed : Option ℕ) (level number : ℕ) (rows : ClaimRows) → wants_in t claimed (node_at level number) ≡ true → t.size ≤ length rows.claimed * 8 ^ level → number < length rows.claimed
 row_of_wanted t claimed level number rows wants enough =
     let n = node_at level number in
@@ -38,7 +38,7 @@ wants_in-claimed t version n is =
     let claimed : not (is_version (touched_in t n) (Some version)) ≡ false = ap not (eq-eqb version (touched_in t n) is) in
     and_left _ (nat_eq n.level 1 || children_fresh_in t n) (and_right (whole_in t n && not (fresh_in t n)) _ claimed)
 
--- a stamp tells its version
+-- a stamp gives its version
 pub version_of-stamp : (version : ℕ) → version_of (version + 1) ≡ Some version
 version_of-stamp version =
     let back : version + 1 - 1 ≡ version = omega arith in
@@ -62,7 +62,7 @@ module _ {S : Type 0} (t : Table S) (level : ℕ) where
         | inr other ↦ marked_still seen unhinted number k away other (hints k (sym (wants_at-same seen unhinted k (ap (λ stamps. get_or stamps k 0) away.claimed)) ∙ wants))
       ]
 
-  -- where no node is hinted at, none wants a job
+  -- if no node is hinted at, none wants a job
   pub Passes-from : (old seen : ClaimRows) → seen.claimed ≡ old.claimed → length seen.hints ≡ length old.hints → ((k : ℕ) → wants_at t level seen k ≡ true → is_marked seen.hints k ≡ true) → ((k : ℕ) → is_marked seen.hints k ≡ false) → Passes t level old seen
   Passes-from old seen claimed room hints none =
       record {
@@ -71,7 +71,7 @@ module _ {S : Type 0} (t : Table S) (level : ℕ) where
         room = room;
       }
 
-  -- the least node that is hinted at is picked where it wants a job
+  -- the least node that is hinted at is picked if it wants a job
   pub Picks-from : (old seen unhinted new : ClaimRows) (number version : ℕ) → seen.claimed ≡ old.claimed → length seen.hints ≡ length old.hints → ((k : ℕ) → wants_at t level seen k ≡ true → is_marked seen.hints k ≡ true) → IsFirstHint seen number → UnhintsAt seen unhinted number → new ≡ with_claim unhinted number version → number < length old.claimed → wants_at t level unhinted number ≡ true → version ≡ touched_in t (node_at level number) → Picks t level old new (node_at level number, version)
   Picks-from old seen unhinted new number version claimed room hints first away made inside wants is =
       let stamps : unhinted.claimed ≡ old.claimed = away.claimed ∙ claimed in

@@ -1,4 +1,4 @@
--- Which nodes are fresh by the record, where a table agrees with its edits.
+-- Which nodes are fresh by the record, if a table agrees with its edits.
 use Rattle.std.proofs.Common.{◌≡◌, ℕ, ◌≤◌, Bool, ◌&&◌, Option, Some, None, option_map, List, length, refl, sym, ap, ◌∙◌, inl, inr, arith}
 use Rattle.std.specs.List.{list_all, range_with_len}
 use Rattle.std.proofs.lemmas.Bool.{cases_Bool}
@@ -16,7 +16,7 @@ use Rattle.lv_refresh.specs.ClaimTable.{ClaimTable, record_of}
 use Rattle.lv_refresh.specs.Inner.{children_fresh_in}
 use Rattle.lv_refresh.specs.Record.{is_fresh, is_version}
 
--- what is kept has a version where its version is that
+-- what is kept has a version if its version is that
 pub same_version : {S : Type 0} (v : ℕ) (kept : Option (ℕ × S)) → has_version v kept ≡ is_version v (option_map (λ kept. kept.0) kept)
 same_version v None = refl
 same_version v (Some kept) = refl
@@ -27,7 +27,7 @@ version_of_kept None most past v is = absurd (none-some v is)
 version_of_kept (Some kept) most past v is = omega (arith, past kept.0 kept.1 refl, same_Some kept.0 v is)
 
 module _ {S : Type 0} (o : Operations S) where
-  -- no version that is kept is of an edit to come, where a table agrees
+  -- no version that is kept is of an edit to come, if a table agrees
   pub kept_past : (es : List Edit) (t : Table S) (c : ClaimTable) → Agrees o es t → (n : Node) (v : ℕ) → (record_of es t c).kept n ≡ Some v → v ≤ length es
   kept_past es t c agrees n = version_of_kept (kept_in t n) (length es) (agrees.versions n)
 

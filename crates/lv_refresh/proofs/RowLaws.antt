@@ -31,7 +31,7 @@ pub claimed_in-outside : (c : ClaimTable) (n : Node) → is_node n ≡ false →
 unfolding claimed_in
 claimed_in-outside c n outside = cond-false (is_node n) _ _ outside
 
--- a node of the table is hinted at where its number is marked
+-- a node of the table is hinted at if its number is marked
 pub is_hinted-inside : (c : ClaimTable) (n : Node) → is_node n ≡ true → is_hinted c n ≡ is_marked (rows_at c n.level).hints n.number
 unfolding is_hinted
 is_hinted-inside c n inside = ap (λ member. member && is_marked (rows_at c n.level).hints n.number) inside
@@ -88,7 +88,7 @@ module _ (old new : ClaimTable) where
   pub claim_blocks-same : ((level : ℕ) → 1 ≤ level → level ≤ 6 → length (rows_at new level).claimed ≡ length (rows_at old level).claimed) → claim_blocks new ≡ claim_blocks old
   claim_blocks-same rows = claim_blocks-rows new ∙ rows 1 (omega arith) (omega arith) ∙ sym (claim_blocks-rows old)
 
-  -- and is kept as it must be, where the other is
+  -- and is kept as it must be, if the other is
   pub AreClaims-same : AreClaims old → ((level : ℕ) → 1 ≤ level → level ≤ 6 → length (rows_at new level).claimed ≡ length (rows_at old level).claimed) → ((level : ℕ) → 1 ≤ level → level ≤ 6 → length (rows_at new level).hints ≡ length (rows_at old level).hints) → AreClaims new
   AreClaims-same claims rows hints =
       AreClaims-by_rows new (claim_blocks old) (claim_blocks-same rows) claims.few (λ level low high.

@@ -25,7 +25,7 @@ slice_of_slice xs from size lo hi order inside =
     ∙ ap (take (hi - lo)) (drop-drop lo from xs)
     ∙ ap (λ k. take k (drop (from + lo) xs)) apart
 
--- what stands in a slice stands in the whole
+-- an entry of a slice is an entry of the whole
 get_of_slice : {A : Type 0} (xs : List A) (from size k : ℕ) (d : A) → k < size → from + size ≤ length xs → slice_get (slice_range xs from (from + size)) k ≡ slice_get xs (from + k)
 get_of_slice xs from size k d small inside =
     let long : length (slice_range xs from (from + size)) ≡ from + size - from = length-slice_range xs from (from + size) (omega arith) inside in
@@ -150,7 +150,7 @@ module _ {S : Type 0} (o : Operations S) (within : S → ℕ → Type 0) (laws :
 pub elements_none : (xs : List ℤ) → All IsElement (take (8 * 0) xs)
 elements_none xs k d inside = absurd (omega (arith, inside))
 
--- the first blocks' elements are of 64 bits, and so are those of one more
+-- if the first blocks' elements are of 64 bits, and those of the next block are, all of them together are
 pub elements_more : (xs : List ℤ) (k : ℕ) → All IsElement (take (8 * k) xs) → All IsElement (slice_range xs (8 * k) (8 * k + 8)) → All IsElement (take (8 * (k + 1)) xs)
 elements_more xs k front part =
     let size : 8 * k + 8 - 8 * k ≡ 8 = omega arith in

@@ -110,7 +110,7 @@ module _ {S : Type 0} (o : Operations S) (edits : List Edit) where
     claimed_then : (n : Node) → claimed_in new n ≡ (if same_node n block then Some v else claimed_in old n)
     claimed_then n = hinted.claimed n ∙ served.claimed n
 
-    -- a node wants a job by the table as it did, where it isn't the block
+    -- a node wants a job by the table as it did, if it isn't the block
     wants_besides : (n : Node) → same_node n block ≡ false → wants_job (record_of edits t new) n ≡ wants_job (record_of edits t old) n
     wants_besides n other =
         wants_agrees o edits t swept.agrees new n
@@ -158,7 +158,7 @@ module _ {S : Type 0} (o : Operations S) (edits : List Edit) where
           blocks = blocks;
         }
 
--- what lies at a block's place among the elements of its word, are the block's
+-- the elements at a block's place among those of its word are the block's
 pub near_elements : (edits : List Edit) (block : Node) (near : List ℤ) → block.level ≡ 1 → near ≡ slice_range (list_of edits) (512 * (block.number / 64)) (512 * (block.number / 64) + length near) → (from : ℕ) → from ≡ block.number % 64 * 8 → from + 8 ≤ length near
     → slice_range near from (from + 8) ≡ elements_under edits block
 near_elements edits block near low is from at inside =
@@ -269,7 +269,7 @@ sweeps_unhinted o edits t u before after last count word sweeps away =
       blocks = away.blocks ∙ sweeps.blocks;
     }
 
--- a block that wants a job where none before it does is picked, and its hint stays
+-- a block that wants a job is picked if none before it does, and its hint stays
 pub Picks-block : {S : Type 0} (t : Table S) (old new : ClaimRows) (number version : ℕ) → CanServe t 1 old → wants_at t 1 old number ≡ true → ((k : ℕ) → k < number → wants_at t 1 old k ≡ false) → version ≡ touched_in t (node_at 1 number) → new ≡ with_claim old number version → Picks t 1 old new (node_at 1 number, version)
 Picks-block t old new number version can wants least is made =
     let inside = row_of_wanted t (version_of (get_or old.claimed number 0)) 1 number old wants can.rows_enough in

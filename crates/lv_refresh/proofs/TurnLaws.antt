@@ -15,7 +15,7 @@ use Rattle.lv_refresh.proofs.PickLaws.{version_of-stamp, whole_of_wants, wants_i
 use Rattle.lv_refresh.proofs.RowLaws.{AreClaims-same, claim_blocks-same, claimed_in-inside, claimed_in-outside, claimed_in-same, is_hinted-inside, rows_at}
 
 module _ {S : Type 0} (t : Table S) (old new : ClaimTable) where
-  -- where all six levels pass, no node wants a job
+  -- if all six levels pass, no node wants a job
   pub ServesNone-by_levels : ((level : ℕ) → 1 ≤ level → level ≤ 6 → Passes t level (rows_at old level) (rows_at new level)) → ServesNone t old new
   ServesNone-by_levels passed =
       record {
@@ -38,7 +38,7 @@ module _ {S : Type 0} (t : Table S) (old new : ClaimTable) where
 abbrev pub PassedBefore : {S : Type 0} → Table S → ClaimTable → ClaimTable → ℕ → Type 0
 PassedBefore t old new level = level < 6 → Passes t level (rows_at old level) (rows_at new level)
 
--- all levels passed, where the last did too
+-- all levels passed, if the last did too
 last_passes : {S : Type 0} (t : Table S) (old new : ClaimTable) → ((level : ℕ) → 1 ≤ level → level ≤ 6 → PassedBefore t old new level) → Passes t 6 (rows_at old 6) (rows_at new 6) → (level : ℕ) → 1 ≤ level → level ≤ 6 → Passes t level (rows_at old level) (rows_at new level)
 last_passes t old new before last level low high =
     elim (cases_lt level 6) [
@@ -46,7 +46,7 @@ last_passes t old new before last level low high =
       | inr reached ↦ let is : level ≡ 6 = omega arith in subst (λ l. Passes t l (rows_at old l) (rows_at new l)) (sym is) last
     ]
 
--- what becomes of a level where a job was given on level k: those before pass, and those after stay
+-- what becomes of a level if a job was given on level k: those before pass, and those after stay
 pub record Turn {S : Type 0} (t : Table S) (old new : ClaimTable) (job : Node × ℕ) (k level : ℕ) : Type 0 where
   pub passed : level < k → Passes t level (rows_at old level) (rows_at new level)
   pub served : level ≡ k → Picks t level (rows_at old level) (rows_at new level) job
@@ -90,7 +90,7 @@ module _ {S : Type 0} (t : Table S) (old new : ClaimTable) (job : Node × ℕ) (
         ]
       ]
 
-  -- claims are kept as they must be where a job was given
+  -- claims are kept as they must be if a job was given
   pub AreClaims-served : AreClaims old → AreClaims new
   AreClaims-served claims = AreClaims-same old new claims rows_stay hints_stay
 
@@ -195,7 +195,7 @@ module _ {S : Type 0} (t : Table S) (old new : ClaimTable) (job : Node × ℕ) (
         }
 
 module _ {S : Type 0} (t : Table S) (c : ClaimTable) where
-  -- each level can be served where the nodes that want a job are hinted at
+  -- each level can be served if the nodes that want a job are hinted at
   pub CanServe-from : AreClaims c → HintsWants t c → t.size ≤ 8 * claim_blocks c → (level : ℕ) → 1 ≤ level → level ≤ 6 → CanServe t level (rows_at c level)
   CanServe-from claims hints grown level low high =
       record {
@@ -214,7 +214,7 @@ module _ {S : Type 0} (t : Table S) (old new : ClaimTable) where
   ServesNode-at job k turns low high at hints =
       ServesNode-by_turns t old new job k turns low high at hints
 
-  -- the turns of all levels, where the job was given on the last
+  -- the turns of all levels, if the job was given on the last
   last_turns : (job : Node × ℕ) → ((level : ℕ) → 1 ≤ level → level ≤ 6 → PassedBefore t old new level) → Picks t 6 (rows_at old 6) (rows_at new 6) job → (level : ℕ) → 1 ≤ level → level ≤ 6 → Turn t old new job 6 level
   last_turns job before last level low high =
       elim (cases_lt level 6) [

@@ -43,11 +43,11 @@ is_fresh-same r next n whole touched kept =
     ∙ ap (λ v. is_whole r.edits n && is_version v (next.kept n)) touched
     ∙ ap (λ k. is_whole r.edits n && is_version (touched_by r.edits n) k) kept
 
--- the children of a node are fresh in one record where each that is fresh in another is
+-- the children of a node are fresh in one record if each that is fresh in another is
 pub children_fresh-mono : (r next : Record) (n : Node) → ((k : ℕ) → k < 8 → is_fresh r (child n k) ≡ true → is_fresh next (child n k) ≡ true) → children_fresh r n ≡ true → children_fresh next n ≡ true
 children_fresh-mono r next n each all = children_fresh_from next n (λ k small. each k small (each_child_fresh r n all k small))
 
--- a choice stays made where its second part only gains
+-- a choice stays made if its second part only gains
 or_mono : (a b c : Bool) → (b ≡ true → c ≡ true) → a || b ≡ true → a || c ≡ true
 or_mono true b c more one = or_left true c refl
 or_mono false b c more one = more one
@@ -65,7 +65,7 @@ above_first : (n : Node) → is_node n ≡ true → nat_eq n.level 1 ≡ false �
 above_first n node high = omega (arith, leb-true 1 n.level (and_parts _ _ node).0, eqb-false n.level 1 high)
 
 module _ (r next : Record) (e : Edit) (ys : List ℤ) (legal : replayed r.edits ≡ Some (list_of r.edits)) (possible : applied (list_of r.edits) e ≡ Some ys) (same : SameRecord (record r { edits = r.edits ++ e ∷ [] }) next) where
-  -- a node that an edit left alone, and that is whole after it, was whole before
+  -- a node that an edit didn't touch, and that is whole after it, was whole before
   whole_before : (n : Node) → touches (list_of r.edits) e n ≡ false → is_whole next.edits n ≡ true → is_whole r.edits n ≡ true
   whole_before n untouched whole =
       (untouched_keeps r.edits e ys n legal possible untouched (ap (λ edits. is_whole edits n) (sym same.edits) ∙ whole)).0
@@ -79,7 +79,7 @@ module _ (r next : Record) (e : Edit) (ys : List ℤ) (legal : replayed r.edits 
   fresh_before n untouched whole =
       is_fresh-same r next n (whole ∙ sym (whole_before n untouched whole)) (touched_before n untouched) (same.kept n)
 
-  -- a node that an edit left alone, and that wants a job after it, wanted one before
+  -- a node that an edit didn't touch, and that wants a job after it, wanted one before
   pub wants_before_edit : (n : Node) → touches (list_of r.edits) e n ≡ false → wants_job next n ≡ true → wants_job r n ≡ true
   wants_before_edit n untouched wants =
       let w = wants_parts next n wants in
@@ -106,7 +106,7 @@ child_over n i above covered =
     let k = i / width - 8 * n.number in
     (k, omega arith, eq-eqb (i / width) (8 * n.number + k) (omega arith))
 
--- some child of a node has one of some indices where the node has one
+-- some child of a node has one of some indices if the node has one
 some_child_covers : (n : Node) (indices : List ℕ) → 1 < n.level → list_any (covers n) indices ≡ true → (k : ℕ) × (k < 8) × (list_any (covers (child n k)) indices ≡ true)
 some_child_covers n [] above covered = absurd (true≢false (sym covered))
 some_child_covers n (i ∷ rest) above covered =
@@ -119,7 +119,7 @@ some_child_covers n (i ∷ rest) above covered =
           (at.0, at.1, or_right _ _ at.2)
     ]
 
--- what is kept is not of the edit to come, where it is of none later than the last
+-- what is kept is not of the edit to come, if it is of none later than the last
 not_of_next : (kept : Option ℕ) (last : ℕ) → ((v : ℕ) → kept ≡ Some v → v ≤ last) → is_version (last + 1) kept ≡ false
 not_of_next None last past = refl
 not_of_next (Some v) last past = ne_eqb v (last + 1) (λ same. omega (arith, past v refl, same))
@@ -205,7 +205,7 @@ pub SameRecord-back : (r next : Record) → SameRecord r next → SameRecord nex
 SameRecord-back r next same =
     record { edits = sym same.edits; issued = sym same.issued; claimed = λ n. sym (same.claimed n); kept = λ n. sym (same.kept n) }
 
--- truth values are one where each gives the other
+-- truth values are one if each gives the other
 one_truth : (a b : Bool) → (a ≡ true → b ≡ true) → (b ≡ true → a ≡ true) → a ≡ b
 one_truth true b there back = sym (there refl)
 one_truth false true there back = back refl

@@ -10,8 +10,7 @@ use Rattle.lv_refresh.specs.Claim.{wants_job}
 use Rattle.lv_refresh.specs.Marks.{is_marked}
 use Rattle.lv_refresh.specs.Record.{Record}
 
--- the rows of one level, by the node's number: one more than the version at which it was claimed (0 where it wasn't),
--- and the words of the hints
+-- the rows of one level, by the node's number: one more than the version at which it was claimed (0 if it wasn't), and the words of the hints
 pub record ClaimRows : Type 0 where
   pub claimed : List ℕ
   pub hints : List ℕ
@@ -32,7 +31,7 @@ claim_rows_for c n = slice_index_or c.levels (n.level - 1) no_claims
 abbrev pub version_of : ℕ → Option ℕ
 version_of stamp = if nat_lt 0 stamp then Some (stamp - 1) else None
 
--- the version at which a node was claimed last; none where it wasn't, and outside the table
+-- the version at which a node was claimed last; none if it wasn't, and outside the table
 unfoldable pub claimed_in : ClaimTable → Node → Option ℕ
 claimed_in c n = if is_node n then version_of (slice_index (claim_rows_for c n).claimed n.number) else None
 

@@ -6,7 +6,7 @@ use Rattle.lv_summary.specs.declared.accepted.Accepted.TheVariants.{Installed, H
 use Rattle.lv_edits.specs.Touch.{is_whole, touched_by}
 use Rattle.lv_refresh.specs.Record.{Record, is_version}
 
--- stale where the node isn't whole, or was touched by another edit last; held where the version is kept; else installed
+-- stale if the node isn't whole, or was touched by another edit last; else held if the version is kept; else installed
 abbrev pub delivery_of : Record → Node → ℕ → Accepted
 delivery_of r n v =
     if is_whole r.edits n && nat_eq (touched_by r.edits n) v then (if is_version v (r.kept n) then Held else Installed) else Stale (touched_by r.edits n)

@@ -1,4 +1,4 @@
--- When contents were taken from this vector, and when they are what stands in it now.
+-- When contents were taken from this vector, and when they are its current ones.
 use Rattle.std.specs.Prelude.{◌≡◌, ℕ, ◌<◌, ◌≤◌, true, Some, ◌⊎◌, List, length, take, slice_get}
 use Rattle.lv_geometry.specs.declared.nodes.Node.{Node}
 use Rattle.lv_geometry.specs.Nodes.{child, is_node}
@@ -27,14 +27,14 @@ pub record IsHonest {S : Type 0} (o : Operations S) (r : Record) (n : Node) (v :
   pub children : 1 < n.level → (k : ℕ) → k < 8 →
       (is_version (touched_by (take v r.edits) (child n k)) (r.kept (child n k)) ≡ true) ⊎ (v < touched_by r.edits (child n k))
 
--- contents stand here now: at level 1 they are the node's elements; above, the children are all fresh, and the summaries
--- carried are their folds
+-- contents are the current ones: at level 1 they are the node's elements; above, the children are all fresh, and the summaries carried are their
+-- folds
 abbrev pub Stands : {S : Type 0} → Operations S → Record → Node → Contents S → Type 0
 Stands o r n (Elements xs) = (n.level ≡ 1) × (xs ≡ elements_under r.edits n)
 Stands o r n (Children summaries) =
     (1 < n.level) × (children_fresh r n ≡ true) × ((k : ℕ) → k < 8 → slice_get (in_order summaries) k ≡ Some (fold_of o (elements_under r.edits (child n k))))
 
--- an outcome is vouched for where its node isn't whole, or was touched by another edit last, or what it carries stands
--- here: its body is the vector's, and so are its contents
+-- an outcome is vouched for if its node isn't whole, or was touched by another edit last, or what it carries is current: its body is the
+-- vector's, and its contents are the node's current ones
 abbrev pub Vouched : {S : Type 0} → Operations S → Record → Type 0 → Node → ℕ → Contents S → Type 0
 Vouched o r same_body n v contents = is_whole r.edits n ≡ true → touched_by r.edits n ≡ v → same_body × Stands o r n contents

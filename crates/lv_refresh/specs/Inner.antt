@@ -126,7 +126,7 @@ pub record HasEntries {S : Type 0} (t : Table S) (n : Node) (first : ℕ) (a b c
 abbrev pub IsReady : {S : Type 0} → Table S → Node → Type 0
 IsReady t n = 1 < n.level → children_fresh_in t n ≡ true
 
--- whether a node wants a job by a table, where it was last claimed at a version, if at all
+-- whether a node wants a job by a table, if `claimed` is the version at which it was claimed last, or none
 abbrev pub wants_in : {S : Type 0} → Table S → Option ℕ → Node → Bool
 wants_in t claimed n =
     whole_in t n && not (fresh_in t n) && not (is_version (touched_in t n) claimed) && (nat_eq n.level 1 || children_fresh_in t n)
@@ -135,7 +135,7 @@ wants_in t claimed n =
 abbrev pub node_at : ℕ → ℕ → Node
 node_at level number = record { level = level; number = number }
 
--- the same of a node of a level, by the row of its number
+-- whether the node of a level and a number wants a job by a table, claimed as the row of its number says
 abbrev pub wants_at : {S : Type 0} → Table S → ℕ → ClaimRows → ℕ → Bool
 wants_at t level rows number = wants_in t (version_of (slice_index rows.claimed number)) (node_at level number)
 

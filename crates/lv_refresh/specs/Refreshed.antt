@@ -20,7 +20,8 @@ pub record RefreshesNext {S : Type 0} (o : Operations S) (edits : List Edit) (ol
   pub claimed : (n : Node) → claimed_in after n ≡ (if same_node n node then Some version else claimed_in before n)
   pub above : is_node (parent node) ≡ true → is_hinted after (parent node) ≡ true
 
--- the same, whatever becomes of hints
+-- the least node that wants a job was refreshed: it is claimed at the number of the edit that touched it last, and the fold of its elements is
+-- kept for it at that version. Nothing is said of hints
 pub record RefreshesOne {S : Type 0} (o : Operations S) (edits : List Edit) (old new : Table S) (before after : ClaimTable) : Type 0 where
   pub node : Node
   pub version : ℕ

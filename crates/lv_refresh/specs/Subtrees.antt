@@ -21,7 +21,7 @@ pub record AreFolds {S : Type 0} (o : Operations S) (elements : List ℤ) (each 
   pub many : length summaries * each ≡ length elements
   pub folds : (k : ℕ) → k < length summaries → slice_get summaries k ≡ Some (fold_of o (slice_range elements (each * k) (each * k + each)))
 
--- whether a node is one of a subtree: of level 4 or below, where the node of level 4 has its first index
+-- whether a node is one of a subtree: its level is 4 or less, and the subtree's node of level 4 has its first index
 abbrev pub is_in_subtree : ℕ → Node → Bool
 is_in_subtree number n = is_node n && nat_le n.level 4 && covers (node_at 4 number) (first_index n)
 

@@ -25,8 +25,8 @@ use lv_summary::Summaries;
 use std::alloc::Global;
 use std::marker::Model;
 
-/// Which nodes are claimed, and hints at those that may want a job. Whoever keeps it beside a table tells it of each
-/// touch and install, so that every node that wants a job is hinted at; a hint at any other node is only looked at.
+/// Which nodes are claimed, and hints at those that may want a job. Whoever keeps it together with a table reports each touch and install to it,
+/// so that every node that wants a job is hinted at; a hint at any other node is only looked at.
 #[derive(Drop)]
 pub struct Claims {
     levels: Levels<Level>,
@@ -85,8 +85,8 @@ impl Claims {
         self.levels.level_1.rows() as u32
     }
 
-    /// Hears that an edit touched index `i`, so that its block may want a job. No node above can, before the summary of its
-    /// child is installed again.
+    /// Takes note that an edit touched index `i`, so that its block may want a job. No node above can, before the summary of its child is
+    /// installed again.
     #[inline(always)]
     pub fn touch(&mut self, i: u32)
         requires { i / 8 < claim_blocks self.old }
@@ -97,7 +97,7 @@ impl Claims {
         self.levels.level_1.hint(i / 8);
     }
 
-    /// Hears that a summary was installed for a node, so that its parent may want a job.
+    /// Takes note that a summary was installed for a node, so that its parent may want a job.
     #[inline]
     pub fn hint_parent(&mut self, node: Node)
         requires member { is_node node ≡ true }
@@ -109,7 +109,7 @@ impl Claims {
         self.hint_above(node);
     }
 
-    // Hints at the node one level up, where there is one.
+    // Hints at the node one level up, if there is one.
     #[inline(always)]
     fn hint_above(&mut self, node: Node)
         requires member { is_node node ≡ true }
@@ -122,8 +122,8 @@ impl Claims {
         }
     }
 
-    /// Hears that every summary of a subtree was installed, that of the node of level 4 that has a number and of all nodes below it: so none
-    /// of its blocks wants a job, and the node above it may.
+    /// Takes note that every summary of a subtree was installed: that of the node of level 4 with the given number, and those of all nodes below
+    /// it. So none of its blocks wants a job, and the node above it may.
     pub fn pass_subtree(&mut self, number: u32)
         requires inside { is_below (node_at 4 number) (8 * claim_blocks self.old) ≡ true }
         ensures claimed { (n : Node) → claimed_in self.new n ≡ claimed_in self.old n }
@@ -148,8 +148,8 @@ impl Claims {
         self.levels.level_6.forget();
     }
 
-    /// The job of the least node that wants one, by level and then by number, which is claimed with it; none where no
-    /// node wants one. Takes no memory, and looks only at nodes that are hinted at.
+    /// The job of the least node that wants one, by level and then by number. The node is claimed with it. None if no node wants one. Takes no
+    /// memory, and looks only at nodes that are hinted at.
     pub fn claim<B: Body>(
         &mut self,
         history: &Edits,
@@ -173,8 +173,8 @@ impl Claims {
         }
     }
 
-    /// Refreshes the least node that wants a job: claims it, as `claim` would, keeps its summary, computed where its contents lie, and
-    /// hints at its parent. Tells whether a node wanted one. Takes no memory, and looks only at nodes that are hinted at.
+    /// Refreshes the least node that wants a job: claims it, as `claim` would, keeps its summary, computed without copying its contents, and
+    /// hints at its parent. Returns whether a node wanted one. Takes no memory, and looks only at nodes that are hinted at.
     #[inline(always)]
     pub fn refresh_next<B: Body>(
         &mut self,
@@ -238,8 +238,7 @@ fn reserve_levels(levels: &mut Levels<Level>, rows: &Levels<u32>) -> Result<(), 
     Ok(())
 }
 
-// Adds rows on each level that were not claimed and are not hinted at, so that there are so many in all, where there are
-// fewer.
+// Adds rows on each level that were not claimed and are not hinted at, so that there are so many in all, if there are fewer.
 fn fill_levels(levels: &mut Levels<Level>, rows: &Levels<u32>)
     requires room { HaveRoom levels.old rows.now }
     requires few { (level : ℕ) → 1 ≤ level → level ≤ 6 → thing_at rows.now level ≤ 131071 }

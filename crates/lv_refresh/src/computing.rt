@@ -1,4 +1,4 @@
-//! Summaries that are computed where the elements lie.
+//! Summaries that are computed directly from the cells and the table, without a job.
 ghost use Rattle.std.specs.Prelude.{◌≡◌, ℕ, ◌+◌, ◌*◌, ◌/◌, ◌<◌, length, true, slice_get, slice_range};
 ghost use Rattle.lv_geometry.specs.Nodes.{child, is_below, parent};
 ghost use Rattle.lv_bodies.specs.Body.{fold_of};
@@ -87,8 +87,8 @@ fn refresh_at<B: Body>(
     claims.hint_parent(node);
 }
 
-// The fold of a whole node's elements, computed where its contents lie: from the elements of a block, and above from the summaries of
-// the children, which are fresh.
+// The fold of a whole node's elements, computed without copying its contents: from the elements of a block, and above from the summaries of the
+// children, which are fresh.
 #[inline(always)]
 fn summary_of<B: Body>(history: &Edits, table: &Summaries<B::S>, body: &B, node: Node) -> B::S
     requires agrees { Agrees (B.operations body.now) history.now.journal table.now }
@@ -103,8 +103,7 @@ fn summary_of<B: Body>(history: &Edits, table: &Summaries<B::S>, body: &B, node:
     }
 }
 
-// The fold of the elements of a whole block, where they lie unless a write is pending among them. The table only says that it is
-// whole.
+// The fold of the elements of a whole block, which are only copied if a write among them is pending. The table only says that the block is whole.
 #[inline(always)]
 fn fold_block<B: Body>(history: &Edits, _table: &Summaries<B::S>, body: &B, block: Node) -> B::S
     requires agrees { Agrees (B.operations body.now) history.now.journal _table.now }
@@ -123,8 +122,8 @@ fn fold_block<B: Body>(history: &Edits, _table: &Summaries<B::S>, body: &B, bloc
     fold_slice(body, &elements)
 }
 
-/// The fold of the elements of a whole block. `near` are elements from the first of its word of 64 blocks on, as far as they lie side
-/// by side; those of the block are among them, but for a bucket's end or a pending write.
+/// The fold of the elements of a whole block. `near` are elements from the first of its word of 64 blocks on, as far as they are in neighbouring
+/// cells; those of the block are among them, but for a bucket's end or a pending write.
 #[inline(always)]
 pub fn fold_near<B: Body>(
     history: &Edits,
@@ -164,7 +163,7 @@ fn join_children<B: Body>(history: &Edits, table: &Summaries<B::S>, body: &B, no
     sum
 }
 
-// The same, from summaries side by side where they all were written.
+// The join of the summaries of a whole node's children, from left to right, from neighbouring rows if they all were written.
 #[inline(always)]
 fn join_node<B: Body>(history: &Edits, table: &Summaries<B::S>, body: &B, node: Node) -> B::S
     requires agrees { Agrees (B.operations body.now) history.now.journal table.now }

@@ -1,4 +1,4 @@
-//! The summaries of a node's children, where all eight are fresh.
+//! The summaries of a node's children, if all eight are fresh.
 ghost use Rattle.std.specs.Prelude.{◌≡◌, ℕ, ◌<◌, ◌≤◌, true, false, slice_get, IfSome, IfNone};
 ghost use Rattle.lv_geometry.specs.Nodes.{child};
 ghost use Rattle.lv_summary.specs.Table.{entry_in, whole_in};
@@ -9,7 +9,7 @@ use crate::contents::Eight;
 use lv_geometry::Node;
 use lv_summary::Summaries;
 
-/// The summaries of a whole node's children; none where one of them is not fresh.
+/// The summaries of a whole node's children; none if one of them is not fresh.
 pub fn children_of<S: Copy>(table: &Summaries<S>, node: Node) -> Option<Eight<S>>
     requires whole { whole_in table.now node ≡ true }
     requires above { 1 < node.level }
@@ -31,7 +31,7 @@ pub fn children_of<S: Copy>(table: &Summaries<S>, node: Node) -> Option<Eight<S>
     })
 }
 
-// The summaries of four of a whole node's children, from one on; none where one of them is not fresh.
+// The summaries of four of a whole node's children, from one on; none if one of them is not fresh.
 #[inline(always)]
 fn four_children_of<S: Copy>(table: &Summaries<S>, node: Node, first: u32) -> Option<(S, S, S, S)>
     requires whole { whole_in table.now node ≡ true }
@@ -40,7 +40,7 @@ fn four_children_of<S: Copy>(table: &Summaries<S>, node: Node, first: u32) -> Op
     ensures some { IfSome result (λ four. HasEntries table.now node first four.0 four.1 four.2 four.3) }
     ensures none { IfNone result (four_fresh_in table.now node first ≡ false) }
 {
-    // The size tells that the children's numbers are of 32 bits.
+    // By the size, the children's numbers are of 32 bits.
     let _size = table.size();
     Some((
         table.entry(node.child(first))?,

@@ -81,7 +81,7 @@ impl<B: Body<S = S>, S: Copy> JobOf<B, S> {
         self.version
     }
 
-    /// What the summary is computed from, where it lies.
+    /// What the summary is computed from, by reference.
     #[inline(always)]
     pub(crate) fn as_contents(&self) -> &Contents<S>
         ensures value { result.now ≡ self.now.contents }

@@ -61,7 +61,7 @@ impl Level {
         self.hints.reserve(rows)
     }
 
-    /// Adds rows that were not claimed and are not hinted at, so that there are so many in all, where there are fewer.
+    /// Adds rows that were not claimed and are not hinted at, so that there are so many in all, if there are fewer.
     pub fn fill(&mut self, rows: u32)
         requires capacity { rows ≤ self.old.capacity }
         requires few { rows ≤ 131071 }

@@ -93,7 +93,7 @@ impl<B: Body<S = S>, S: Copy> OutcomeOf<B, S> {
         *self.job.as_contents()
     }
 
-    /// The same where it lies, since contents are wide.
+    /// What the summary was computed from, by reference, since contents are wide.
     #[inline(always)]
     pub fn as_contents(&self) -> &Contents<S>
         ensures { result.now ≡ self.now.contents }

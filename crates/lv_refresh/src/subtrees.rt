@@ -77,7 +77,7 @@ impl<B: Body> SubtreeJob<B> {
         }
     }
 
-    /// Computes all summaries. The outcome is of the same elements. Refused for want of memory: the job is given back then.
+    /// Computes all summaries. The outcome is of the same elements. If memory runs out, the job is given back.
     pub fn run(self, alloc: Global) -> Result<SubtreeOutcome<B>, SubtreeJob<B>>
         ensures ok { IfOk result (λ outcome. outcome ≡ Some self) }
         ensures err { IfErr result (λ job. job ≡ self) }
@@ -128,9 +128,9 @@ impl<B: Body<S = S>, S: Copy> SubtreeOutcomeOf<B, S> {
         if self.is_spent { None } else { Some(&self.job) }
     }
 
-    /// Keeps each summary of the subtree, with the number of the edit that touched its node last, and is spent by that. The summaries of
-    /// blocks are not copied: the table takes their memory, and that of what was kept comes here, to be freed where nobody waits for it.
-    /// One that is spent changes nothing. Takes no memory.
+    /// Keeps each summary of the subtree, with the number of the edit that touched its node last; the outcome is then spent. The summaries of
+    /// blocks are not copied: the table takes their memory, and that of what was kept comes here, so that it can be freed where nobody waits for
+    /// it. An outcome that is spent already changes nothing. Takes no memory.
     pub fn install(&mut self, table: &mut Summaries<S>)
         requires { IfSome self.old (λ copied. IsInside copied.number table.old.size) }
         ensures keeps { IfSome self.old (λ copied. KeepsSubtree (B.operations copied.body) table.old table.new copied) }
@@ -248,7 +248,7 @@ fn join_in_order<B: Body>(body: &B, summaries: &[B::S]) -> B::S
     sum
 }
 
-// Eight neighbours, where they lie.
+// Eight neighbours, by reference.
 #[inline(always)]
 fn eight_from<T: Copy>(cells: &[T], from: usize) -> &[T]
     requires { from + 8 ≤ length cells.now }

@@ -8,8 +8,7 @@ use crate::level::Level;
 use lv_geometry::Node;
 use lv_summary::Summaries;
 
-/// The number of the edit that touched a node last, where the node wants a job; none where it wants none. `rows` are those of its
-/// level.
+/// The number of the edit that touched a node last, if the node wants a job; none if it wants none. `rows` are those of its level.
 #[inline(always)]
 pub fn wanted<S: Copy>(rows: &Level, table: &Summaries<S>, node: Node) -> Option<u32>
     requires { table.now.size ≤ length rows.now.rows.claimed * 8 ^ node.level }

@@ -17,7 +17,7 @@ use Rattle.lv_shards.specs.LeadsLaws.{leads_of_table, row_at, states_back}
 use Rattle.lv_shards.specs.SpelledLaws.{number_in_sealed}
 use Rattle.lv_shards.specs.Summaries.{AreLeads, leads_of}
 
--- the same bytes are those of the same numbers
+-- equal bytes come from equal numbers
 same_numbers : (ms ns : List ℕ) → All (λ n. n < 2 ^ 64) ms → All (λ n. n < 2 ^ 64) ns → sealed_by (spelled ms) ≡ sealed_by (spelled ns) → ms ≡ ns
 same_numbers ms ns short short' e =
     let many : length ms ≡ length ns = omega (arith, length_sealed ms, length_sealed ns, ap length e) in

@@ -19,7 +19,7 @@ unfolding spelled
 length_spelled [] = refl
 length_spelled (n ∷ numbers) = omega (arith, length_spelled numbers, length-append (to_le_bytes w64 n) (flat_map (to_le_bytes w64) numbers))
 
--- of two lists one after the other
+-- the bytes of two lists, one after the other
 pub spelled_both : (ms ns : List ℕ) → spelled (ms ++ ns) ≡ spelled ms ++ spelled ns
 unfolding spelled
 spelled_both ms ns = flat_map-append (to_le_bytes w64) ms ns
@@ -37,7 +37,7 @@ sealed_is numbers = ap (λ b. spelled numbers ++ b) (sym (spelled_one (checksum_
 pub length_sealed : (numbers : List ℕ) → length (sealed_by (spelled numbers)) ≡ 8 * length numbers + 8
 length_sealed numbers = ap length (sealed_is numbers) ∙ length_spelled (with_checksum numbers) ∙ omega (arith, length-append numbers (checksum_of (spelled numbers) ∷ []))
 
--- the first so many, and the others
+-- the bytes of the first so many numbers, and of the others
 pub spelled_take : (numbers : List ℕ) (k : ℕ) → k ≤ length numbers → take (8 * k) (spelled numbers) ≡ spelled (take k numbers)
 spelled_take numbers k within =
     ap (λ ns. take (8 * k) (spelled ns)) (sym (take-append-drop k numbers))
@@ -82,7 +82,7 @@ filled numbers first count old new front back =
     ∙ ap (λ b. b ++ drop (8 * count) new) (front ∙ ap (λ n. spelled (take n (drop first numbers))) many)
     ∙ ap (λ b. spelled (slice_range numbers first (first + count)) ++ b) back
 
--- a number more leaves what is behind it
+-- one more number leaves what comes after it
 pub left_behind : (k : ℕ) (old bytes part : List ℕ) → 8 * k + 8 ≤ length bytes → length part ≡ 8 → drop (8 * k) bytes ≡ drop (8 * k) old
     → drop (8 * (k + 1)) (put_mid (8 * k) (8 * k + 8 - 8 * k) bytes part) ≡ drop (8 * (k + 1)) old
 left_behind k old bytes part within eight so_far =

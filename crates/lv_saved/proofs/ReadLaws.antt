@@ -85,7 +85,7 @@ times_many None false n m e p q = refl
 times_many (Some xs) true n m e p q = q ∙ sym p
 times_many (Some xs) false n m e p q = absurd (cc)
 
--- what bytes say before the elements, where they are those of what was saved
+-- what bytes say before the elements, if they are those of what was saved
 pub record AreFront (s : Saved) (bytes : List ℕ) (numbers count stamps : ℕ) : Type 0 where
   pub first : number_in bytes 3 ≡ s.first
   pub edits : number_in bytes 4 ≡ s.edits
@@ -115,7 +115,7 @@ are_front s bytes timed numbers elements times h form is long elements_is times_
       three_row = at 9 (omega arith);
     }
 
--- times that are saved do not fall, where there are any
+-- times that are saved do not fall, if there are any
 times_rise : (times : Option (List ℤ)) → IfSome times IsRising → IsRising (unwrap_or times [])
 times_rise None rising = record { rises = λ i j order inside. absurd (omega (arith, inside)) }
 times_rise (Some times) rising = rising

@@ -45,7 +45,7 @@ element_short x fits = omega (arith, ints, fits)
 elements_short : (xs : List ℤ) → All IsElement xs → All (λ n. n < 2 ^ 64) (map (cast_unsigned w64) xs)
 elements_short xs all = All-map (λ n. n < 2 ^ 64) (cast_unsigned w64) xs (λ k d below. element_short _ (all k d below))
 
--- times are elements, where there are any
+-- times are elements, if there are any
 pub times_fit : (times : Option (List ℤ)) → IfSome times (All IsElement) → All IsElement (unwrap_or times [])
 times_fit None all = All-nil IsElement
 times_fit (Some times) all = all

@@ -5,7 +5,7 @@ use Rattle.lv_saved.specs.Saved.{Saved}
 use Rattle.lv_saved.specs.declared.fronts.Front.{Front}
 use Rattle.lv_shards.specs.Summaries.{leads_of}
 
--- it is that of what is saved
+-- a front is that of what is saved
 pub record IsFrontOf (s : Saved) (front : Front) : Type 0 where
   pub leads : leads_of (table_of front.automaton) ≡ leads_of s.table
   pub first : front.first ≡ s.first
@@ -13,7 +13,7 @@ pub record IsFrontOf (s : Saved) (front : Front) : Type 0 where
   pub elements : front.elements ≡ length s.elements
   pub times : front.times ≡ length (unwrap_or s.times [])
 
--- there is one, and it is that
+-- there is a front, and it is that of what is saved
 abbrev pub IsSomeFront : Option Front → Saved → Type 0
 IsSomeFront None s = ⊥
 IsSomeFront (Some front) s = IsFrontOf s front

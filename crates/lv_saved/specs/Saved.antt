@@ -17,7 +17,7 @@ pub record Saved : Type 0 where
   pub elements : List ℤ
   pub times : Option (List ℤ)
 
--- that of a series, and that of samples
+-- what is saved of a series, and of samples
 abbrev pub saved_series : SeriesState → Saved
 saved_series s = record { table = s.table; first = s.held.first; edits = s.edits; elements = s.held.elements; times = None }
 
@@ -46,11 +46,11 @@ head_of s = head_by s.table (form_of s) s.first s.edits (length s.elements)
 abbrev pub numbers_by : List ℕ → List ℤ → List ℤ → List ℕ
 numbers_by head elements times = head ++ (map (cast_unsigned w64) elements ++ map (cast_unsigned w64) times)
 
--- those of what is saved
+-- all numbers of what is saved
 abbrev pub numbers_of : Saved → List ℕ
 numbers_of s = numbers_by (head_of s) s.elements (unwrap_or s.times [])
 
--- the bytes
+-- all bytes of what is saved
 abbrev pub bytes_of : Saved → List ℕ
 bytes_of s = sealed_by (spelled (numbers_of s))
 

@@ -1,4 +1,4 @@
-//! The numbers by which a series is written: those of its head, its elements, and times where there are any.
+//! The numbers by which a series is written: those of its head, its elements, and times if there are any.
 ghost use Rattle.std.specs.Prelude.{◌≡◌, ◌+◌, ◌<◌, ◌≤◌, ◌^◌, length, slice_index};
 ghost use Rattle.lv_saved.specs.Saved.{numbers_by, with_checksum};
 ghost use Rattle.lv_shards.specs.Bytes.{checksum_of, spelled};
@@ -11,7 +11,7 @@ pub const HEAD: usize = 10;
 /// The numbers before the elements.
 pub type Head = [u64; HEAD];
 
-/// The number at a place, the checksum apart.
+/// The number at a place, without the checksum.
 #[inline(always)]
 pub fn number_among(head: &Head, elements: &[i64], times: &[i64], j: usize) -> u64
     requires { j < 10 + length elements.now + length times.now }
@@ -40,7 +40,7 @@ pub fn checksum_among(head: &Head, elements: &[i64], times: &[i64]) -> u64
     hash
 }
 
-/// The number at a place, the checksum behind the others.
+/// The number at a place; the checksum comes after the others.
 #[inline(always)]
 pub fn number_or_checksum(head: &Head, elements: &[i64], times: &[i64], j: usize) -> u64
     requires few { length elements.now + length times.now ≤ 2 ^ 60 }

@@ -1,4 +1,4 @@
-//! What comes before the elements: of a series that is saved, and in bytes.
+//! What comes before the elements, as it is written and as it is read.
 ghost use Rattle.std.specs.Prelude.{◌≡◌, ◌↔◌, ◌+◌, ◌*◌, ◌^◌, ◌≤◌, IfSome, IsTrue, is_some, length, if◌then◌else◌};
 ghost use Rattle.lv_bodies.specs.Automata.{table_of};
 ghost use Rattle.lv_saved.specs.Fronts.{IsSomeFront};
@@ -17,10 +17,10 @@ const VERSION: u64 = 1;
 /// The most elements that bytes can have.
 const MOST_ELEMENTS: u64 = 1 << 60;
 
-/// The most that an index behind the last element may be.
+/// The greatest index that may come after the last element.
 const MOST: u64 = 1 << 62;
 
-/// What comes before the elements, apart from what is always the same.
+/// What comes before the elements, except for what is always the same.
 #[derive(Clone, Copy)]
 pub struct Front {
     pub automaton: Automaton,
@@ -56,7 +56,7 @@ fn times_by(timed: bool, elements: u64) -> u64
     if timed { elements } else { 0 }
 }
 
-// Whether bytes of so many numbers can say this.
+// Whether there can be bytes of so many numbers with this first index, and so many elements and times.
 fn is_possible(first: u64, elements: u64, times: u64, numbers: u64) -> bool
     requires most { numbers ≤ 2 ^ 60 }
     requires times { times ≤ elements }
@@ -65,7 +65,7 @@ fn is_possible(first: u64, elements: u64, times: u64, numbers: u64) -> bool
     elements <= MOST_ELEMENTS && 11 + elements + times == numbers && first <= MOST - elements
 }
 
-/// The front in the bytes of so many numbers, the checksum among them; none where nothing that may be saved has these bytes.
+/// The front in the bytes of so many numbers, including the checksum. There is none only if nothing that may be saved has these bytes.
 pub fn front_among(bytes: &[u8], numbers: u64, timed: bool) -> Option<Front>
     requires whole { length bytes.now ≡ 8 * numbers }
     requires least { 11 ≤ numbers }

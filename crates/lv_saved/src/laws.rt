@@ -1,4 +1,4 @@
-//! What holds of the bytes of all states.
+//! A law about the bytes of all states.
 ghost use Rattle.std.specs.Prelude.{◌≡◌};
 ghost use Rattle.lv_saved.specs.Saved.{IsSaved, Saved, bytes_of};
 

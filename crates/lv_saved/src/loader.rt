@@ -35,7 +35,7 @@ impl Loader {
         }
     }
 
-    /// Takes in bytes behind the others. Refused with `NoMemory`, and nothing has changed then.
+    /// Takes in bytes after the others. Refused with `NoMemory`, and nothing has changed then.
     pub fn give(&mut self, bytes: &[u8]) -> Result<(), LoadRefusal>
         ensures ok { OnOk result (self.new ≡ self.old ++ bytes.now) }
         ensures same { OnErr result (self.new ≡ self.old) }
@@ -48,8 +48,8 @@ impl Loader {
         }
     }
 
-    /// The series whose bytes it was given. No kind has a tree. O(n): at most the bytes, and twice the elements, are in memory at once.
-    /// Refused with `Damaged` where no series has these bytes, and with `NoMemory`.
+    /// The series whose bytes it was given. No kind has a tree. O(n): at most the bytes, and twice the elements, are in memory at once. Refused
+    /// with `Damaged` if no series has these bytes, and with `NoMemory`.
     pub fn series(self, alloc: Global) -> Result<Series, LoadRefusal>
         ensures series { IfOk result (λ s. bytes_of (saved_series s) ≡ self) }
         ensures kinds { IfOk result (λ s. s.kinds ≡ no_kinds) }
@@ -60,8 +60,8 @@ impl Loader {
         restore(alloc, reading)
     }
 
-    /// The samples whose bytes it was given. No kind has a tree. O(n): at most the bytes, and twice the values and times, are in memory at
-    /// once. Refused with `Damaged` where no samples have these bytes, and with `NoMemory`.
+    /// The samples whose bytes it was given. No kind has a tree. O(n): at most the bytes, and twice the values and times, are in memory at once.
+    /// Refused with `Damaged` if no samples have these bytes, and with `NoMemory`.
     pub fn samples(self, alloc: Global) -> Result<Samples, LoadRefusal>
         ensures samples { IfOk result (λ s. bytes_of (saved_samples s) ≡ self) }
         ensures kinds { IfOk result (λ s. s.series.kinds ≡ no_kinds) }

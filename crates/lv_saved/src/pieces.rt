@@ -6,7 +6,7 @@ ghost use Rattle.lv_shards.specs.Bytes.{sealed_by, spelled};
 
 use crate::among::{HEAD, Head, number_or_checksum};
 
-// The bytes of so many numbers from one on, at the front of a buffer.
+// Puts the bytes of `count` numbers, from the number `first` on, at the start of a buffer.
 fn fill(head: &Head, elements: &[i64], times: &[i64], first: usize, count: usize, into: &mut [u8])
     requires few { length elements.now + length times.now ≤ 2 ^ 60 }
     requires inside { first + count ≤ 11 + length elements.now + length times.now }
@@ -19,8 +19,8 @@ fn fill(head: &Head, elements: &[i64], times: &[i64], first: usize, count: usize
     }
 }
 
-/// The bytes from a place on, as many of them as a buffer of whole numbers takes. Says how many these are. O(1) for each number, and
-/// O(n) more in the piece that has the checksum.
+/// Writes the bytes from a place on, as many as fit into a buffer in whole numbers, and returns how many these are. O(1) for each number, and O(n)
+/// more in the piece that has the checksum.
 pub fn write_piece(
     head: &Head,
     elements: &[i64],

@@ -1,4 +1,4 @@
-//! What bytes say, where they are those of a series or of samples.
+//! What bytes say, if they are those of a series or of samples.
 ghost use Rattle.std.specs.Prelude.{◌≡◌, ◌↔◌, ◌+◌, ◌*◌, ◌^◌, ◌<◌, ◌≤◌, IfOk, IfSome, IsErrOf, IsTrue, is_some, if◌then◌else◌, length};
 ghost use Rattle.lv_series.specs.Samples.{IsRising};
 ghost use Rattle.lv_saved.specs.Fronts.{IsFrontOf};
@@ -16,7 +16,7 @@ use std::alloc::Global;
 /// How many numbers there are without elements, the checksum among them.
 const LEAST_NUMBERS: u64 = 11;
 
-/// What bytes say: what comes before the elements, the elements, and times where there are any.
+/// What bytes say: what comes before the elements, the elements, and times if there are any.
 #[derive(Drop)]
 pub struct Reading {
     pub front: Front,
@@ -42,7 +42,7 @@ fn elements_at(alloc: Global, bytes: &[u8], from: u64, count: u64) -> Option<Vec
     Some(elements)
 }
 
-// What comes behind the front, and the front.
+// A front, and the elements and times that come after it.
 fn reading_behind(alloc: Global, bytes: &[u8], front: Front) -> Option<Reading>
     requires inside { 8 * (11 + front.elements + front.times) ≤ length bytes.now }
     requires few { 11 + front.elements + front.times ≤ 2 ^ 60 }
@@ -56,7 +56,7 @@ fn reading_behind(alloc: Global, bytes: &[u8], front: Front) -> Option<Reading>
     }
 }
 
-// The times behind the elements, and what comes before.
+// A front and elements, and the times that come after them.
 fn with_times(alloc: Global, bytes: &[u8], front: Front, elements: Vec<i64>) -> Option<Reading>
     requires inside { 8 * (11 + front.elements + front.times) ≤ length bytes.now }
     requires few { 11 + front.elements + front.times ≤ 2 ^ 60 }
@@ -74,7 +74,7 @@ fn with_times(alloc: Global, bytes: &[u8], front: Front, elements: Vec<i64>) -> 
     }
 }
 
-// Whether bytes are exactly those of what they say.
+// Whether bytes are exactly those of what was read from them.
 fn is_exact(reading: &Reading, timed: bool, bytes: &[u8]) -> bool
     requires { length reading.now.elements.items + length reading.now.times.items ≤ 2 ^ 60 }
     ensures { IsTrue result ↔ IsReading bytes.now timed reading.now }
@@ -95,7 +95,7 @@ fn is_exact(reading: &Reading, timed: bool, bytes: &[u8]) -> bool
     )
 }
 
-// Whether bytes are exactly those of what they say, and times do not fall.
+// Whether bytes are exactly those of what was read from them, and times do not fall.
 fn is_sound(reading: &Reading, timed: bool, bytes: &[u8]) -> bool
     requires { length reading.now.elements.items + length reading.now.times.items ≤ 2 ^ 60 }
     ensures { IsTrue result ↔ IsReading bytes.now timed reading.now × IsRising reading.now.times.items }
@@ -103,7 +103,7 @@ fn is_sound(reading: &Reading, timed: bool, bytes: &[u8]) -> bool
     is_exact(reading, timed, bytes) && are_rising(reading.times.as_slice())
 }
 
-// What bytes say behind their front, if they are exactly those of that.
+// What bytes say after their front, if they are exactly those of it.
 fn read_behind(
     alloc: Global,
     bytes: &[u8],
@@ -128,8 +128,8 @@ fn read_behind(
     }
 }
 
-/// What bytes say, if they are exactly those of a series, or of samples where `timed` is true. O(n). Refused with `Damaged` where nothing
-/// that may be saved has these bytes, and with `NoMemory`.
+/// What bytes say, if they are exactly those of a series, or of samples if `timed` is true. O(n). Refused with `Damaged` if nothing that may be
+/// saved has these bytes, and with `NoMemory`.
 pub fn read(alloc: Global, bytes: &[u8], timed: bool) -> Result<Reading, LoadRefusal>
     requires { length bytes.now < 2 ^ 63 }
     ensures exact { IfOk result (λ r. IsReading bytes.now timed r) }

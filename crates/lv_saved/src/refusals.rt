@@ -5,7 +5,7 @@
 pub enum LoadRefusal {
     /// No series has these bytes: they were changed, or are too few or too many.
     Damaged,
-    /// Memory was wanted, and there was none.
+    /// There was no memory.
     NoMemory,
 }
 

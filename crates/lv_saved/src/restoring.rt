@@ -9,7 +9,7 @@ use crate::refusals::LoadRefusal;
 use lv_series::{Samples, Series};
 use std::alloc::Global;
 
-// The series that was read; none where there is no memory.
+// The series that was read; none if there is no memory.
 fn restored(alloc: Global, reading: &Reading) -> Option<Series>
     requires { IsWhole false reading.now }
     ensures series { IfSome result (λ s. (bytes : List ℕ) → IsReading bytes false reading.now → bytes_of (saved_series s) ≡ bytes) }
@@ -36,7 +36,7 @@ pub fn restore(alloc: Global, reading: Result<Reading, LoadRefusal>) -> Result<S
     }
 }
 
-// The samples that were read; none where there is no memory.
+// The samples that were read; none if there is no memory.
 fn restored_samples(alloc: Global, reading: &Reading) -> Option<Samples>
     requires { IsWhole true reading.now }
     ensures samples { IfSome result (λ s. (bytes : List ℕ) → IsReading bytes true reading.now → bytes_of (saved_samples s) ≡ bytes) }

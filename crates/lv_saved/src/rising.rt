@@ -2,7 +2,7 @@
 ghost use Rattle.std.specs.Prelude.{◌↔◌, IsTrue};
 ghost use Rattle.lv_series.specs.Samples.{IsRising};
 
-/// Whether no time is before the one in front of it. O(n).
+/// Whether no time is less than the one before it. O(n).
 pub fn are_rising(times: &[i64]) -> bool
     ensures { IsTrue result ↔ IsRising times.now }
 {

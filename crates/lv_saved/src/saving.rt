@@ -1,4 +1,4 @@
-//! A series as bytes, and samples.
+//! A series, or samples, as bytes.
 ghost use Rattle.std.specs.Prelude.{◌≡◌, ◌%◌, length};
 ghost use Rattle.lv_saved.specs.Saved.{IsPiece, bytes_of, saved_samples, saved_series};
 
@@ -6,7 +6,7 @@ use crate::fronts::make_head;
 use crate::pieces::write_piece;
 use lv_series::{Samples, Series};
 
-// The elements of a series, as they are side by side in memory.
+// The elements of a series, which are next to each other in memory.
 fn all_elements(series: &Series) -> &[i64]
     ensures { result.now ≡ series.now.held.elements }
 {
@@ -24,10 +24,10 @@ pub fn saved_bytes(series: &Series) -> u64
     88 + 8 * (series.size() - series.first())
 }
 
-/// Writes the bytes of a series from the place `from` on, which is a multiple of 8, as many as a buffer takes in whole numbers of 8 bytes,
-/// and says how many these are: 0 where `from` is at the end, or where the buffer is shorter than 8. So a series of any size is saved in
-/// pieces: each begins where the one before ended. An edit between two pieces changes what the rest is a part of, so compare `edits()`
-/// before the first piece and after the last one. Takes no memory. O(1) for each number, and O(n) more in the piece that has the checksum.
+/// Writes the bytes of a series from the place `from` on, which is a multiple of 8, as many as fit into a buffer in whole numbers of 8 bytes, and
+/// returns how many these are. That is 0 if `from` is at the end, or if the buffer is shorter than 8. So a series of any size is saved in pieces,
+/// where each piece begins where the one before ended. An edit between two pieces changes what the rest is a part of, so compare `edits()` before
+/// the first piece and after the last one. Takes no memory. O(1) for each number, and O(n) more in the piece that has the checksum.
 pub fn save(series: &Series, from: u64, into: &mut [u8]) -> usize
     requires { from % 8 ≡ 0 }
     ensures { IsPiece (bytes_of (saved_series series.now)) from into.old result into.new }
@@ -44,7 +44,7 @@ pub fn save(series: &Series, from: u64, into: &mut [u8]) -> usize
     write_piece(&head, elements, &[], from, into)
 }
 
-// The times of samples, as they are side by side in memory.
+// The times of samples, which are next to each other in memory.
 fn all_times(samples: &Samples) -> &[i64]
     ensures { result.now ≡ samples.now.times }
 {
@@ -66,7 +66,7 @@ pub fn saved_samples_bytes(samples: &Samples) -> u64
     88 + 16 * (series.size() - series.first())
 }
 
-/// Writes the bytes of samples, as `save` does those of a series: compare `series().edits()` before the first piece and after the last one.
+/// Writes the bytes of samples, as `save` writes those of a series. Compare `series().edits()` before the first piece and after the last one.
 pub fn save_samples(samples: &Samples, from: u64, into: &mut [u8]) -> usize
     requires { from % 8 ≡ 0 }
     ensures { IsPiece (bytes_of (saved_samples samples.now)) from into.old result into.new }

@@ -92,7 +92,7 @@ pub tells_reads : (s : StandingState) (lo hi : ℕ) (answer : Result (Answer Six
 tells_reads s lo hi answer jobs is =
     record { answered = reduction_reply answer; does = record { step = step_reduction six_operations s.live lo hi answer jobs is; limits = refl; queries = refl }; text_is = refl }
 
--- the same, counted alone
+-- the reply to `cost`, given only how many reads there are
 pub tells_cost : (s : StandingState) (lo hi : ℕ) (reads : Reads) (jobs : List (Carried Six SixSummary)) → Costs (recorded s.live) lo hi (Ok reads)
     → TellsEvent (state_of s jobs) (event.Reduce lo hi) (cost_text reads.cells reads.summaries) (state_of s jobs)
 tells_cost s lo hi reads jobs is =
@@ -112,7 +112,7 @@ tells_accepted old new e receipt notes jobs same accepts queries are =
       text_is = refl;
     }
 
--- an edit that was refused
+-- an edit that was rejected
 pub tells_refused : (old new : StandingState) (e : Edit) (refusal : Refusal) (jobs : List (Carried Six SixSummary)) → SameRefresh old.live new.live → Refuses old.live.history e refusal new.live.history → new.queries ≡ old.queries
     → TellsEdit (state_of old jobs) e (refused_text refusal) (state_of new jobs)
 tells_refused old new e refusal jobs same refuses queries =
@@ -124,7 +124,7 @@ tells_refused old new e refusal jobs same refuses queries =
       text_is = sym (append-nil (refused_text refusal));
     }
 
--- the value of a kind over a range that nothing refuses
+-- the value of a kind over a range that nothing rejects
 pub reduced_ok : (edits : List Edit) (kind : Kind) (lo hi edit : ℕ) (shown : Shown) → range_refusal edits lo hi ≡ None → edit ≡ length edits → shown ≡ plain_value kind (slice_of edits lo hi) → answer_text edit kind shown ≡ reduced_text edits kind lo hi (range_refusal edits lo hi)
 reduced_ok edits kind lo hi edit shown granted at is =
     ap (λ edit. answer_text edit kind shown) at ∙ ap (answer_text (length edits) kind) is ∙ ap (reduced_text edits kind lo hi) (sym granted)
@@ -133,7 +133,7 @@ reduced_ok edits kind lo hi edit shown granted at is =
 pub can_fold_slice : (h : History) (lo hi : ℕ) → IsLegalInLimits h → CanFoldLong (slice_of h.journal lo hi)
 can_fold_slice h lo hi limits = can_fold-slice (list_of h.journal) lo hi limits.elements (omega (arith, limits.few))
 
--- a scan of a range that nothing refuses
+-- a scan of a range that nothing rejects
 pub tells_scan : (s : StandingState) (inclusive : Bool) (kind : Kind) (lo hi : ℕ) (jobs : List (Carried Six SixSummary)) → range_refusal s.live.history.journal lo hi ≡ None
     → TellsScan (state_of s jobs) inclusive kind lo hi (scan_text (length s.live.history.journal) inclusive kind (plain_scan inclusive kind (slice_of s.live.history.journal lo hi))) (state_of s jobs)
 tells_scan s inclusive kind lo hi jobs granted = (ap (scanned_range_text s.live.history.journal inclusive kind lo hi) (sym granted), unchanged s jobs)
@@ -144,7 +144,7 @@ module _ {T : Type 0} (answers written : List ℕ → Type 0) (text : List ℕ) 
   put_whole (Ok done) put = (text, told, put)
   put_whole (Err fault) put = put
 
-  -- or a front of it
+  -- or if a prefix of it was put
   pub put_front : (result : Result T Fault) → IfErr result (λ fault. (fault ≡ WriteFault) × written text) → IfErr result (λ fault. (fault ≡ WriteFault) × (reply : List ℕ) × answers reply × written reply)
   put_front (Ok done) put = put
   put_front (Err fault) put = (put.0, text, told, put.1)
@@ -155,7 +155,7 @@ module _ {S : Type 0} (step : S → ℕ → List ℕ → List ℕ → S → Type
   replies_after c l (Ok done) old new n line room (reply, answered, written) = record { reply = reply; answered = answered; written = Writes-trans room written }
   replies_after c l (Err fault) old new n line room answered = answered
 
-  -- a reply of which a front was written, so
+  -- a reply was written in part, after room was made for it
   pub fails_after : {T : Type 0} {a b : Option (List ℕ)} {h k : List ℕ} (c : Option (List ℕ)) (result : Result T Fault) (old new : S) (n : ℕ) (line : List ℕ) → Writes a h b k [] → IfErr result (λ fault. (fault ≡ WriteFault) × (reply : List ℕ) × step old n line reply new × WritesFront b k c reply)
       → IfErr result (λ fault. (fault ≡ WriteFault) × FailsToReply step old n line new (WritesFront a h c))
   fails_after c (Ok done) old new n line room answered = answered

@@ -1,4 +1,4 @@
--- What a search of the trees finds is what the elements tell.
+-- A search of the trees finds what a search of the elements finds.
 use Rattle.std.proofs.Common.{◌≡◌, ℕ, ℤ, pos, ◌+◌, ◌-◌, ◌<◌, ◌≤◌, ◌<ℤ◌, ◌≤ℤ◌, true, false, Option, Some, None, Result, Ok, Err, List, length, drop, get_or, slice_get, slice_range, int_eq, int_le, All, Contains, option_map, le_refl, refl, sym, ap, ap₂, subst, ◌∙◌, inl, inr, arith}
 use Rattle.std.proofs.lemmas.Bool.{cases_lt, false_from_ne_true}
 use Rattle.std.proofs.lemmas.Bool.Decides.{Decides-int_eq}
@@ -237,11 +237,11 @@ module _ (h : Held) (lo hi : ℕ) (free : range_refused h lo hi ≡ None) where
 
 module _ {T U : Type 0} (is_answer : Held → ℕ → ℕ → T → Type 0) (plain : Held → ℕ → ℕ → U) (shown : T → U)
     (each : (h : Held) (lo hi : ℕ) → range_refused h lo hi ≡ None → (answer : T) → is_answer h lo hi answer → shown answer ≡ plain h lo hi) (old new : SeriesState) (kind : Kind) (lo hi : ℕ) where
-  -- nothing refuses one
+  -- nothing rejects one
   sought_granted : (answer : T) → Searches is_answer old kind lo hi (Ok answer) new → Seeks plain old lo hi (Ok (shown answer)) new
   sought_granted answer s = (s.0, each old.held lo hi s.0 answer s.1, ap without_trees s.2)
 
-  -- or it is refused
+  -- or it is rejected
   sought_refused : (refusal : LongRefusal) → Searches is_answer old kind lo hi (Err refusal) new → Seeks plain old lo hi (Err refusal) new
   sought_refused refusal (same, inl why) = (inl why, ap without_trees same)
   sought_refused refusal (same, inr (free, is, missing)) = (inr (free, is), ap without_trees same)

@@ -18,7 +18,7 @@ use Rattle.lv_script.proofs.OneLineLaws.{refused_bytes, refused_one}
 
 -- ---- whole lines
 
--- nothing stands after the last LF
+-- there are no bytes after the last LF
 abbrev pub IsWhole : List ℕ → Type 0
 IsWhole text = unended_of text ≡ []
 
@@ -43,14 +43,14 @@ unasked_plain t s n Nothing none = ([], refl, inl (refl, refl))
 unasked_plain t s n Bad none = ([], refl, inl (refl, refl))
 unasked_plain t s n (Do c) none = absurd (cc)
 
--- ---- where memory was there
+-- ---- if memory was there
 
 -- the second of two parts
 all_second : {X : Type 0} (P : X → Type 0) (xs ys : List X) → All P (xs ++ ys) → All P ys
 all_second P [] ys all = all
 all_second P (x ∷ xs) ys all = all_second P xs ys (All-tail P x (xs ++ ys) all)
 
--- a line doesn't tell that memory was wanting
+-- a line is not the reply that reports `NoMemory` (out of memory)
 abbrev IsNoWant : List ℕ → Type 0
 IsNoWant line = reply_line line ≢ refused_text NoMemory
 
@@ -60,7 +60,7 @@ lines_after front rest whole never =
     let parts : lines_of (front ++ rest) ≡ whole_lines_of front ++ lines_of rest = lines_of-append front rest ∙ ap (λ begun. whole_lines_of front ++ lines_of (begun ++ rest)) whole in
     all_second IsNoWant (whole_lines_of front) (lines_of rest) (subst (All IsNoWant) parts never)
 
--- a text that begins with a refusal for want of memory tells it
+-- a text that begins with the reply for `NoMemory` reports it
 tells_want : (rest : List ℕ) → NeverWants (refused_text NoMemory ++ rest) → ⊥
 tells_want rest never =
     let bytes = refused_bytes NoMemory in
@@ -69,7 +69,7 @@ tells_want rest never =
     lines_of-append (reply_line bytes) rest ∙ ap₂ (λ lines begun. lines ++ lines_of (begun ++ rest)) lines (whole_line bytes) in
     All-head IsNoWant bytes (lines_of rest) (subst (All IsNoWant) parts never) refl
 
--- what line n is told, and what the others are
+-- the oracle of line n, and then that of the others
 abbrev told_at : ℕ → List ℕ → (ℕ → List ℕ) → ℕ → List ℕ
 told_at n first later k = if nat_eq k n then first else later k
 
@@ -80,23 +80,23 @@ told_lines n first later one all k = elim (cases_Bool (nat_eq k n)) [ inl here �
 module _ {C R S : Type 0} (t : Target C R S) where
   -- ---- one command
 
-  -- that nothing refuses
+  -- that nothing rejects
   pub granted : (old new : S) (n : ℕ) (c : C) (text told : List ℕ) → t.refusal_of old c ≡ None → IsOneLine told → text ≡ t.reply_of told old c → new ≡ t.after old c → PlainLine t old n (Do c) text new
   granted old new n c text told free one is next =
       (told, one, inl (is ∙ ap (λ o. option_map_or (λ r. refused_by (t.number_of r)) o (t.reply_of told old c)) (sym free), next ∙ ap (λ o. option_map_or (λ refusal. old) o (t.after old c)) (sym free)))
 
-  -- that is refused
+  -- that is rejected
   pub refused : (old new : S) (n : ℕ) (c : C) (text : List ℕ) (refusal : R) → t.refusal_of old c ≡ Some refusal → text ≡ refused_by (t.number_of refusal) → new ≡ old → PlainLine t old n (Do c) text new
   refused old new n c text refusal why is same =
       ([], refl, inl (is ∙ ap (λ o. option_map_or (λ r. refused_by (t.number_of r)) o (t.reply_of [] old c)) (sym why), same ∙ ap (λ o. option_map_or (λ refusal. old) o (t.after old c)) (sym why)))
 
-  -- that was refused for want of memory
+  -- a command that ran out of memory
   pub wanted : (old new : S) (n : ℕ) (c : C) (text : List ℕ) → t.may_want c ≡ true → t.refusal_of old c ≡ None → text ≡ refused_text NoMemory → new ≡ old → PlainLine t old n (Do c) text new
   wanted old new n c text may free is same = ([], refl, inr (may, free, is, same))
 
-  -- ---- want of memory
+  -- ---- out of memory
 
-  -- what met it was refused so
+  -- the reply to a line that ran out of memory is that of `NoMemory`
   pub want_text : (old new : S) (line : Line C) (text : List ℕ) → MeetsWant t old line text new → text ≡ refused_text NoMemory
   want_text old new Nothing text want = absurd want
   want_text old new Bad text want = absurd want
@@ -110,7 +110,7 @@ module _ {C R S : Type 0} (t : Target C R S) where
 
   -- ---- whole runs
 
-  -- the text of lines from n on is told nothing of those before
+  -- the text of the lines from n on does not depend on the oracle of the lines before
   text_same : (told other : ℕ → List ℕ) (s : S) (n : ℕ) (lines : List (List ℕ)) → ((k : ℕ) → n ≤ k → told k ≡ other k) → plain_text t told s n lines ≡ plain_text t other s n lines
   text_same told other s n [] same = refl
   text_same told other s n (line ∷ lines) same =

@@ -42,15 +42,15 @@ use Rattle.lv_script.specs.Interpreter.{PlainStep}
 use Rattle.lv_script.proofs.InterpreterLaws.{granted, refused, wanted}
 use Rattle.lv_script.proofs.Notes.{notes_text_of}
 
--- a command that nothing refuses
+-- a command that nothing rejects
 done : (old new : PlainSeries) (c : LongCommand) (text : List ℕ) → refusal_of old c ≡ None → text ≡ reply_of [] old c → new ≡ after old c → Told old c text new
 done old new c text free is then = granted series_script old new 0 c text [] free refl is then
 
--- one that is refused
+-- one that is rejected
 away : (k : PlainSeries) (c : LongCommand) (number : ℕ) (text : List ℕ) → refusal_of k c ≡ Some number → text ≡ refused_by number → Told k c text k
 away k c number text why is = refused series_script k k 0 c text number why is refl
 
--- one whose range is refused, or that there was no memory for
+-- one whose range is rejected, or that there was no memory for
 turned_away : (old new : PlainSeries) (c : LongCommand) (why : Option LongRefusal) (refusal : LongRefusal) (text : List ℕ) → IsTrue (series_script.may_want c) → refusal_of old c ≡ option_map number_of why → IsRefusal why refusal
     → text ≡ refused_by (number_of refusal) → new ≡ old → Told old c text new
 turned_away old new c why refusal text may by (inl known) is same = refused series_script old new 0 c text (number_of refusal) (by ∙ ap (option_map number_of) known) is same
@@ -58,7 +58,7 @@ turned_away old new c why refusal text may by (inr (free, out)) is same = wanted
 
 -- ---- trees
 
--- where only the trees of a series have changed, the same is known, and all is ready
+-- if only the trees of a series have changed, the same is known, and all is ready
 module _ (old new : SeriesState) (same : without_trees new ≡ without_trees old) where
   pub known_still : (qs : List Query) → known_of new qs ≡ known_of old qs
   known_still qs = ap (λ s. known_of s qs) same
@@ -150,7 +150,7 @@ module _ (s : SeriesState) (set : QuerySetState Query) where
         room = omega (arith, ready.room, length-remove set.queries i within);
       }
 
-  -- what is answered where one was registered, and where none was
+  -- what is answered if one was registered, and if none was
   pub watch_told : (q : Query) (after : QuerySetState Query) (told : Shown) (text : List ℕ) → query_refusal 64 set.queries q ≡ None → after ≡ with_query set q told → text ≡ watching_text q.name
       → Told (known_of s set.queries) (watch_of q) text (known_of s after.queries)
   watch_told q after told text free then is =
@@ -172,7 +172,7 @@ module _ (s : SeriesState) (set : QuerySetState Query) where
       is
       (ap (known_of s) (without_placed name set.queries i apart at))
 
-  -- where there is none of a name
+  -- if there is none of a name
   pub unwatch_refused : (name : List ℕ) (text : List ℕ) → place_of terms_of set.queries name ≡ None → text ≡ refused_by (name_number NoSuchName) → Told (known_of s set.queries) (command.Unwatch name) text (known_of s set.queries)
   unwatch_refused name text none is =
       away (known_of s set.queries) (command.Unwatch name) (name_number NoSuchName) text (ap (λ q. option_map name_number (unknown q)) (not_placed name set.queries none)) is
@@ -235,7 +235,7 @@ module _ (s : SeriesState) (kind : Kind) (lo hi : ℕ) where
     pub scan_told : range_refused s.held lo hi ≡ None → (qs : List Query) → Told (known_of s qs) (command.Scan inclusive kind lo hi) scanned (known_of s qs)
     scan_told free qs = done (known_of s qs) (known_of s qs) (command.Scan inclusive kind lo hi) scanned (ap (option_map number_of) free) refl refl
 
--- what is told of a command whatever queries there are is told of those that there are
+-- what is known of a command for all lists of queries is known for those that there are
 module _ {X : Type 0} (tells : X → LongCommand → List ℕ → Type 0) (written : List ℕ → Type 0) (x : X) (command other : LongCommand) (same : command ≡ other) where
   pub told_ok : {T E : Type 0} (result : Result T E) → OnOk result ((reply : List ℕ) × ((y : X) → tells y other reply) × written reply) → OnOk result ((reply : List ℕ) × tells x command reply × written reply)
   told_ok (Ok finished) (reply, all, put) = (reply, subst (λ c. tells x c reply) (sym same) (all x), put)

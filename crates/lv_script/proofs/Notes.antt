@@ -13,14 +13,14 @@ use Rattle.lv_standing.specs.Queries.{AddsNotesOf, AreNotesOf, is_due}
 use Rattle.lv_script.specs.PlainScript.{note_of}
 use Rattle.lv_script.specs.PlainSeriesScript.{long_answer}
 
--- those that a set puts behind none, where its queries were answered by what is kept now
+-- those that a set puts after none, if its queries were answered by what is kept now
 pub notes_due : (h : Held) (set asked : QuerySetState Query) (before after : List Note) → asked ≡ with_answers set (map (long_answer h) set.queries) → before ≡ []
     → AddsNotesOf asked.queries asked.told asked.answers before after → AreNotesDue h set.queries set.told after
 notes_due h set asked before after are none due =
     subst (AreNotesDue h set.queries set.told) (sym (due.all ∙ ap (λ notes. notes ++ due.added) none))
     (subst (λ t. AreNotesOf t.queries t.told t.answers due.added) are due.are)
 
--- where the queries answered so before and answer so now, their text is that of each, one by one
+-- if the queries answered so before and answer so now, their text is that of each, one by one
 pub notes_text_of : (before now : Query → Shown) (qs : List Query) (notes : List Note) → AreNotesOf qs (map before qs) (map now qs) notes → notes_text notes ≡ flat_map (λ q. note_of q (before q) (now q)) qs
 notes_text_of before now [] notes none = ap notes_text none
 notes_text_of before now (q ∷ qs) notes (inl idle) =

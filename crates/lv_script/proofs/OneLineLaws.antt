@@ -51,11 +51,11 @@ pub line-decimal : (n : ℕ) → IsOneLine (decimal n)
 unfolding digits
 line-decimal n = line-onto 64 n [] refl
 
--- a word, and a number behind it
+-- a word, and a number after it
 line-word : (word : List ℕ) (n : ℕ) → IsOneLine word → IsOneLine (word ++ decimal n)
 line-word word n one = line-append word (decimal n) one (line-decimal n)
 
--- the same behind something else
+-- a word and a number after some other bytes
 line-more : (front word : List ℕ) (n : ℕ) → IsOneLine front → IsOneLine word → IsOneLine (front ++ word ++ decimal n)
 line-more front word n one two = line-word (front ++ word) n (line-append front word one two)
 

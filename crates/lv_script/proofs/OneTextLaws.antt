@@ -28,7 +28,7 @@ use Rattle.lv_script.specs.OneText.{StepWithRoom}
 use Rattle.lv_script.specs.Script.{CommandAnswer, Does, HasQueries, LineAnswer, ScriptState, ScriptStep, Tells, TellsEdit, TellsEvent, TellsUnwatch, TellsWatch, edit_text, notes_text, reply_text}
 use Rattle.lv_script.specs.Beginnings.{Begins}
 
--- the reply to what was refused for want of memory
+-- the reply that reports `NoMemory` (out of memory)
 abbrev want : ReplyOf SixSummary
 want = reply.Refused NoMemory
 
@@ -51,7 +51,7 @@ one_list_of_notes old new (q ∷ queries) a b first second =
       ]
     ]
 
--- where the edits are the same there are no notes
+-- if the edits are the same there are no notes
 pub no_notes : (edits : List Edit) (queries : List Query) (notes : List Note) → AreNotes edits edits queries notes → notes ≡ []
 no_notes edits [] notes is = is
 no_notes edits (q ∷ queries) notes is = elim is [ inl same ↦ no_notes edits queries notes same.1 | inr changed ↦ absurd (true≢false (sym changed.0 ∙ never_due q.bound (watch_answer edits q))) ]
@@ -63,12 +63,12 @@ edit_reply_tells (Ok receipt) (Err refusal) same = cc
 edit_reply_tells (Err refusal) (Ok receipt) same = cc
 edit_reply_tells (Err refusal) (Err other) same = cc
 
--- an edit that is refused leaves the edits
+-- an edit that is rejected leaves the edits
 refused_edits : (limits : Bounds) (r next : Record) (edit : Edit) (answer : Result Receipt Refusal) → EditStep limits r edit answer next → answer ≡ Err NoMemory → next.edits ≡ r.edits
 refused_edits limits r next edit (Ok receipt) step refused = cc
 refused_edits limits r next edit (Err refusal) step refused = step.1.edits
 
--- the text of an edit that is refused for want of memory
+-- the text of an update that ran out of memory
 wanted_edit : (old new : ScriptState) (e : Edit) (text : List ℕ) (tells : TellsEdit old e text new) → tells.answer ≡ Err NoMemory → text ≡ refused_text NoMemory
 wanted_edit old new e text tells refused =
     let step = tells.does.step in
@@ -88,7 +88,7 @@ does_one old new after event answered other first second room had =
     let one = one_step six_operations old.limits old.seen new.seen after.seen event answered other first.step second.step room had in
     (one.0, one_state new after (first.limits ∙ sym second.limits) one.1 (first.queries ∙ sym second.queries))
 
--- the queries that a line leaves are one, where they are
+-- the queries that a line leaves are one, if they are
 queries_one : (old new after : ScriptState) (queries others : List Query) → HasQueries old new queries → HasQueries old after others → queries ≡ others → new ≡ after
 queries_one old new after queries others first second same =
     one_state new after (first.limits ∙ sym second.limits) (sym (one_record old.seen new.seen first.seen) ∙ one_record old.seen after.seen second.seen)
@@ -127,22 +127,22 @@ claim_one old new after text told first second room had =
       | inr refused ↦ absurd (room refused.0)
     ]
 
--- why a query was refused is told once
+-- a query has only one reason to be rejected
 one_reason : (known : Option Refusal) (a b : Refusal) → known ≡ Some a → known ≡ Some b → a ≡ b
 one_reason known a b first second = cc
 
--- a query that nothing refuses isn't refused for another reason
+-- a query that nothing rejects isn't refused for another reason
 no_reason : (known : Option Refusal) (a : Refusal) → known ≡ None → known ≡ Some a → ⊥
 no_reason known a granted refused = cc
 
--- a query that is registered, beside the same that is refused
+-- a query can't be registered and rejected at the same time, unless memory ran out
 watch_or_refused : (old after : ScriptState) (q : Query) (told : List ℕ) → query_refusal 64 old.queries q ≡ None
     → (refusal : Refusal) → (query_refusal 64 old.queries q ≡ Some refusal) ⊎ ((query_refusal 64 old.queries q ≡ None) × (refusal ≡ NoMemory))
     → told ≡ refused_text refusal → told ≢ refused_text NoMemory → ⊥
 watch_or_refused old after q told granted refusal why is had =
     elim why [ inl refused ↦ no_reason (query_refusal 64 old.queries q) refusal granted refused | inr wanted ↦ had (is ∙ ap refused_text wanted.1) ]
 
--- two refusals of a query, none for want of memory
+-- two errors of one query have the same text, if neither is `NoMemory`
 watch_refused : (old : ScriptState) (q : Query) (a b : Refusal) (text told : List ℕ)
     → (query_refusal 64 old.queries q ≡ Some a) ⊎ ((query_refusal 64 old.queries q ≡ None) × (a ≡ NoMemory))
     → (query_refusal 64 old.queries q ≡ Some b) ⊎ ((query_refusal 64 old.queries q ≡ None) × (b ≡ NoMemory))

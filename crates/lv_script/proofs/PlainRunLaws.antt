@@ -20,20 +20,20 @@ use Rattle.lv_script.proofs.InterpreterLaws.{room_step, want_keeps, want_text}
 use Rattle.lv_script.proofs.OneLineLaws.{IsLine, refused_line}
 use Rattle.lv_script.proofs.WholeLaws.{whole_command}
 
--- ---- edits and queries alone
+-- ---- updates and queries only
 
--- an edit or query, of which nothing is told
+-- an update or query, whose reply does not depend on the oracle
 takes_first : (s : Plain) (told : List ℕ) (n : ℕ) (c : Command) (commands : List Command) (text : List ℕ) → reply_of told s c ≡ reply_of [] s c → text ≡ plain_reply vector_script told s n (Do c)
     → plain_answers s (c ∷ commands) ≡ text ∷ plain_answers (plain_after vector_script s (Do c)) commands
 takes_first s told n c commands text same is =
     ap (λ reply. reply ∷ plain_answers (plain_after vector_script s (Do c)) commands) (sym (is ∙ ap (option_map_or refused_text (refusal_of s c)) same))
 
--- what is kept where it stays, whether it is refused or not
+-- what is kept if it stays, whether it is rejected or not
 stays : (s : Plain) (o : Option Refusal) → option_map_or (λ refusal. s) o s ≡ s
 stays s None = refl
 stays s (Some refusal) = refl
 
--- what is told, or a refusal, is one line
+-- a reply that is the oracle's or an error is one line
 decided_line : (told text : List ℕ) (o : Option Refusal) → IsOneLine told → text ≡ option_map_or refused_text o (reply_line told) → IsLine text
 decided_line told text None one is = (told, one, is)
 decided_line told text (Some refusal) one is = let line = refused_line refusal in (line.0, line.1, is ∙ line.2)
@@ -128,7 +128,7 @@ grows_more old mid new first second =
       limits = second.limits ∙ first.limits;
     }
 
--- a command that nothing refuses
+-- a command that nothing rejects
 command_grows : (s : Plain) (c : Command) → Grows s (after s c)
 command_grows s (command.Edit e) = record { more = e ∷ []; edits = refl; limits = refl }
 command_grows s command.Settle = grows_none s
@@ -189,7 +189,7 @@ step_true old mid last n line text (told, one, cases) grows =
       ];
     }
 
--- so is every line's
+-- every line's reply agrees with all updates that were accepted
 pub answered_true : (old last : Plain) (n : ℕ) (lines : List (List ℕ)) (text : List ℕ) → Answered (PlainStep vector_script) old n lines text last
     → Answered (TrueStep last.limits last.edits) tt n lines text tt
 answered_true old last n [] text a = (a.0, refl)

@@ -1,4 +1,4 @@
--- What a schedule's player stands for, at the end of it.
+-- A schedule's player, seen as the machine in its place, and that machine at the end.
 use Rattle.std.proofs.Common.{◌≡◌, ℕ, Option, None, Result, List, refl, sym, ◌∙◌}
 use Rattle.lv_lines.specs.declared.fault.Fault.{Fault}
 use Rattle.lv_lines.specs.declared.lines.Line.{Line}
@@ -11,7 +11,7 @@ use Rattle.lv_machine.specs.declared.events.Event.{Event}
 use Rattle.lv_script.specs.Played.{Played, PlayedStep}
 use Rattle.lv_script.specs.Schedule.{ScheduleStep, SumMachine, line_text, machine_after}
 
--- what stands for the machine of a place
+-- a player has this machine in this place
 pub record Plays (place : ℕ) (s : Played) (m : SumMachine) : Type 0 where
   pub here : s.place ≡ place
   pub machine : s.machine ≡ m
@@ -21,7 +21,7 @@ line_as : (place : ℕ) (s : Played) (m : SumMachine) (n : ℕ) (line text : Lis
     → (v : SumMachine) × Plays place u v × ScheduleStep m n line text v
 line_as place s m n line text u fits step = (u.machine, record { here = step.place ∙ fits.here; machine = refl }, rw fits.machine at step.answered)
 
--- where the player's machine is still in the owner's place, the owner has the machine of the end
+-- if the player's machine is still in the owner's place, the owner has the machine of the end
 pub played_as : {R : Type 0} (name place : ℕ) (first last owned : SumMachine) (a b k l : Option (List ℕ)) (result : Result R Fault)
     → (name ≡ place → owned ≡ last)
     → LinesServed PlayedStep record { machine = first; place = name } record { machine = last; place = place } a b k l result

@@ -1,4 +1,4 @@
--- A script that goes on from edits is answered as the plain interpreter answers it from these on.
+-- A script that continues from edits is answered as the plain interpreter answers it from these on.
 use Rattle.std.proofs.Common.{◌≡◌, ℕ, zero, suc, ◌+◌, ◌<◌, None, Option, Result, Err, List, [], ◌∷◌, ◌++◌, length, take, get_or, refl, sym, ap, ◌∙◌, subst, arith, lit≤, append_assoc, append-nil}
 use Rattle.std.proofs.KnownBytes.{Consumes-nil}
 use Rattle.std.proofs.lemmas.List.{take_more}
@@ -26,7 +26,7 @@ module _ {T : Type 0} (limits : Bounds) (edits : List Edit) where
       let plain = lines_served_plain limits edits first last a b k l result begins c in
       record { seen = (first, last, begins, c); plain = plain; text = written_plain vector_script whole_command (start_after limits edits) plain.0 a b k l result plain.1 }
 
-  -- it never began, for want of memory
+  -- the script never began, since there was no memory
   pub answers_none : (a k : Option (List ℕ)) → AnswersAfter {T = T} limits edits a a k k (Err NoMemory)
   answers_none a k =
       let first : ScriptState = record { limits = limits; seen = record { edits = edits; issued = []; claimed = λ n. None; kept = λ n. None }; queries = [] } in
@@ -42,7 +42,7 @@ accepted_at limits before (e ∷ edits) zero d accepted within = subst (λ (js :
 accepted_at limits before (e ∷ edits) (suc i) d accepted within =
     subst (λ (js : List Edit). verdict_of limits js (get_or edits i d) ≡ None) (append_assoc before (e ∷ []) (take i edits)) (accepted_at limits (before ++ e ∷ []) edits i d accepted.1 (omega arith))
 
--- a history with edits behind its journal
+-- a history with edits after its journal
 abbrev pub with_edits : History → List Edit → History
 with_edits h edits = record h { journal = h.journal ++ edits }
 

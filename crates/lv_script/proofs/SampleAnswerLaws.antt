@@ -11,7 +11,7 @@ use Rattle.lv_script.specs.declared.sample_queries.SampleQuery.{SampleQuery}
 use Rattle.lv_script.specs.declared.sample_queries.SampleSpan.{SampleSpan}
 use Rattle.lv_script.specs.declared.sample_queries.SampleSpan.TheVariants.{Among, Within}
 
--- the same values under the same times are in a span, and so the same is answered
+-- samples with equal values and equal times have equal values in a span, so that a query has equal answers
 values_alike : (s t : SamplesState) (span : SampleSpan) → s.series.held ≡ t.series.held → s.times ≡ t.times → values_of s span ≡ values_of t span
 values_alike s t (Among span) held times = ap (λ (h : Held). span_from h.first span h.elements) held
 values_alike s t (Within time) held times = ap₂ (λ ts (h : Held). values_where (is_among_last (newest_of ts) time) ts h.elements) times held
@@ -37,7 +37,7 @@ answered_by_edits calls s q run =
     let is = run_is_plain program_table calls s run in
     answer_alike s (plain_samples program_table (accepted_samples calls)) q (table_after first s calls run ∙ sym (table_made first (accepted_samples calls))) is.held is.times
 
--- where no edit is accepted, each query is answered as before
+-- if no edit is accepted, each query is answered as before
 pub answered_as_before : (calls : List SampleCalled) (s next : SamplesState) (q : SampleQuery) → SampleRun s calls next → accepted_samples calls ≡ [] → sample_answer next q ≡ sample_answer s q
 answered_as_before [] s next q run none = ap (λ u. sample_answer u q) run
 answered_as_before (edited e true ∷ others) s next q run none = cc

@@ -36,7 +36,7 @@ module _ {X : Type 0} (f : X → Shown) (xs : List X) {a b c : Option (List ℕ)
       → value ≡ f (get_or xs i d) → Writes b k c l (scanned_text value) → Writes a h c l (values_text (map f (take (i + 1) xs)))
   Writes-value i d value within so_far is next = rw (values_text-more f xs i d within) (Writes-trans so_far (rw is at next))
 
-  -- after the values so far no more than a front of what was held is sent
+  -- after the values so far, no more than a prefix of what was held is sent
   pub WritesFront-values : (i : ℕ) → Writes a h b k (values_text (map f (take i xs))) → WritesFront b k c [] → WritesFront a h c (values_text (map f xs))
   WritesFront-values i so_far unsent =
       rw (values_text-rest f xs i)
@@ -56,7 +56,7 @@ abbrev pub value_at : (List ℤ → Shown) → Bool → List ℤ → ℕ → Sho
 value_at plain inclusive xs k = plain (take (if inclusive then k + 1 else k) xs)
 
 module _ (xs : List ℤ) (can : CanFoldLong xs) (i : ℕ) (small : i < length xs) where
-  -- so can a front of what can be folded
+  -- a prefix of a list that can be folded can be folded too
   pub can_fold-front : (n : ℕ) → CanFoldLong (take n xs)
   can_fold-front n = record { few = omega (arith, can.few, length-take n xs); elements = All-take IsElement n xs can.elements }
 
@@ -90,6 +90,6 @@ module _ (plain : List ℤ → Shown) (inclusive : Bool) (xs : List ℤ) where
         let at : get_or (range_with_len 0 (length xs)) i 0 ≡ i = omega (arith, get_or-range_with_len 0 (length xs) i 0 small) in
         Writes-value (value_at plain inclusive xs) (range_with_len 0 (length xs)) i 0 value (omega (arith, small, length-range_with_len 0 (length xs))) so_far (is ∙ ap (value_at plain inclusive xs) (sym at)) next
 
-    -- or no more than a front of what was held is sent
+    -- or no more than a prefix of what was held is sent
     pub WritesFront-so_far : {c : Option (List ℕ)} → WritesFront b k c [] → WritesFront a h c (values_text (scan_by plain inclusive xs))
     WritesFront-so_far unsent = WritesFront-values (value_at plain inclusive xs) (range_with_len 0 (length xs)) i so_far unsent

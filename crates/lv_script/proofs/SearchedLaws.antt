@@ -13,7 +13,7 @@ module _ (test : ℕ → Bool) where
       let more : range_with_len a (suc n) ≡ range_with_len a n ++ (a + n) ∷ [] = rw add-one at (range_more a n) in
       ap (find test) (ap reverse more ∙ reverse-append (range_with_len a n) ((a + n) ∷ []))
 
-  -- where the test is false at each index, there is none
+  -- if the test is false at each index, there is none
   none_first : (a n : ℕ) → ((i : ℕ) → a ≤ i → i < a + n → test i ≡ false) → find test (range_with_len a n) ≡ None
   none_first a zero each = refl
   none_first a (suc n) each =
@@ -26,7 +26,7 @@ module _ (test : ℕ → Bool) where
       last_tried a n ∙ cond-false (test (a + n)) (Some (a + n)) (find test (reverse (range_with_len a n))) (each (a + n) (omega arith) (omega arith))
       ∙ none_last a n (λ i low few. each i low (omega arith))
 
-  -- where it is true at one, and false at those before it, that is the first
+  -- if it is true at one, and false at those before it, that is the first
   one_first : (a n i : ℕ) → a ≤ i → i < a + n → test i ≡ true → ((j : ℕ) → a ≤ j → j < i → test j ≡ false) → find test (range_with_len a n) ≡ Some i
   one_first a zero i low few is before = absurd (omega arith)
   one_first a (suc n) i low few is before =
@@ -39,7 +39,7 @@ module _ (test : ℕ → Bool) where
             cond-true (test a) (Some a) (find test (range_with_len (a + 1) n)) (ap test same ∙ is) ∙ ap Some same
       ]
 
-  -- and where it is false at those behind it, that is the last
+  -- and if it is false at those after it, that is the last
   one_last : (a n i : ℕ) → a ≤ i → i < a + n → test i ≡ true → ((j : ℕ) → i < j → j < a + n → test j ≡ false) → find test (reverse (range_with_len a n)) ≡ Some i
   one_last a zero i low few is behind = absurd (omega arith)
   one_last a (suc n) i low few is behind =

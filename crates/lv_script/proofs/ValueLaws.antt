@@ -42,7 +42,7 @@ module _ (old new : SeriesState) (same : without_trees new ≡ without_trees old
 border_of : (h : Held) (i : ℕ) → h.first ≤ i → i ≤ size_of h → is_border h i ≡ true
 border_of h i from to = ap₂ (λ a b. a && b) (le-leb h.first i from) (le-leb i (size_of h) to)
 
--- a range of which all is kept is granted
+-- a range whose elements are all kept is granted
 pub kept_granted : (h : Held) (lo hi : ℕ) → h.first ≤ lo → lo ≤ hi → hi ≤ size_of h → range_refused h lo hi ≡ None
 kept_granted h lo hi from order to =
     cond-false _ _ _ (le-ltb hi lo order)

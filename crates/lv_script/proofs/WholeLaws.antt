@@ -61,7 +61,7 @@ whole_scan edit inclusive kind values =
     (whole_line (codes "at " ++ decimal edit ++ codes " " ++ scan_name inclusive ++ codes " " ++ kind_name kind ++ codes " " ++ decimal (length values)))
     (whole_parts scanned_text values (λ value. whole_line (codes "= " ++ shown_text value)))
 
--- the reply to a command that nothing refuses
+-- the reply to a command that nothing rejects
 pub whole_command : (told : List ℕ) (s : Plain) (c : Command) → IsWhole (reply_of told s c)
 whole_command told s (command.Edit e) =
     whole_append (receipt_text (receipt_of s.edits e)) _ (whole_receipt (receipt_of s.edits e)) (whole_notes (watch_answer s.edits) (watch_answer (s.edits ++ e ∷ [])) s.queries)

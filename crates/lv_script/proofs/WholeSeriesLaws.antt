@@ -47,7 +47,7 @@ whole_run : (edit : ℕ) (run : Option (ℕ × ℕ)) → IsWhole (run_text edit 
 whole_run edit None = whole_line (codes "at " ++ decimal edit ++ codes " none")
 whole_run edit (Some run) = whole_line (codes "at " ++ decimal edit ++ codes " from " ++ decimal run.0 ++ codes " to " ++ decimal run.1)
 
--- the reply to a command that nothing refuses
+-- the reply to a command that nothing rejects
 pub whole_series : (told : List ℕ) (k : PlainSeries) (c : LongCommand) → IsWhole (reply_of told k c)
 whole_series told k (command.Edit e) =
     let new = changed k.held e in

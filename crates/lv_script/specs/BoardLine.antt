@@ -8,7 +8,7 @@ use Rattle.lv_lines.specs.declared.lines.Line.{Line}
 use Rattle.lv_lines.specs.Grammar.{bounds_in, kind_name, line_by}
 use Rattle.lv_script.specs.Schedule.{plain_call_in}
 
--- the reduction that the words `kind lo hi` ask for, where the kind is the board's
+-- the reduction that the words `kind lo hi` ask for, if the kind is the board's
 unfoldable pub own_range_in : Kind → List (List ℕ) → Option Call
 own_range_in kind [] = None
 own_range_in kind (word ∷ words) =

@@ -1,4 +1,4 @@
--- What the code of a series' script passes on: the set of queries, and what a line makes of all that is known.
+-- What the code of a series' script passes on: the set of queries, and the effect of a line on the state that is known.
 use Rattle.std.specs.Prelude.{◌≡◌, ℕ, ◌≤◌, List, [], length, map}
 use Rattle.lv_bodies.specs.Plain.{program_table}
 use Rattle.lv_bodies.specs.declared.kinds.Shown.{Shown}
@@ -15,16 +15,16 @@ use Rattle.lv_script.specs.PlainSeriesScript.{PlainSeries, long_answer, series_s
 
 -- ---- queries
 
--- the notes that are due where queries that were told these answers answer by what is kept now
+-- the notifications that are due if the last reported answers of the queries were these, and their answers follow from what is kept now
 abbrev pub AreNotesDue : Held → List Query → List Shown → List Note → Type 0
 AreNotesDue h queries told notes = AreNotesOf queries told (map (long_answer h) queries) notes
 
--- the set whose queries count as told what they answer now
+-- the set whose queries count as having reported their present answers
 abbrev pub brought_up : Held → QuerySetState Query → QuerySetState Query
 brought_up h set = record { queries = set.queries; told = map (long_answer h) set.queries; answers = []; most = set.most }
 
--- the series has the program's automaton, each query counts as told what it answers, there are at most 64, each by its own name, and there
--- is room for so many notes
+-- the series has the program's automaton, each query counts as having reported its present answer, there are at most 64 queries, each with a name
+-- of its own, and there is room for so many notifications
 pub record IsReady (s : SeriesState) (set : QuerySetState Query) (capacity : ℕ) : Type 0 where
   pub table : s.table ≡ program_table
   pub told : set.told ≡ map (long_answer s.held) set.queries
@@ -39,7 +39,7 @@ pub record IsReady (s : SeriesState) (set : QuerySetState Query) (capacity : ℕ
 abbrev pub known_of : SeriesState → List Query → PlainSeries
 known_of s queries = record { held = s.held; edit = s.edits; queries = queries }
 
--- what a command is answered, and what is known then
+-- the reply to a command, and what is known after it
 abbrev pub Told : PlainSeries → LongCommand → List ℕ → PlainSeries → Type 0
 Told old c text new = PlainLine series_script old 0 (Do c) text new
 

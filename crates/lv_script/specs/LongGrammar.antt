@@ -12,7 +12,7 @@ use Rattle.lv_script.specs.declared.long_commands.Search.TheVariants as sought
 use Rattle.lv_standing.specs.declared.queries.Query.{Query}
 use Rattle.lv_script.specs.QueryGrammar.{bound_in, query_in}
 
--- the most that an index behind the last element may be
+-- the greatest index that may come after the last element
 abbrev pub most_long : ℕ
 most_long = 2 ^ 62
 
@@ -39,12 +39,12 @@ within_in (word ∷ second ∷ words) = do
   range ← long_bounds_in words
   Some (bound, range.0, range.1)
 
--- the command `first`: alone, or of an element within a bound
+-- the command `first`: without arguments, or a search for an element within a bound
 unfoldable pub first_in : List (List ℕ) → Option LongCommand
 first_in [] = Some First
 first_in (word ∷ words) = option_map (λ w. Find (sought.First w.0) w.1 w.2) (within_in (word ∷ words))
 
--- what may be looked for by `where`
+-- the words that may follow `where`: what to search for
 abbrev pub where_forms : Forms LongCommand
 where_forms =
     (codes "least", made_of long_bounds_in (λ w. Find sought.Least w.0 w.1))

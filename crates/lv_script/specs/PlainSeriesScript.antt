@@ -1,6 +1,6 @@
--- A plain interpreter of a series' scripts: what each command is answered, by the elements that are kept, how many edits were accepted, and
--- the queries that stand alone. It keeps no trees and no values. Values are those of `plain_value`, texts those of the formats. Interpreter.antt
--- reads the lines.
+-- A reference interpreter of a series' scripts. Its replies depend only on the elements that are kept and their first index, the number of
+-- accepted updates, and the registered queries. It stores no trees and no values. Values are those of `plain_value`, and texts those of the
+-- formats. Interpreter.antt reads the lines.
 use Rattle.std.specs.Prelude.{ℕ, ◌+◌, Bool, true, false, Option, None, List, [], ◌∷◌, ◌++◌, option_map}
 use Rattle.std.specs.List.{flat_map}
 use Rattle.std.specs.Option.{option_map_or}
@@ -22,23 +22,23 @@ use Rattle.lv_standing.specs.Queries.{query_of, span_refusal, without_query}
 use Rattle.lv_script.specs.LongTexts.{first_text, index_text, long_element_text, long_receipt_text, run_text}
 use Rattle.lv_script.specs.Searched.{best_run, index_of}
 
--- all that it keeps: elements and the first index, how many edits were accepted, and the queries that stand, in order
+-- all its state: the elements and the first index, the number of accepted updates, and the registered queries, in order
 pub record PlainSeries : Type 0 where
   pub held : Held
   pub edit : ℕ
   pub queries : List Query
 
--- it begins with nothing
+-- the initial state: no elements, no updates and no queries
 abbrev pub start_series : PlainSeries
 start_series = record { held = record { first = 0; elements = [] }; edit = 0; queries = [] }
 
--- ---- what a command is answered
+-- ---- the reply to a command
 
--- the series by which edits are refused, or answered: trees change neither, so it has none
+-- the series that decides whether an update is rejected, and what it returns. Trees change neither, so it has none
 abbrev pub series_of : PlainSeries → SeriesState
 series_of k = record { table = program_table; kinds = no_kinds; held = k.held; edits = k.edit }
 
--- the number by which a command is refused, want of memory apart, or none
+-- the number of the error with which a command is rejected, if any. Out of memory is not among these errors
 abbrev pub refusal_of : PlainSeries → LongCommand → Option ℕ
 refusal_of k (Edit e) = option_map number_of (refused (series_of k) e)
 refusal_of k (Reduce kind lo hi) = option_map number_of (range_refused k.held lo hi)
@@ -50,11 +50,11 @@ refusal_of k (Unwatch name) = option_map name_number (unknown (query_of k.querie
 refusal_of k (Answer name) = option_map name_number (unknown (query_of k.queries name))
 refusal_of k _ = None
 
--- what a query answers: the plain value of the elements that are kept of its span
+-- the answer of a query: the plain value of those elements of its span that are kept
 abbrev pub long_answer : Held → Query → Shown
 long_answer h q = plain_value q.kind (span_from h.first q.span h.elements)
 
--- what a command that nothing refuses is answered; of an element that isn't kept, its refusal. Nothing is told
+-- the reply to a command that is not rejected; for an element that isn't kept, its error. The oracle is not used
 abbrev pub reply_of : List ℕ → PlainSeries → LongCommand → List ℕ
 reply_of told k (Edit e) = long_receipt_text (receipt_of (series_of k) e) (changed k.held e).first ++ flat_map (λ q. note_of q (long_answer k.held q) (long_answer (changed k.held e) q)) k.queries
 reply_of told k First = first_text k.held.first k.edit
@@ -68,14 +68,14 @@ reply_of told k (Watch name kind span bound) = watching_text name
 reply_of told k (Unwatch name) = unwatched_text name
 reply_of told k (Answer name) = option_map_or (λ q. named_text k.edit name (long_answer k.held q)) (query_of k.queries name) []
 
--- what such a command changes: an edit what is kept, and a query stands behind the others, or stands no more
+-- the state after such a command: an update changes the elements, a query is registered after the others, or a query is removed
 abbrev pub after : PlainSeries → LongCommand → PlainSeries
 after k (Edit e) = record k { held = changed k.held e; edit = k.edit + 1 }
 after k (Watch name kind span bound) = record k { queries = k.queries ++ record { name = name; kind = kind; span = span; bound = bound } ∷ [] }
 after k (Unwatch name) = record k { queries = without_query k.queries name }
 after k _ = k
 
--- whether a command may ask for memory that is not there: an edit, a search, or a new query
+-- whether a command can run out of memory: an update, a search, or the registration of a query
 abbrev pub may_want : LongCommand → Bool
 may_want (Edit e) = true
 may_want (Find sought lo hi) = true

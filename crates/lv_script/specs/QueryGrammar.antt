@@ -1,4 +1,4 @@
--- What the words behind `watch` ask.
+-- What the words after `watch` ask for.
 use Rattle.std.specs.Prelude.{ℕ, Bool, true, false, if◌then◌else◌, List, [], ◌∷◌, codes, Option, Some, None, option_map}
 use Rattle.std.specs.Str.{bytes_eq}
 use Rattle.lv_bodies.specs.declared.kinds.Kind.{Kind}
@@ -31,7 +31,7 @@ is_one_number Affine = false
 is_one_number Automaton = false
 is_one_number kind = true
 
--- the bound of a query, whose value is then one number; or none where there are no words
+-- the bound of a query, whose value is then one number; no bound if there are no words
 unfoldable pub threshold_in : Kind → List (List ℕ) → Option (Option Bound)
 threshold_in kind [] = Some None
 threshold_in kind (word ∷ words) = if is_one_number kind then option_map Some (lone (bound_in word) words) else None

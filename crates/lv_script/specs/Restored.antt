@@ -1,4 +1,4 @@
--- Scripts that go on from edits that were made before, as those of a transcript's front.
+-- Scripts that continue from updates that were made before, such as those of a prefix of a transcript.
 use Rattle.std.specs.Prelude.{◌≡◌, ℕ, ◌+◌, ◌≤◌, List, length, Option, Result, Ok, Err, OnOk}
 use Rattle.std.specs.Io.KnownBytes.{Appends, Consumes, IsAtEnd}
 use Rattle.lv_geometry.specs.Bounds.{Bounds}
@@ -18,8 +18,8 @@ use Rattle.lv_script.specs.PlainScript.{Plain, start_after, vector_script}
 use Rattle.lv_script.specs.Script.{ScriptState, ScriptStep}
 use Rattle.lv_script.specs.Beginnings.{BeginsAfter}
 
--- a script was answered from these edits on. Line by line the replies are the plain interpreter's; at the end of the input all that was written is its
--- text, unless a line of it tells that memory was wanting
+-- a script was answered, starting from these updates. Line by line the replies are the reference interpreter's. If the script was answered to its
+-- end, all that was written is that interpreter's text, unless a line of it reports `NoMemory` (out of memory)
 pub record AnswersAfter {T : Type 0} (limits : Bounds) (edits : List Edit) (remaining_old remaining_new contents_old contents_new : Option (List ℕ)) (result : Result T Fault) : Type 0 where
   pub seen :
       (first : ScriptState) × (last : ScriptState) × BeginsAfter limits edits first × LinesServed ScriptStep first last remaining_old remaining_new contents_old contents_new result
@@ -34,12 +34,12 @@ pub record AnswersAfter {T : Type 0} (limits : Bounds) (edits : List Edit) (rema
 abbrev pub Untouched : Option (List ℕ) → Option (List ℕ) → Option (List ℕ) → Option (List ℕ) → Type 0
 Untouched remaining_old remaining_new contents_old contents_new = (remaining_new ≡ remaining_old) × (contents_new ≡ contents_old)
 
--- a script that ended well
+-- the result of a script that was answered to its end
 abbrev pub script_ended : Result (Unit {0}) Fault
 script_ended = Ok tt
 
--- how a restoration ended, by the bytes of the front that were seen: they are a front, and a script was answered from its edits on, to its end or to
--- a fault; or they are none, or could not be read, and nothing was answered
+-- how a restoration ended, given the bytes of the prefix that were seen. Either they are a prefix, and a script was answered starting from its
+-- updates, to the script's end or to a fault; or they are none or could not be read, and nothing was answered
 abbrev pub RestoreEnds : Option (List ℕ) → List ℕ → Option (List ℕ) → Option (List ℕ) → Option (List ℕ) → Option (List ℕ) → Result FrontVerdict Unrestored → Type 0
 RestoreEnds rest seen remaining_old remaining_new contents_old contents_new (Ok (verdicts.Front edits answers)) =
     IsWhole MOST_NUMBERED seen rest
@@ -53,7 +53,7 @@ RestoreEnds rest seen remaining_old remaining_new contents_old contents_new (Err
 RestoreEnds rest seen remaining_old remaining_new contents_old contents_new (Err (unrestored.Front fault)) =
     ReadingEnds MOST_NUMBERED rest seen (Err fault) × Untouched remaining_old remaining_new contents_old contents_new
 
--- the text of a front was read, of no more bytes than have numbered lines and one more, and what became of it
+-- at most `MOST_NUMBERED + 1` bytes of the text of a prefix were read, and this is what became of it
 pub record Restored (front remaining_old remaining_new contents_old contents_new : Option (List ℕ)) (result : Result FrontVerdict Unrestored) : Type 0 where
   pub rest : Option (List ℕ)
   pub seen : List ℕ

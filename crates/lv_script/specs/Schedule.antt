@@ -1,4 +1,4 @@
--- Schedules of the lock-free machine: what each line says, and what it is answered.
+-- Schedules of the lock-free machine: what each line says, and the reply to it.
 use Rattle.std.specs.Prelude.{◌≡◌, ℕ, if◌then◌else◌, List, [], ◌∷◌, ◌++◌, codes, decimal, Option, Some, None, option_map, unwrap_or}
 use Rattle.std.specs.Str.{bytes_eq}
 use Rattle.lv_bodies.specs.declared.kinds.Kind.{Kind}
@@ -28,7 +28,7 @@ use Rattle.lv_lines.specs.Texts.{answer_text, bad_text, fresh_text, receipt_text
 
 -- ---- what a line says
 
--- the call that a command of scripts asks for, where the lock-free form knows it
+-- the call that a command of scripts asks for, if the lock-free form has it
 abbrev pub call_of : Command → Option Call
 call_of (Edit (edit.Push x)) = Some (call.Push x)
 call_of (Edit edit.Pop) = Some call.Pop
@@ -37,7 +37,7 @@ call_of (Get i) = Some (call.Get i)
 call_of Size = Some call.Size
 call_of _ = None
 
--- the call that some words ask for beside reductions: `refresh number`, or as a script asks for it
+-- the call that some words ask for, except for reductions: `refresh number`, or a command of scripts
 unfoldable pub plain_call_in : List (List ℕ) → Option Call
 plain_call_in [] = None
 plain_call_in (verb ∷ words) =
@@ -70,9 +70,9 @@ event_in (verb ∷ words) =
 abbrev pub schedule_line_of : List ℕ → Line Event
 schedule_line_of bytes = line_by event_in bytes
 
--- ---- what an event is answered
+-- ---- the reply to an event
 
--- what a call ends with, where a fold is shown
+-- the result of a call, with a fold replaced by its output
 abbrev pub said_shown : {S : Type 0} → (S → Shown) → Said S → Said Shown
 said_shown shown (said.Did receipt) = said.Did receipt
 said_shown shown (said.Read read) = said.Read read
@@ -82,7 +82,7 @@ said_shown shown (said.Answered answer) =
 said_shown shown (said.Refreshed refreshed) = said.Refreshed refreshed
 said_shown shown (said.Refused refusal) = said.Refused refusal
 
--- what a call ends with, as a line; a fold is of a kind, and a refresh is one of a block
+-- the result of a call as a line, given the kind of its fold or the block that it refreshed
 abbrev pub said_text : Kind → ℕ → Said Shown → List ℕ
 said_text kind block (said.Did receipt) = receipt_text receipt
 said_text kind block (said.Read read) = value_text read.value
@@ -91,14 +91,14 @@ said_text kind block (said.Answered answer) = answer_text answer.edit kind answe
 said_text kind block (said.Refreshed refreshed) = fresh_text block refreshed.version
 said_text kind block (said.Refused refusal) = refused_text refusal
 
--- what an event of an actor comes to, as a line: its call has begun, goes on, or has ended; or the event is refused
+-- the outcome of an actor's event, as a line: its call has begun, goes on, or has ended; or the event is rejected
 abbrev pub outcome_text : ℕ → ℕ → Outcome ℕ → List ℕ
 outcome_text actor block Started = reply_line (codes "started " ++ decimal actor)
 outcome_text actor block Going = reply_line (codes "step " ++ decimal actor)
 outcome_text actor block (Done answer) = codes "done " ++ decimal actor ++ codes " " ++ said_text kind.Sum block (said_shown shown.Sum answer)
 outcome_text actor block (Refused refusal) = refused_text refusal
 
--- ---- what a line is answered, and what it changes
+-- ---- the reply to a line, and what the line changes
 
 -- a machine whose body is the sum
 abbrev pub SumMachine : Type 0
@@ -113,11 +113,11 @@ abbrev pub actor_of : Event → ℕ
 actor_of (event.Call actor asked) = actor
 actor_of (event.Step actor) = actor
 
--- what an event is answered: the text of what it comes to. A refresh that ends with it is one of the block that the actor's call refreshed
+-- the reply to an event: the text of its outcome. If a refresh ends with the event, it is one of the block that the actor's call refreshed
 abbrev pub event_text : SumMachine → Event → List ℕ
 event_text m e = outcome_text (actor_of e) (unwrap_or (block_refreshed m (actor_of e)) 0) (sum_step m e).1
 
--- what a line is answered: one that says nothing by nothing, and one that says nothing known by its number
+-- the reply to a line: none if it says nothing, and its number if it is not understood
 abbrev pub line_text : SumMachine → ℕ → Line Event → List ℕ
 line_text m n Nothing = []
 line_text m n Bad = bad_text n

@@ -1,4 +1,4 @@
--- What each line of a script is answered, and what it changes.
+-- The reply to each line of a script, and what the line changes.
 use Rattle.std.specs.Prelude.{◌≡◌, ◌⊎◌, ℕ, ℤ, Bool, Result, Ok, Err, Option, Some, None, List, [], ◌∷◌, ◌++◌, length}
 use Rattle.std.specs.List.{flat_map}
 use Rattle.lv_geometry.specs.Bounds.{Bounds}
@@ -32,7 +32,7 @@ use Rattle.lv_lines.specs.Grammar.{line_of}
 use Rattle.lv_lines.specs.Texts.{accepted_text, answer_text, bad_text, capacity_text, cost_text, element_text, forgotten_text, idle_text, job_text, named_text, note_text, receipt_text, refused_text, scan_text, settled_text, size_text, unwatched_text, watching_text}
 use Rattle.lv_script.specs.PlainScript.{scan_by}
 
--- all that a script has seen: its limits, the record of its vector, and its standing queries
+-- the state of a script: its limits, the record of its vector, and its registered queries
 pub record ScriptState : Type 0 where
   pub limits : Bounds
   pub seen : Record
@@ -50,7 +50,7 @@ pub record Does (old : ScriptState) (event : Event) (answered : ReplyOf SixSumma
   pub limits : new.limits ≡ old.limits
   pub queries : new.queries ≡ old.queries
 
--- what a line is answered that changes nothing
+-- a line that changes nothing has this reply
 abbrev pub Tells : ScriptState → List ℕ → List ℕ → ScriptState → Type 0
 Tells old told text new = (text ≡ told) × HasQueries old new old.queries
 
@@ -63,7 +63,7 @@ edit_text (Err refusal) = refused_text refusal
 abbrev pub notes_text : List Note → List ℕ
 notes_text notes = flat_map (λ note. note_text note.name note.value) notes
 
--- an edit is answered by its receipt and the notes of it, or by its refusal
+-- the reply to an update: its receipt and its notifications, or its error
 pub record TellsEdit (old : ScriptState) (e : Edit) (text : List ℕ) (new : ScriptState) : Type 0 where
   pub answer : Result Receipt Refusal
   pub notes : List Note
@@ -71,7 +71,7 @@ pub record TellsEdit (old : ScriptState) (e : Edit) (text : List ℕ) (new : Scr
   pub notes_are : AreNotes old.seen.edits new.seen.edits old.queries notes
   pub text_is : text ≡ edit_text answer ++ notes_text notes
 
--- what an event is answered, as a line; of a reduction it is what was read for it, and no line asks for a scan as an event
+-- the reply to an event, as a line. For a reduction it says how much was read, and no line asks for a scan as an event
 abbrev pub reply_text : ReplyOf SixSummary → List ℕ
 reply_text (reply.Did receipt) = receipt_text receipt
 reply_text reply.Settled = settled_text
@@ -83,48 +83,48 @@ reply_text (reply.Answered answer) = cost_text answer.cells_read answer.summarie
 reply_text (reply.Scanned scan) = []
 reply_text (reply.Refused refusal) = refused_text refusal
 
--- an event is answered by its reply
+-- an event has its reply
 pub record TellsEvent (old : ScriptState) (event : Event) (text : List ℕ) (new : ScriptState) : Type 0 where
   pub answered : ReplyOf SixSummary
   pub does : Does old event answered new
   pub text_is : text ≡ reply_text answered
 
--- the value of a kind over a range, at the last edit, or the refusal
+-- the value of a kind over a range, at the last update, or the error
 abbrev pub reduced_text : List Edit → Kind → ℕ → ℕ → Option Refusal → List ℕ
 reduced_text edits kind lo hi (Some refusal) = refused_text refusal
 reduced_text edits kind lo hi None = answer_text (length edits) kind (plain_value kind (slice_of edits lo hi))
 
--- the values of a kind over the beginnings of a list
+-- the values of a kind over the prefixes of a list
 abbrev pub plain_scan : Bool → Kind → List ℤ → List Shown
 plain_scan inclusive kind xs = scan_by (plain_value kind) inclusive xs
 
--- the scan of a kind over a range, at the last edit, or the refusal
+-- the scan of a kind over a range, at the last update, or the error
 abbrev pub scanned_range_text : List Edit → Bool → Kind → ℕ → ℕ → Option Refusal → List ℕ
 scanned_range_text edits inclusive kind lo hi (Some refusal) = refused_text refusal
 scanned_range_text edits inclusive kind lo hi None = scan_text (length edits) inclusive kind (plain_scan inclusive kind (slice_of edits lo hi))
 
--- a scan is answered so
+-- a scan has this reply
 abbrev pub TellsScan : ScriptState → Bool → Kind → ℕ → ℕ → List ℕ → ScriptState → Type 0
 TellsScan old inclusive kind lo hi text new = Tells old (scanned_range_text old.seen.edits inclusive kind lo hi (range_refusal old.seen.edits lo hi)) text new
 
--- a query is registered after the others; or it is refused, for want of memory where nothing else refuses it
+-- a query is registered after the others; or it is rejected, with `NoMemory` (out of memory) if it has no other error
 abbrev pub TellsWatch : ScriptState → Query → List ℕ → ScriptState → Type 0
 TellsWatch old q text new =
     ((query_refusal 64 old.queries q ≡ None) × (text ≡ watching_text q.name) × HasQueries old new (old.queries ++ q ∷ []))
     ⊎ ((refusal : Refusal) × ((query_refusal 64 old.queries q ≡ Some refusal) ⊎ ((query_refusal 64 old.queries q ≡ None) × (refusal ≡ NoMemory)))
     × Tells old (refused_text refusal) text new)
 
--- the query of a name is forgotten, if there is one
+-- the query under a name is removed, if there is one
 abbrev pub TellsUnwatch : ScriptState → List ℕ → Option Query → List ℕ → ScriptState → Type 0
 TellsUnwatch old name None text new = Tells old (refused_text NoSuchName) text new
 TellsUnwatch old name (Some q) text new = (text ≡ unwatched_text name) × HasQueries old new (without_query old.queries name)
 
--- what the query of a name answers at the last edit, if there is one
+-- the answer of the query under a name at the last update, if there is one
 abbrev pub named_answer_text : List Edit → List ℕ → Option Query → List ℕ
 named_answer_text edits name None = refused_text NoSuchName
 named_answer_text edits name (Some q) = named_text (length edits) name (watch_answer edits q)
 
--- what a command is answered
+-- the reply to a command, and what the command changes
 abbrev pub CommandAnswer : ScriptState → Command → List ℕ → ScriptState → Type 0
 CommandAnswer old (command.Edit e) text new = TellsEdit old e text new
 CommandAnswer old Settle text new = TellsEvent old event.Settle text new
@@ -134,7 +134,7 @@ CommandAnswer old Capacity text new = Tells old (capacity_text (capacity_after o
 CommandAnswer old (Reduce kind lo hi) text new = Tells old (reduced_text old.seen.edits kind lo hi (range_refusal old.seen.edits lo hi)) text new
 CommandAnswer old (Cost lo hi) text new = TellsEvent old (event.Reduce lo hi) text new
 CommandAnswer old (Scan inclusive kind lo hi) text new = TellsScan old inclusive kind lo hi text new
--- a claim is refused where there is no room for its job; no node is claimed then
+-- a claim may fail with `NoMemory`, if there is no room for its task; no node is claimed then
 CommandAnswer old Claim text new = TellsEvent old event.Claim text new ⊎ Tells old (refused_text NoMemory) text new
 CommandAnswer old (Deliver k) text new = TellsEvent old (event.Deliver k) text new
 CommandAnswer old Forget text new = TellsEvent old event.Forget text new
@@ -142,7 +142,7 @@ CommandAnswer old (Watch name kind lo hi) text new = TellsWatch old (between nam
 CommandAnswer old (Unwatch name) text new = TellsUnwatch old name (query_of old.queries name) text new
 CommandAnswer old (Answer name) text new = Tells old (named_answer_text old.seen.edits name (query_of old.queries name)) text new
 
--- what a line is answered: one that says nothing by nothing, and one that says nothing known by its number
+-- the reply to a line, and what it changes: none if the line says nothing, and its number if it is not understood
 abbrev pub LineAnswer : ScriptState → ℕ → Line Command → List ℕ → ScriptState → Type 0
 LineAnswer old n Nothing text new = Tells old [] text new
 LineAnswer old n Bad text new = Tells old (bad_text n) text new

@@ -1,4 +1,4 @@
--- What a script keeps: its vector with standing queries, and the jobs that were claimed.
+-- The state of a script: its vector with standing queries, and the tasks that were claimed.
 use Rattle.std.specs.Prelude.{◌≡◌, ◌≤◌, ℕ, List, length}
 use Rattle.lv_bodies.specs.Six.{SixSummary}
 use Rattle.lv_bodies.specs.declared.sixes.Six.{Six}
@@ -13,7 +13,7 @@ pub record Scripted : Type 0 where
   pub jobs : List (Carried Six SixSummary)
   pub most : ℕ
 
--- what such a script has seen
+-- the state that such a script has come to
 abbrev pub state_of : StandingState → List (Carried Six SixSummary) → ScriptState
 state_of s jobs = record { limits = s.live.history.limits; seen = with_issued s.live jobs; queries = s.queries }
 
@@ -22,7 +22,7 @@ pub record Bounded : Type 0 where
   pub script : ScriptState
   pub most : ℕ
 
--- one line of it: it is answered as that of any script, and no more jobs are claimed than may be
+-- one line of it: the reply is that of any script, and no more tasks are claimed than may be
 pub record BoundedStep (old : Bounded) (n : ℕ) (line text : List ℕ) (new : Bounded) : Type 0 where
   pub step : ScriptStep old.script n line text new.script
   pub most : new.most ≡ old.most

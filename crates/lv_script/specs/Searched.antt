@@ -1,4 +1,4 @@
--- What a search in a series finds, by its elements alone: one index after the other is tried. The end of a range is excluded.
+-- The results of searches in a series, defined by its elements only: one index after the other is tried. The end of a range is excluded.
 use Rattle.std.specs.Prelude.{ℕ, ℤ, ◌+◌, ◌-◌, Bool, Option, Some, List, reverse, find, int_le}
 use Rattle.std.specs.List.{range_with_len}
 use Rattle.std.specs.Option.{option_eq}
@@ -14,7 +14,7 @@ use Rattle.lv_script.specs.declared.long_commands.Search.TheVariants.{First, Las
 abbrev pub indices : ℕ → ℕ → List ℕ
 indices lo hi = range_with_len lo (hi - lo)
 
--- the first, or the last, of them at which a test is true, or none
+-- the first or the last of these indices at which a test is true, if there is one
 abbrev pub first_where : (ℕ → Bool) → ℕ → ℕ → Option ℕ
 first_where test lo hi = find test (indices lo hi)
 
@@ -25,8 +25,8 @@ last_where test lo hi = find test (reverse (indices lo hi))
 abbrev pub is_same : Option ℤ → Option ℤ → Bool
 is_same a b = option_eq int_eq a b
 
--- the index of what is looked for: an element within a bound; the end up to which the elements from lo on add up to so much at least,
--- at most hi; or an element that is the least of the range, or the greatest
+-- the index that a search finds: of an element within a bound; the first end, at most hi, up to which the elements from lo on add up to at least
+-- so much; or of the first element that is the least of the range, or the greatest
 abbrev pub index_of : Search → Held → ℕ → ℕ → Option ℕ
 index_of (First bound) h lo hi = first_where (λ i. is_within bound (element_of h i)) lo hi
 index_of (Last bound) h lo hi = last_where (λ i. is_within bound (element_of h i)) lo hi
@@ -41,7 +41,7 @@ ends_best h lo hi end = is_same (plain_best (slice_of h lo end)) (plain_best (sl
 abbrev pub begins_best : Held → ℕ → ℕ → ℕ → ℕ → Bool
 begins_best h lo hi to start = is_same (plain_best (slice_of h start to)) (plain_best (slice_of h lo hi))
 
--- the run with the greatest sum, from where up to where: of several the one that ends first, and of those the shortest
+-- the run with the greatest sum, as its start and its end. Of several it is the one that ends first, and of those the shortest
 abbrev pub best_run : Held → ℕ → ℕ → Option (ℕ × ℕ)
 best_run h lo hi = do
   to ← first_where (ends_best h lo hi) (lo + 1) (hi + 1)

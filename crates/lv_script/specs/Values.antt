@@ -1,4 +1,4 @@
--- What the code of a series' script asks of a series: the plain value of a kind, and where something is, whichever trees the series has.
+-- Values and positions that the code of a series' script asks of a series. They do not depend on which trees the series has.
 use Rattle.std.specs.Prelude.{◌≡◌, ℕ, Some, None, Result, Ok, Err}
 use Rattle.lv_bodies.specs.Plain.{plain_value}
 use Rattle.lv_bodies.specs.declared.kinds.Kind.{Kind}
@@ -11,12 +11,12 @@ use Rattle.lv_series.specs.declared.refusals.LongRefusal.{LongRefusal}
 abbrev pub without_trees : SeriesState → SeriesState
 without_trees s = record s { kinds = no_kinds }
 
--- the plain value of a kind over a range, or why the range is refused
+-- the plain value of a kind over a range, or the error for the range
 abbrev pub ShowsValue : Held → Kind → ℕ → ℕ → Result Shown LongRefusal → Type 0
 ShowsValue h kind lo hi (Ok value) = (range_refused h lo hi ≡ None) × (value ≡ plain_value kind (slice_of h lo hi))
 ShowsValue h kind lo hi (Err refusal) = range_refused h lo hi ≡ Some refusal
 
--- what a search answers: what the elements of the range tell; or why the range is refused, or that there is no memory for a tree. Only trees
+-- the result of a search: what the elements of the range determine; or the error for the range, or that there is no memory for a tree. Only trees
 -- have changed
 abbrev pub Seeks : {T : Type 0} → (Held → ℕ → ℕ → T) → SeriesState → ℕ → ℕ → Result T LongRefusal → SeriesState → Type 0
 Seeks plain old lo hi (Ok answer) new = (range_refused old.held lo hi ≡ None) × (answer ≡ plain old.held lo hi) × (without_trees new ≡ without_trees old)

@@ -1,4 +1,4 @@
-//! What a command of a script is answered, and the answers to edits and reads.
+//! The replies to commands of a script, and in particular to updates and reads.
 ghost use Rattle.std.specs.Prelude.{◌≡◌, ◌+◌, ◌<◌, ◌≤◌, ◌++◌, List, ℕ, length, OnOk, IfErr};
 ghost use Rattle.lv_bodies.specs.Six.{SixSummary, six_operations};
 ghost use Rattle.lv_bodies.specs.declared.sixes.Six.{Six};
@@ -33,7 +33,7 @@ use lv_reduce::Reads;
 use lv_standing::{Note, Standing};
 use std::io::Write;
 
-/// Answers a command. Only the reply to a scan may be longer than what is held. `notes` is room for the notes of an edit.
+/// Answers a command. Only the reply to a scan may be longer than the buffer. `notes` is room for the notifications of an update.
 #[inline(always)]
 pub fn answer<W: Write>(
     standing: &mut Standing,
@@ -96,7 +96,7 @@ pub fn answer<W: Write>(
     Ok(())
 }
 
-// Makes an edit: its receipt and its notes, or its refusal. The list of notes is only for their memory, which serves again.
+// Puts the receipt of an update and its notifications, or its error. The list of notifications is passed only so that its memory is used again.
 fn put_edit(standing: &mut Standing, notes: &mut Vec<Note>, edit: Edit, held: &mut Vec<u8>)
     requires { HasRoom held.old ROOM }
     ensures answer { (reply : List ℕ) × ((jobs : List (Carried Six SixSummary)) → TellsEdit (state_of standing.old jobs) edit reply (state_of standing.new jobs))
@@ -126,7 +126,7 @@ fn put_settle(standing: &mut Standing, held: &mut Vec<u8>)
     put_settled(held);
 }
 
-// The element at an index, or that there is none.
+// Puts the element at an index, or the error that there is none.
 fn put_element_at(standing: &Standing, i: u32, held: &mut Vec<u8>)
     requires { HasRoom held.old ROOM }
     ensures text { held.new.items ≡ held.old.items ++ element_text (element_at standing.now.live.history.journal i) }
@@ -171,7 +171,7 @@ fn extent_of<B: Body>(live: &Live<B>) -> Extent
     }
 }
 
-// The value of a kind over a range, of which the vector keeps what it computes, or why the range is refused.
+// Puts the value of a kind over a range, or the error for the range. The vector keeps what it computes for it.
 fn put_reduced(standing: &mut Standing, kind: Kind, lo: u32, hi: u32, held: &mut Vec<u8>)
     requires { HasRoom held.old ROOM }
     ensures text { let edits = standing.old.live.history.journal in held.new.items ≡ held.old.items ++ reduced_text edits kind lo hi (range_refusal edits lo hi) }
@@ -185,7 +185,7 @@ fn put_reduced(standing: &mut Standing, kind: Kind, lo: u32, hi: u32, held: &mut
     }
 }
 
-// How many reads a reduction makes, or why its range is refused.
+// Puts how much a reduction reads, or the error for its range.
 fn put_reads(standing: &Standing, lo: u32, hi: u32, held: &mut Vec<u8>)
     requires { HasRoom held.old ROOM }
     ensures answer { (reply : List ℕ) × ((jobs : List (Carried Six SixSummary)) → TellsEvent (state_of standing.now jobs) (event.Reduce lo hi) reply (state_of standing.now jobs))

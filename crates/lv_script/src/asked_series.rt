@@ -45,7 +45,7 @@ pub fn value_kept(series: &Series, kind: Kind, lo: u64, hi: u64) -> Shown
     }
 }
 
-// What is kept of a range.
+// The part of a range that is kept.
 fn kept_of(series: &Series, lo: u64, hi: u64) -> Indices
     requires order { lo ≤ hi }
     requires inside { hi ≤ size_of series.now.held }

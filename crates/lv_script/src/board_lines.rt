@@ -46,7 +46,7 @@ fn board_call(kind: Kind, verb: &[u8], words: &[u8]) -> Option<Call>
     plain_call(verb, words)
 }
 
-// The reduction that the words `kind lo hi` ask for, where the kind is the board's.
+// The reduction that the words `kind lo hi` ask for, if the kind is the board's.
 #[tactic(auto, unfolding(crate::specs::BoardLine::own_range_in))]
 fn own_range(kind: Kind, words: &[u8]) -> Option<Call>
     ensures { result ≡ own_range_in kind (words_of words.now) }

@@ -10,11 +10,11 @@ use std::io::{Error, ErrorKind, Read, Write};
 /// A reader of given bytes that fails after some of them.
 #[derive(Drop)]
 pub struct FailingReader<'a> {
-    /// What was not read.
+    /// The bytes that were not read.
     pub rest: &'a [u8],
     /// At most how many bytes one read gives.
     pub step: usize,
-    /// After how many more bytes it fails: at once where it is 0, and never where it is more than there are.
+    /// After how many more bytes it fails: at once if this is 0, and never if it is more than there are.
     pub left: usize,
     ghost moves: { 0 < step },
 }
@@ -40,7 +40,7 @@ impl Read for FailingReader<'_> {
     }
 }
 
-/// What a writer does where it works no more.
+/// How a writer fails once it works no more.
 #[derive(Clone, Copy, PartialEq, Eq)]
 pub enum Failure {
     /// It answers an error.
@@ -53,7 +53,7 @@ pub enum Failure {
 /// may take.
 #[derive(Drop)]
 pub struct FailingWriter {
-    /// What was written.
+    /// The bytes that were written.
     pub taken: Vec<u8>,
     /// At most how many bytes one write takes.
     pub step: usize,

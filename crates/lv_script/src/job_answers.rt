@@ -1,4 +1,4 @@
-//! What commands about jobs are answered: claims, deliveries, and that all claims are void.
+//! The replies to commands about tasks: claims, deliveries, and `forget`.
 ghost use Rattle.std.specs.Prelude.{◌≡◌, ◌+◌, ◌<◌, ◌≤◌, ◌++◌, List, ℕ, length};
 ghost use Rattle.lv_bodies.specs.Six.{SixSummary, six_operations};
 ghost use Rattle.lv_bodies.specs.declared.sixes.Six.{Six};
@@ -51,7 +51,7 @@ fn put_next_job(standing: &mut Standing, issued: &mut Issued<Six>, held: &mut Ve
     }
 }
 
-/// Delivers the outcome of a job, where there is one of that number.
+/// Delivers the result of a task, if there is one of that number.
 pub fn put_delivery(standing: &mut Standing, issued: &Issued<Six>, k: u32, held: &mut Vec<u8>)
     requires world { IsWorld six_operations standing.old.live issued.now.jobs }
     requires room { HasRoom held.old ROOM }

@@ -1,18 +1,18 @@
-//! Scripts and schedules: what each line is answered.
+//! Scripts and schedules, and the replies to their lines.
 //!
-//! The model is bytes: `run_script` answers the lines of what it reads one after the other and writes the replies joined
-//! end to end; a fault leaves a front of them. Memory is fixed, however long the input or a line of it is. It decides
-//! nothing about the vector: the layers below do.
+//! The model is bytes: `run_script` answers the lines that it reads one after the other, and writes the replies joined end to end. After a
+//! fault, a prefix of the replies was written. Memory is fixed, however long the input or a line of it is. This crate decides nothing about
+//! the vector: the layers below do.
 //!
-//! `run_series_script` does the same on a series, whose indices go up to 2^62 and whose front may expire. Both are answered as one plain
-//! interpreter answers them (`specs/Interpreter.antt`).
+//! `run_series_script` does so for a series, whose indices go up to 2^62 and whose first elements may expire. One reference interpreter
+//! (`specs/Interpreter.antt`) defines the replies of both.
 //!
-//! A series and samples may be asked by queries: `AskedSeries`, `AskedSamples`. A `SampleQuery` may be about the last so much time.
+//! Queries may be about a series and about samples: `AskedSeries`, `AskedSamples`. A `SampleQuery` may be about the last so much time.
 //!
 //! A schedule plays the lock-free machine, one event a line: `run_schedule` answers it in the same loop.
 //!
-//! What lines say, and the loop, are `lv_lines`'; transcripts and their auditor are `lv_transcript`'s. Their names are
-//! here too, so that whoever converses has one crate to name.
+//! The grammar of lines and the loop are from `lv_lines`, and transcripts and their auditor from `lv_transcript`. Their names are exported
+//! here too, so that whoever runs scripts has one crate to name.
 #![tactic(auto)]
 
 mod answers;

@@ -5,7 +5,7 @@ use lv_series::LongEdit;
 use lv_standing::Span;
 use lv_tree::Bound;
 
-/// What is looked for in a range. The answer is an index.
+/// What to search for in a range. The answer is an index.
 #[derive(Clone, Copy)]
 pub enum Search {
     /// The first element within a bound.
@@ -27,7 +27,7 @@ pub enum LongCommand {
     Edit(LongEdit),
     /// Show the first index that is kept.
     First,
-    /// Show the index behind the last element.
+    /// Show the index after the last element.
     Size,
     /// Show the element under an index.
     Get(u64),
@@ -37,25 +37,25 @@ pub enum LongCommand {
         lo: u64,
         hi: u64,
     },
-    /// The reductions of each front of the range: up to each element, and with it where the scan is inclusive.
+    /// The reductions of the prefixes of the range: up to each element, and including it if the scan is inclusive.
     Scan {
         inclusive: bool,
         kind: Kind,
         lo: u64,
         hi: u64,
     },
-    /// Show the index from `lo` on, below `hi`, of what is looked for.
+    /// Show the index that a search of the elements from `lo` on, below `hi`, finds.
     Find {
         sought: Search,
         lo: u64,
         hi: u64,
     },
-    /// Show where the run with the greatest sum is, from `lo` on, below `hi`.
+    /// Show the start and the end of the run with the greatest sum, from `lo` on, below `hi`.
     BestRun {
         lo: u64,
         hi: u64,
     },
-    /// Keep the answer of a reduction under a name. With a bound it is told only where it comes to be within it, or ceases to be.
+    /// Register a reduction under a name. Its answer is reported when it changes; with a bound, only when it comes to be within it or ceases to be.
     Watch {
         name: Name,
         kind: Kind,
@@ -64,6 +64,6 @@ pub enum LongCommand {
     },
     /// Forget the name.
     Unwatch(Name),
-    /// Show the answer that goes by the name.
+    /// Show the answer of the reduction that has the name.
     Answer(Name),
 }

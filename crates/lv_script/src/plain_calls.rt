@@ -8,7 +8,7 @@ use lv_lines::grammar::{lone_number, spells};
 use lv_lines::{Command, LineGrammar, ScriptGrammar};
 use lv_machine::Call;
 
-/// The call that a first word and the words after it ask for beside reductions.
+/// The call that a first word and the words after it ask for, except for reductions.
 #[tactic(auto, unfolding(crate::specs::Schedule::plain_call_in))]
 pub(crate) fn plain_call(verb: &[u8], words: &[u8]) -> Option<Call>
     ensures { result ≡ plain_call_in (verb.now ∷ words_of words.now) }
@@ -19,7 +19,7 @@ pub(crate) fn plain_call(verb: &[u8], words: &[u8]) -> Option<Call>
     call_of(ScriptGrammar.command(verb, words)?)
 }
 
-// The call that a command of scripts asks for, where the lock-free form knows it.
+// The call that a command of scripts asks for, if the lock-free form has it.
 fn call_of(command: Command) -> Option<Call>
     ensures { result ≡ call_of command }
 {

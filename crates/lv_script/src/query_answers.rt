@@ -1,4 +1,4 @@
-//! What commands about standing queries are answered.
+//! The replies to commands about standing queries.
 ghost use Rattle.std.specs.Prelude.{◌≡◌, ◌+◌, ◌<◌, ◌++◌, List, ℕ};
 ghost use Rattle.lv_bodies.specs.Six.{SixSummary};
 ghost use Rattle.lv_bodies.specs.declared.sixes.Six.{Six};
@@ -48,7 +48,7 @@ pub fn put_unwatch(standing: &mut Standing, name: Name, held: &mut Vec<u8>)
     }
 }
 
-/// What a query answers.
+/// Puts the answer of a query.
 pub fn put_named_answer(standing: &Standing, name: Name, held: &mut Vec<u8>)
     requires { HasRoom held.old ROOM }
     ensures text { held.new.items ≡ held.old.items ++ named_answer_text standing.now.live.history.journal name (query_of standing.now.queries name) }

@@ -1,4 +1,4 @@
-//! The grammar of standing queries: what the words behind `watch` ask, in a script or in a subscriber's file.
+//! The grammar of standing queries: the words after `watch`, in a script or in a subscriber's file.
 ghost use Rattle.std.specs.Prelude.{◌≡◌};
 ghost use Rattle.lv_lines.specs.Grammar.{lone};
 ghost use Rattle.lv_lines.specs.Words.{words_of};
@@ -10,7 +10,7 @@ use lv_lines::{element, next_word, number_up_to, only_word};
 use lv_standing::{Query, Span};
 use lv_tree::Bound;
 
-/// The query that words are: a name, a kind, a span, and maybe a bound. Its numbers are at most so great.
+/// The query that words are: a name, a kind, a span, and maybe a bound. Its numbers are at most `most`.
 #[tactic(auto, unfolding(crate::specs::QueryGrammar::query_in))]
 pub fn read_query(words: &[u8], most: u64) -> Option<Query>
     ensures { result ≡ query_in most (words_of words.now) }

@@ -37,7 +37,7 @@ pub fn put_job(held: &mut Vec<u8>, number: u64, node: Node, version: u32)
     put(held, b"\n");
 }
 
-/// That no node wants a job.
+/// Puts the reply that no node needs a task.
 pub fn put_idle(held: &mut Vec<u8>)
     requires { HasRoom held.old LINE }
     ensures text { held.new.items ≡ held.old.items ++ idle_text }
@@ -46,7 +46,7 @@ pub fn put_idle(held: &mut Vec<u8>)
     put(held, b"idle\n");
 }
 
-/// What became of a result that was delivered.
+/// Puts the reply to a delivery: what became of the result.
 pub fn put_accepted(held: &mut Vec<u8>, accepted: Accepted)
     requires { HasRoom held.old LINE }
     ensures text { held.new.items ≡ held.old.items ++ accepted_text accepted }

@@ -1,4 +1,4 @@
-//! Scripts that go on from the edits of a transcript's front.
+//! Scripts that continue from the updates of a prefix (*front*) of a transcript.
 ghost use Rattle.std.specs.Prelude.{◌≡◌, ℕ, ◌++◌, List, Option, None, Ok, IfErr, OnOk};
 ghost use Rattle.lv_edits.specs.Kept.{IsLegalInLimits};
 ghost use Rattle.lv_edits.specs.History.{with_edit};
@@ -18,17 +18,17 @@ use lv_transcript::{FoundFront, FrontVerdict, read_front};
 use std::alloc::Global;
 use std::io::{Read, Write};
 
-/// Why a script was not answered to its end after a front.
+/// The reason that a script was not answered to its end after a prefix (*front*) of a transcript.
 #[derive(Clone, Copy, PartialEq, Eq)]
 pub enum Unrestored {
-    /// The front could not be read, and nothing was answered.
+    /// The prefix could not be read, and nothing was answered.
     Front(Fault),
-    /// The script ended so.
+    /// The script ended with this fault.
     Script(Fault),
 }
 
-/// Makes the edits of a transcript's front, or of a log, anew, then answers a script as `run_script` does, from these edits on. Where the bytes
-/// are no front, which the verdict says, nothing is read of the script, and nothing answered.
+/// Makes the updates of a prefix (*front*) of a transcript, or of a log, again, and then answers a script as `run_script` does, starting from
+/// these updates. If the bytes are not such a prefix, as the verdict says, nothing of the script is read, and nothing is answered.
 pub fn restore_script<F: Read + Drop, R: Read, W: Write>(
     alloc: Global,
     front: F,
@@ -43,8 +43,8 @@ pub fn restore_script<F: Read + Drop, R: Read, W: Write>(
     }
 }
 
-/// Answers a script as `run_script` does, on a vector that begins with these edits. They are made before anything is read: where
-/// there is no memory for them, that is the fault.
+/// Answers a script as `run_script` does, on a vector that begins with these updates. They are made before anything is read. If there is no
+/// memory for them, the fault is `NoMemory`.
 pub fn resume_script<R: Read, W: Write>(
     alloc: Global,
     limits: Limits,
@@ -65,7 +65,7 @@ pub fn resume_script<R: Read, W: Write>(
     }
 }
 
-// Makes edits that are accepted one after the other, unless memory is wanting.
+// Makes updates that are accepted one after the other. The only error is `NoMemory`.
 fn make_all(alloc: Global, standing: &mut Standing, edits: &[Edit]) -> Result<(), Refusal>
     requires accepted { AreAcceptedAfter standing.old.live.history.limits standing.old.live.history.journal edits.now }
     requires limits { IsLegalInLimits standing.old.live.history }
@@ -81,7 +81,7 @@ fn make_all(alloc: Global, standing: &mut Standing, edits: &[Edit]) -> Result<()
     Ok(())
 }
 
-// Makes an edit that is accepted, unless memory is wanting. No query tells of it.
+// Makes an update that is accepted. The only error is `NoMemory`. No query reports it.
 fn make(alloc: Global, standing: &mut Standing, edit: Edit) -> Result<(), Refusal>
     requires accepted { verdict_of standing.old.live.history.limits standing.old.live.history.journal edit ≡ None }
     ensures edits { OnOk result (standing.new.live.history ≡ with_edit standing.old.live.history edit) }
@@ -96,7 +96,7 @@ fn make(alloc: Global, standing: &mut Standing, edit: Edit) -> Result<(), Refusa
     }
 }
 
-// Answers a script from the edits of what was found on, where that is a front.
+// Answers a script, starting from the updates that were found, if they are those of a prefix.
 fn resume_found<R: Read, W: Write>(
     alloc: Global,
     found: FoundFront,
@@ -120,7 +120,7 @@ fn resume_found<R: Read, W: Write>(
     }
 }
 
-// Answers a script from these edits on.
+// Answers a script, starting from these updates.
 fn resume_edits<R: Read, W: Write>(
     alloc: Global,
     edits: Edits,

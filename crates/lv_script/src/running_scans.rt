@@ -15,7 +15,7 @@ use lv_lines::{Fault, LINE, ReplyBuffer, put_scan_head};
 use lv_tree::OfKind;
 use std::io::Write;
 
-/// Elements in a row, each of which is read at its place.
+/// A list of elements, where each is read at its index.
 pub trait Elements {
     // The elements.
     ghost list: { Self → List ℤ };
@@ -24,13 +24,13 @@ pub trait Elements {
     fn count(&self) -> usize
         ensures { result ≡ length (list self.now) };
 
-    /// The one at a place.
+    /// The element at an index.
     fn element(&self, i: usize) -> i64
         requires { i < length (list self.now) }
         ensures { result ≡ slice_index_or (list self.now) i result };
 }
 
-/// Those of a slice.
+/// The elements of a slice.
 #[derive(Clone, Copy)]
 pub struct Slice<'a> {
     pub elements: &'a [i64],
@@ -50,7 +50,7 @@ impl Elements for Slice<'_> {
     }
 }
 
-/// The scan of elements by a kind, at an edit. Its reply may be longer than what is held: each value is put as it is computed, so no
+/// Puts the scan of elements by a kind, at an update. The reply may be longer than the buffer: each value is put as it is computed, so no
 /// memory is taken.
 pub fn put_running_scan<E: Elements, W: Write>(
     buffer: &mut ReplyBuffer<'_, W>,
@@ -71,7 +71,7 @@ pub fn put_running_scan<E: Elements, W: Write>(
     put_values(buffer, inclusive, kind, elements)
 }
 
-// Its values, by the body of its kind alone.
+// Puts the values of a scan, computed only by the monoid instance (body) of its kind.
 fn put_values<E: Elements, W: Write>(
     buffer: &mut ReplyBuffer<'_, W>,
     inclusive: bool,
@@ -94,7 +94,7 @@ fn put_values<E: Elements, W: Write>(
     }
 }
 
-// The value of the running fold by a body of one kind at each element, each on a line of its own.
+// Puts the output of the running fold by a monoid instance of one kind at each element, each on a line of its own.
 fn put_running_values<K: OfKind, E: Elements, W: Write>(
     buffer: &mut ReplyBuffer<'_, W>,
     body: &K,

@@ -33,7 +33,7 @@ impl SampleSpan {
     }
 }
 
-/// A query of samples by a name: the value of a kind over the values in a span, and the bound by which it is told of, if it has one.
+/// A named query of samples: the value of a kind over the values in a span, and, if it has one, the bound that limits its notifications.
 #[derive(Clone, Copy)]
 pub struct SampleQuery {
     pub name: Name,
@@ -72,8 +72,8 @@ impl Asks<AskedSamples<'_>> for SampleQuery {
     }
 }
 
-/// Whatever the calls on new samples, and whatever each was answered, a query is answered by the edits that were accepted. So a window of
-/// time moves at edits alone: where none was accepted, each query is answered as before.
+/// Whatever the calls on new samples, and whatever their results, the answer of a query follows from the accepted updates. In particular, a
+/// window of time moves only at updates: if none was accepted, each query has the same answer as before.
 #[tactic(auto, using(crate::proofs::SampleAnswerLaws::answered_by_edits, crate::proofs::SampleAnswerLaws::answered_as_before))]
 pub fn samples_answer_by_their_edits()
     ensures answers { (calls : List SampleCalled) (s : SamplesState) (q : Asked) → SampleRun (plain_samples program_table []) calls s → sample_answer s q ≡ sample_answer_after (accepted_samples calls) q }

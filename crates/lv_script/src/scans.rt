@@ -1,4 +1,4 @@
-//! How scans are answered, of which only a part is held at a time.
+//! Replies to scans. Only a part of such a reply is in memory at a time.
 ghost use Rattle.std.specs.Prelude.{◌≡◌, ◌≤◌, List, ℕ, length, IfNone, OnOk, IfErr};
 ghost use Rattle.lv_edits.specs.History.{list_of};
 ghost use Rattle.lv_refresh.specs.Carried.{Carried};
@@ -28,7 +28,7 @@ pub struct Asked {
     pub hi: u32,
 }
 
-/// Answers a scan. Its reply may be longer than what is held: each value is put as it is computed, so no memory is taken.
+/// Answers a scan. The reply may be longer than the buffer: each value is put as it is computed, so no memory is taken.
 pub fn answer_scan<W: Write>(
     standing: &Standing,
     buffer: &mut ReplyBuffer<'_, W>,
@@ -52,7 +52,7 @@ pub fn answer_scan<W: Write>(
     }
 }
 
-// Why a range is refused, or nothing.
+// The error for a range, if there is one.
 fn refusal_of(live: &Live<Six>, lo: u32, hi: u32) -> Option<Refusal>
     ensures value { result ≡ range_refusal live.now.history.journal lo hi }
     ensures order { IfNone result (lo ≤ hi) }
@@ -68,7 +68,7 @@ fn refusal_of(live: &Live<Six>, lo: u32, hi: u32) -> Option<Refusal>
     }
 }
 
-// The scan of a range that lies in the vector.
+// Puts the scan of a range that is within the vector.
 fn put_range_scan<W: Write>(
     buffer: &mut ReplyBuffer<'_, W>,
     live: &Live<Six>,
@@ -96,7 +96,7 @@ fn put_range_scan<W: Write>(
     put_running_scan(buffer, edit, asked.inclusive, asked.kind, &elements)
 }
 
-// The elements of a range that lies in a vector.
+// The elements of a range that is within a vector.
 #[derive(Clone, Copy)]
 struct RangeElements<'a> {
     live: &'a Live<Six>,

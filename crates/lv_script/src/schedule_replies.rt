@@ -9,10 +9,10 @@ use lv_lines::{LINE, put, put_answer, put_found, put_number, put_receipt, put_re
 use lv_machine::{Outcome, Said};
 use lv_reduce::Answer;
 
-/// At most how many bytes the reply to an event has: a line, behind the words that tell whose call has ended.
+/// The greatest number of bytes of a reply to an event: a line, after the words that say whose call has ended.
 pub const EVENT: usize = 2 * LINE;
 
-/// What an event of an actor comes to. A refresh that ends with it is one of the block.
+/// Puts the outcome of an actor's event. A refresh that ends with it is one of the block.
 pub fn put_outcome(held: &mut Vec<u8>, actor: u32, block: u32, outcome: Outcome<u64>)
     requires { HasRoom held.old EVENT }
     ensures text { held.new.items ≡ held.old.items ++ outcome_text actor block outcome }
@@ -39,7 +39,7 @@ pub fn put_outcome(held: &mut Vec<u8>, actor: u32, block: u32, outcome: Outcome<
     }
 }
 
-/// What a call ends with, where a fold is shown as its body shows it.
+/// The result of a call, with a fold replaced by its output.
 pub fn said_shown<B: Single>(body: &B, said: Said<B::S>) -> Said<Shown>
     ensures { result ≡ said_shown (B.shown_as body.now) said }
 {
@@ -58,7 +58,7 @@ pub fn said_shown<B: Single>(body: &B, said: Said<B::S>) -> Said<Shown>
     }
 }
 
-/// What a call ends with: a fold is one of the kind, and a refresh one of the block.
+/// Puts the result of a call. A fold is one of the kind, and a refresh one of the block.
 pub fn put_said(held: &mut Vec<u8>, kind: Kind, block: u32, said: Said<Shown>)
     requires { HasRoom held.old LINE }
     ensures text { held.new.items ≡ held.old.items ++ said_text kind block said }

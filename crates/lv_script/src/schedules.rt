@@ -30,7 +30,7 @@ pub fn run_schedule<R: Read, W: Write>(
     serve_lines(MOST_READ, alloc, &mut player, reader, writer)
 }
 
-// What answers the lines of a schedule: whoever plays it on a machine.
+// The handler of a schedule's lines, which plays it on a machine.
 #[derive(Drop)]
 struct Player<'m> {
     machine: &'m mut Machine<Sum>,

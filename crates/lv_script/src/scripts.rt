@@ -25,9 +25,9 @@ use std::marker::Model;
 
 /// Answers a script: reads its lines, and writes the reply to each, until the reader ends.
 ///
-/// Ends with `NoMemory` where there was no memory to begin with: nothing is read or written then; with `ReadFault` where a
-/// read fails, and with `TooLong` where the input has more than 2^30 bytes: the replies to all whole lines that were read
-/// are written; with `WriteFault` where a write fails or takes no byte: what went out is a front of the replies.
+/// The fault is `NoMemory` if there was no memory to begin with; nothing is read or written then. It is `ReadFault` if a read fails, and
+/// `TooLong` if the input has more than 2^30 bytes; then the replies to all whole lines that were read are written. It is `WriteFault` if a
+/// write fails or takes no byte; then a prefix of the replies was written.
 pub fn run_script<R: Read, W: Write>(
     alloc: Global,
     limits: Limits,
@@ -36,18 +36,18 @@ pub fn run_script<R: Read, W: Write>(
 ) -> Result<(), Fault>
     ensures seen { (first : ScriptState) × (last : ScriptState) × Begins limits first × LinesServed ScriptStep first last
         (R.remaining reader.old) (R.remaining reader.new) (W.contents writer.old) (W.contents writer.new) result }
-    // Line by line the replies are those of the plain interpreter, which knows edits and standing queries alone.
+    // Line by line the replies are those of the reference interpreter, which knows only updates and registered queries.
     ensures plain { (last : Plain) × LinesServed (PlainStep vector_script) (start limits) last
         (R.remaining reader.old) (R.remaining reader.new) (W.contents writer.old) (W.contents writer.new) result }
-    // At the end of the input all that was written is the plain interpreter's text, unless a line of it tells that memory was wanting.
+    // If the input was read to its end, all that was written is the reference interpreter's text, unless a line reports `NoMemory` (out of memory).
     ensures text { OnOk result ((input : List ℕ) × (text : List ℕ) × Consumes (R.remaining reader.old) (R.remaining reader.new) input × IsAtEnd (R.remaining reader.new)
         × Appends (W.contents writer.old) (W.contents writer.new) text × (NeverWants text → IsPlainText vector_script (start limits) input text)) }
 {
     run_script_within(alloc, limits, usize::MAX, reader, writer)
 }
 
-/// Answers a script as `run_script` does, in which at most so many jobs are claimed: a claim past them is refused with `NoMemory`, and
-/// changes nothing. Jobs that were claimed may be delivered for good.
+/// Answers a script as `run_script` does, in which at most `jobs` tasks are claimed: a further claim fails with `NoMemory` and changes
+/// nothing. Tasks that were claimed can be delivered at any time.
 pub fn run_script_within<R: Read, W: Write>(
     alloc: Global,
     limits: Limits,
@@ -65,7 +65,7 @@ pub fn run_script_within<R: Read, W: Write>(
     answer_script(alloc, Standing::new(alloc, limits), jobs, reader, writer)
 }
 
-// Answers a script by a vector with standing queries, of which no job was claimed, and at most so many may be.
+// Answers a script on a vector with standing queries. None of its tasks has been claimed, and at most `jobs` may be.
 pub(crate) fn answer_script<R: Read, W: Write>(
     alloc: Global,
     standing: Standing,
@@ -87,7 +87,7 @@ pub(crate) fn answer_script<R: Read, W: Write>(
     ended
 }
 
-// What answers the lines of a script.
+// The handler of a script's lines.
 #[derive(Drop)]
 struct Script {
     standing: Standing,

@@ -25,18 +25,18 @@ use std::marker::Model;
 
 /// Answers a script on a new series: reads its lines, and writes the reply to each, until the reader ends.
 ///
-/// Ends with `NoMemory` where there was no memory to begin with: nothing is read or written then; with `ReadFault` where a
-/// read fails, and with `TooLong` where the input has more than 2^30 bytes: the replies to all whole lines that were read
-/// are written; with `WriteFault` where a write fails or takes no byte: what went out is a front of the replies.
+/// The fault is `NoMemory` if there was no memory to begin with; nothing is read or written then. It is `ReadFault` if a read fails, and
+/// `TooLong` if the input has more than 2^30 bytes; then the replies to all whole lines that were read are written. It is `WriteFault` if a
+/// write fails or takes no byte; then a prefix of the replies was written.
 pub fn run_series_script<R: Read, W: Write>(
     alloc: Global,
     reader: &mut R,
     writer: &mut W,
 ) -> Result<(), Fault>
-    // Line by line the replies are those of the plain interpreter, which knows what is kept and standing queries alone.
+    // Line by line the replies are those of the reference interpreter, which knows only what is kept and the registered queries.
     ensures plain { (last : PlainSeries) × LinesServed (PlainStep series_script) start_series last
         (R.remaining reader.old) (R.remaining reader.new) (W.contents writer.old) (W.contents writer.new) result }
-    // At the end of the input all that was written is the plain interpreter's text, unless a line of it tells that memory was wanting.
+    // If the input was read to its end, all that was written is the reference interpreter's text, unless a line reports `NoMemory` (out of memory).
     ensures text { OnOk result ((input : List ℕ) × (text : List ℕ) × Consumes (R.remaining reader.old) (R.remaining reader.new) input × IsAtEnd (R.remaining reader.new)
         × Appends (W.contents writer.old) (W.contents writer.new) text × (NeverWants text → IsPlainText series_script start_series input text)) }
 {
@@ -50,7 +50,7 @@ pub fn run_series_script<R: Read, W: Write>(
     ended
 }
 
-// What answers the lines of a script: a series, and the queries that stand.
+// The handler of a script's lines: a series, and the registered queries.
 #[derive(Drop)]
 struct SeriesScript {
     series: Series,

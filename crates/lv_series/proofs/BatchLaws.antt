@@ -14,7 +14,7 @@ use Rattle.lv_series.specs.Trees.{KeepsKinds, TreesState}
 use Rattle.lv_series.proofs.FreeLaws.{free_edit, free_push}
 use Rattle.lv_series.proofs.SeriesLaws.{trees_kept, with_trees}
 
--- where the first of two refusals doesn't come, and neither does the second, neither comes
+-- if the first of two refusals doesn't come, and neither does the second, neither comes
 pub neither : (first later : Option LongRefusal) → first_refusal first later ≡ None → (first ≡ None) × (later ≡ None)
 neither None later none = (refl, none)
 neither (Some refusal) later none = absurd (none-some refusal (sym none))
@@ -28,7 +28,7 @@ pub pushes_made : (h : Held) (xs : List ℤ) → fold changed h (pushes_of xs) �
 pushes_made h [] = ap (with_elements h) (sym (append-nil h.elements))
 pushes_made h (x ∷ xs) = pushes_made (changed h (Push x)) xs ∙ ap (with_elements h) (append_assoc h.elements (x ∷ []) xs)
 
--- where nothing refuses one, there are edits and indices left for all
+-- if nothing refuses one, there are edits and indices left for all
 pub free_pushes : (s : SeriesState) (xs : List ℤ) → s.edits ≤ 18446744073709551615 → size_of s.held ≤ 2 ^ 62 → verdict_of_edits s (pushes_of xs) ≡ None → (s.edits + length xs ≤ 18446744073709551615) × (size_of s.held + length xs ≤ 2 ^ 62)
 free_pushes s [] edits few free = (omega (arith, edits), omega (arith, few))
 free_pushes s (x ∷ xs) edits few free =
@@ -39,7 +39,7 @@ free_pushes s (x ∷ xs) edits few free =
     let rest = free_pushes (with_edit s (Push x)) xs (omega (arith, edits, left.0)) (omega (arith, room, long)) parts.1 in
     (omega (arith, rest.0), omega (arith, rest.1, long))
 
--- a push is allowed, where there are an edit and an index left
+-- a push is allowed, if there are an edit and an index left
 allowed : (s : SeriesState) (x : ℤ) → s.edits < 18446744073709551615 → size_of s.held < 2 ^ 62 → refused s (Push x) ≡ None
 allowed s x edits room =
     cond-false _ _ _ (ne_eqb s.edits 18446744073709551615 (λ same. omega (arith, same, edits))) ∙ cond-true _ _ _ (lt-ltb (size_of s.held) (2 ^ 62) room)
@@ -63,7 +63,7 @@ stopped s (x ∷ xs) (suc n) why many edits few stop =
     after_one s x xs (Some why) (omega (arith, edits)) (omega (arith, few))
     (stopped (with_edit s (Push x)) xs n why (omega (arith, many)) (omega (arith, edits)) (omega (arith, few, long)) (λ t y e z. stop t y (omega (arith, e)) (omega (arith, z, long))))
 
--- a refusal that comes where there is room for fewer
+-- a refusal that comes if there is room for fewer
 some_or_none : (room count : ℕ) (why : LongRefusal) (result verdict : Option LongRefusal) → (room < count → verdict ≡ Some why) → (count ≤ room → verdict ≡ None) → result ≡ then_some (nat_lt room count) why → result ≡ verdict
 some_or_none room count why result verdict more all is =
     elim (cases_Bool (nat_lt room count)) [
@@ -71,14 +71,14 @@ some_or_none room count why result verdict more all is =
       | inr few ↦ is ∙ ap (λ b. then_some b why) few ∙ sym (all (ltb-false room count few))
     ]
 
--- what pushes are answered where the edits run out first, or together with the indices
+-- what pushes are answered if the edits run out first, or together with the indices
 pub worn_or_none : (s : SeriesState) (xs : List ℤ) (size : ℕ) (result : Option LongRefusal) → s.edits ≤ 18446744073709551615 → size ≡ size_of s.held → size ≤ 2 ^ 62 → 18446744073709551615 - s.edits ≤ 2 ^ 62 - size → result ≡ then_some (nat_lt (18446744073709551615 - s.edits) (length xs)) Worn → result ≡ verdict_of_edits s (pushes_of xs)
 worn_or_none s xs size result edits size_is few first is =
     let worn : (t : SeriesState) (x : ℤ) → t.edits ≡ s.edits + (18446744073709551615 - s.edits) → size_of t.held ≡ size_of s.held + (18446744073709551615 - s.edits) → refused t (Push x) ≡ Some Worn = λ t x e _. cond-true _ _ _ (eq-eqb t.edits 18446744073709551615 (omega (arith, e, edits))) in
     some_or_none (18446744073709551615 - s.edits) (length xs) Worn result _ (λ more. stopped s xs (18446744073709551615 - s.edits) Worn more (omega (arith, edits)) (omega (arith, few, first, size_is)) worn)
     (λ most. all_free s xs (omega (arith, most, edits)) (omega (arith, most, first, few, size_is))) is
 
--- where the indices do
+-- if the indices do
 pub full_or_none : (s : SeriesState) (xs : List ℤ) (size : ℕ) (result : Option LongRefusal) → size ≡ size_of s.held → size ≤ 2 ^ 62 → 2 ^ 62 - size < 18446744073709551615 - s.edits → result ≡ then_some (nat_lt (2 ^ 62 - size) (length xs)) Full → result ≡ verdict_of_edits s (pushes_of xs)
 full_or_none s xs size result size_is few first is =
     let full : (t : SeriesState) (x : ℤ) → t.edits ≡ s.edits + (2 ^ 62 - size) → size_of t.held ≡ size_of s.held + (2 ^ 62 - size) → refused t (Push x) ≡ Some Full = λ t x e z. cond-false _ _ _ (ne_eqb t.edits 18446744073709551615 (λ same. omega (arith, same, e, first))) ∙ cond-false _ _ _ (le-ltb (size_of t.held) (2 ^ 62) (omega (arith, z, size_is, few))) in

@@ -139,7 +139,7 @@ module _ {B S : Type 0} (o : Operations S) (base first : ℕ) (xs : List ℤ) (w
           };
         }
 
-  -- without elements in front, of which whole blocks are removed
+  -- without the elements that expire in front; whole blocks of these are removed
   module _ (to : ℕ) (low : first ≤ to) (high : to ≤ 8 * base + length xs) where
     pub covers_expired : (whole : ℕ) → 8 * whole ≤ to - 8 * base → CoversBlocks o (base + whole) to (drop (8 * whole) xs) (record t { first = to / 8; sums = drop (to / 8 - t.first) t.sums })
     covers_expired whole past =

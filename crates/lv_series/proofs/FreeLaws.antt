@@ -8,7 +8,7 @@ use Rattle.lv_series.specs.declared.refusals.LongRefusal.TheVariants.{Worn, Empt
 use Rattle.lv_series.specs.Series.{Held, SeriesState, is_border, is_kept, range_refused, refused, refused_on, size_of}
 use Rattle.lv_series.proofs.KeptLaws.{border_inside, kept_inside}
 
--- where a refusal would come if a test passed, and none comes, the test fails; and the other way round
+-- if a refusal would come if a test passed, and none comes, the test fails; and the other way round
 none_at_false : {A : Type 0} (b : Bool) (x : A) → cond b (Some x) None ≡ None → b ≡ false
 none_at_false true x none = absurd (none-some x (sym none))
 none_at_false false x none = refl
@@ -37,7 +37,7 @@ free_pop h free = omega (arith, eqb-false (length h.elements) 0 (none_at_false (
 pub free_write : (h : Held) (i : ℕ) (x : ℤ) → refused_on h (Write i x) ≡ None → (h.first ≤ i) × (i < size_of h)
 free_write h i x free = kept_inside h i (none_at_true (is_kept h i) (OutOfRange h.first (size_of h)) free)
 
--- so are both of a swap
+-- both indices of a swap are kept
 pub free_swap : (h : Held) (i j : ℕ) → refused_on h (Swap i j) ≡ None → ((h.first ≤ i) × (i < size_of h)) × ((h.first ≤ j) × (j < size_of h))
 free_swap h i j free =
     let both = and_parts (is_kept h i) (is_kept h j) (none_at_true (is_kept h i && is_kept h j) (OutOfRange h.first (size_of h)) free) in

@@ -1,4 +1,4 @@
--- The tree of one kind, where it is kept, after the elements have changed.
+-- The tree of one kind, if it is kept, after the elements have changed.
 use Rattle.std.proofs.Common.{◌≡◌, ℕ, ℤ, ◌+◌, ◌-◌, ◌<◌, ◌≤◌, ◌⊎◌, inl, inr, nat_lt, Bool, true, false, if◌then◌else◌, List, [], ◌∷◌, ◌++◌, length, take, drop, slice_range, refl, sym, ap, ◌∙◌, arith, All}
 use Rattle.std.proofs.Math.Seq.{take-append_seam}
 use Rattle.std.proofs.lemmas.Bool.{cases_lt, false≢true, le-ltb, lt-ltb}
@@ -9,7 +9,7 @@ use Rattle.lv_geometry.specs.Elements.{IsElement}
 use Rattle.lv_edits.proofs.Slices.{length-slice_range}
 use Rattle.lv_series.specs.Blocks.{CoversBlocks, IsOver, Layered, with_leaf, without_last}
 
--- a range has elements where it ends past its beginning
+-- a range has elements if it ends past its beginning
 some_of : (n lo hi : ℕ) → n ≡ hi - lo → (lo < hi) ⊎ (hi ≤ lo) → nat_lt lo hi ≡ nat_lt 0 n
 some_of n lo hi is (inl apart) = lt-ltb lo hi apart ∙ sym (lt-ltb 0 n (omega (arith, is)))
 some_of n lo hi is (inr none) = le-ltb lo hi none ∙ sym (le-ltb 0 n (omega (arith, is)))
@@ -21,12 +21,12 @@ some_in_range xs lo hi order inside = some_of _ lo hi (length-slice_range xs lo 
 pub range_elements : (xs : List ℤ) (lo hi : ℕ) → All IsElement xs → All IsElement (slice_range xs lo hi)
 range_elements xs lo hi all = All-take IsElement (hi - lo) (drop lo xs) (All-drop IsElement lo xs all)
 
--- a tree that is changed only where it is kept
+-- a tree that is changed only if it is kept
 pub over_if : {B S : Type 0} (o : Operations S) (base first : ℕ) (xs : List ℤ) (k : Bool) (t u : Layered B S) → t.kept ≡ k → (k ≡ true → CoversBlocks o base first xs u) → IsOver o base first xs (if k then u else t)
 over_if o base first xs true t u is h = λ _. h refl
 over_if o base first xs false t u is h = λ kept. absurd (false≢true (sym is ∙ kept))
 
--- is kept where it was, by the same body
+-- is kept if it was, by the same body
 pub same_if : {B S : Type 0} (k : Bool) (t u : Layered B S) → u.kept ≡ t.kept → u.body ≡ t.body → ((if k then u else t).kept ≡ t.kept) × ((if k then u else t).body ≡ t.body)
 same_if true t u kept body = (kept, body)
 same_if false t u kept body = (refl, refl)

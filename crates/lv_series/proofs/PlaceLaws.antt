@@ -79,7 +79,7 @@ module _ (h : Held) (lo hi : ℕ) (free : range_refused h lo hi ≡ None) where
   pub none_in : slice_of h lo hi ≡ [] → lo ≡ hi
   none_in none = omega (arith, low, (free_range h lo hi free).0, empty_range h.elements (lo - h.first) (hi - h.first) order inside none)
 
-  -- the least element and the greatest, which a summary tells
+  -- the least element and the greatest, as a summary has them
   module _ (table : List (List ℕ)) (s : KindSummary) where
     module _ (is : s ≡ summary_by table kind.Least (slice_of h lo hi)) where
       pub no_least : None ≡ least_in s → lo ≡ hi

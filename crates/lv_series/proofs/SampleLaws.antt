@@ -1,4 +1,4 @@
--- What each edit does to samples in memory: a series of their values, and an array of times of which the first so many are not kept.
+-- How each edit changes samples in memory: a series of their values, and an array of times; so many times in front are not kept.
 use Rattle.std.proofs.Common.{◌≡◌, ℕ, ℤ, pos, ◌+◌, ◌-◌, ◌<◌, ◌≤◌, Bool, true, false, not, ◌&&◌, IsTrue, Option, Some, None, if◌then◌else◌, inl, inr, List, [], ◌∷◌, ◌++◌, length, take, drop, nat_eq, int_le, int_lt, refl, sym, ap, subst, ◌∙◌, arith, length-append, length-drop}
 use Rattle.std.proofs.Math.ListN.{get_or-append}
 use Rattle.std.proofs.Math.Seq.{get_or-append_seam}

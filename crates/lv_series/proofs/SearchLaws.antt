@@ -34,7 +34,7 @@ pub found_from : (sought : Sought) (xs : List ℤ) (a b k : ℕ) (back : Bool) �
 found_from sought xs a b k false f = omega (arith, f.after)
 found_from sought xs a b k true f = f.inside
 
--- what is found in one list is found in another, some places further on, where their slices are the same
+-- what is found in one list is found in another, some places further on, if their slices are the same
 module _ (sought : Sought) (xs ys : List ℤ) (p q : ℕ) (same : (i j k l : ℕ) → p ≤ i → p ≤ j → k + p ≡ i + q → l + p ≡ j + q → slice_range xs i j ≡ slice_range ys k l) (a b c d : ℕ) (low : p ≤ a) (order : a ≤ b) (from : c + p ≡ a + q) (to : d + p ≡ b + q) where
   pub found_there : (back : Bool) (k l : ℕ) → l + p ≡ k + q → Finds back sought xs a b (Some k) → Finds back sought ys c d (Some l)
   found_there false k l at f = record {

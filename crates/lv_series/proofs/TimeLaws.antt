@@ -46,7 +46,7 @@ module _ (times : List ℤ) (time : ℤ) where
     behind = λ k from inside. not_lt_on (time_at times mid) (time_at times k) time (rising.rises mid k from inside) not;
   }
 
-  -- where the two places are one, all times before it are before the time, and all others are not
+  -- if the two places are one, all times before it are before the time, and all others are not
   pub all_before : (low high : ℕ) → IsSought times time low high → All (λ t. int_lt t time ≡ true) (take low times)
   all_before low high sought k d inside =
       let short : k < low = omega (arith, length-take low times) in

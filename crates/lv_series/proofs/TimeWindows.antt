@@ -10,7 +10,7 @@ use Rattle.lv_series.specs.Samples.{IsWindowOf, SamplesState, count_before, is_a
 use Rattle.lv_series.proofs.TimeLaws.{time_at}
 
 module _ (counts : ℤ → Bool) where
-  -- of no values there are none; where no time counts there are none
+  -- of no values there are none; if no time counts there are none
   of_none : (ts : List ℤ) → values_where counts ts [] ≡ []
   of_none [] = refl
   of_none (t ∷ ts) = refl
@@ -22,7 +22,7 @@ module _ (counts : ℤ → Bool) where
       let not : counts t ≡ false = All-head (λ t. counts t ≡ false) t ts none in
       rw not (none_counts ts xs (All-tail (λ t. counts t ≡ false) t ts none))
 
-  -- where the first so many times count and no others do, they are the first so many values
+  -- if the first so many times count and no others do, they are the first so many values
   first_count : (n : ℕ) (ts xs : List ℤ) → length ts ≡ length xs → All (λ t. counts t ≡ true) (take n ts) → All (λ t. counts t ≡ false) (drop n ts) → values_where counts ts xs ≡ take n xs
   first_count zero ts xs same all none = none_counts ts xs none
   first_count (suc n) [] [] same all none = refl
@@ -41,7 +41,7 @@ module _ (counts : ℤ → Bool) where
       let not : counts t ≡ false = All-head (λ t. counts t ≡ false) t (take n ts) none in
       rw not (without_front n ts xs (All-tail (λ t. counts t ≡ false) t (take n ts) none))
 
-  -- so where exactly those between two places count, they are a slice
+  -- so if exactly those between two places count, they are a slice
   pub slice_is : (lo hi : ℕ) (ts xs : List ℤ) → lo ≤ hi → length ts ≡ length xs → All (λ t. counts t ≡ false) (take lo ts) → All (λ t. counts t ≡ true) (slice_range ts lo hi) → All (λ t. counts t ≡ false) (drop hi ts) → slice_range xs lo hi ≡ values_where counts ts xs
   slice_is lo hi ts xs order same before inside behind =
       let place : lo + (hi - lo) ≡ hi = omega arith in

@@ -54,7 +54,7 @@ keeps_each f keeps t = record {
       (keeps Automaton (List ℕ) (automaton_operations (table_in t)) t.states).0;
 }
 
--- what holds of each tree after it, where something held of each before
+-- what holds of each tree after it, if something held of each before
 holds_each : (P Q : Law) (f : Change) → Keeps f → ((B S : Type 0) (o : Operations S) (l : Layered B S) → P B S o l → Q B S o (f B S o l)) → (t : TreesState) → OfEach P t → OfEach Q (each f t)
 holds_each P Q f keeps step t h = record {
   sums = step Sum ℕ sum_operations t.sums h.sums;
@@ -68,7 +68,7 @@ holds_each P Q f keeps step t h = record {
 of_each : (P Q : Law) → ((B S : Type 0) (o : Operations S) (l : Layered B S) → P B S o l → Q B S o l) → (t : TreesState) → OfEach P t → OfEach Q t
 of_each P Q step t h = holds_each P Q (λ B S o l. l) (λ B S o l. (refl, refl)) step t h
 
--- a change where a tree is kept; it keeps which trees are kept, and by which body
+-- a change if a tree is kept; it keeps which trees are kept, and by which body
 abbrev where_kept : Change → Change
 where_kept f B S o l = if l.kept then f B S o l else l
 
@@ -129,7 +129,7 @@ module _ (base first : ℕ) (xs : List ℤ) (w : IsWindow base first xs) (t : Tr
       over_each (λ B S o l. record l { sums = take (base + kept / 8 - l.first) l.sums }) (λ B S o l. (refl, refl)) base first base first xs (take kept xs)
       (λ B S o l g. covers_cut o base first xs w l g kept low high) t h
 
-  -- without elements in front, of which whole blocks are removed
+  -- without the elements that expire in front; whole blocks of these are removed
   pub all_expired : (to : ℕ) → first ≤ to → to ≤ 8 * base + length xs → (whole : ℕ) → 8 * whole ≤ to - 8 * base → AreOver (base + whole) to (drop (8 * whole) xs) (from_blocks (to / 8) t)
   all_expired to low high whole past =
       over_each (λ B S o l. record l { first = to / 8; sums = drop (to / 8 - l.first) l.sums }) (λ B S o l. (refl, refl)) base first (base + whole) to xs (drop (8 * whole) xs)

@@ -36,7 +36,7 @@ writes_more h was next is xs k paired small made change =
 abbrev pub is_within : ℕ → ℕ → ℕ → Bool
 is_within first size i = nat_le first i && nat_lt i size
 
--- the refusal of the first write that is refused, where so many edits are left
+-- the refusal of the first write that is refused, if so many edits are left
 abbrev pub judged : ℕ → ℕ → ℕ → List ℕ → Option LongRefusal
 judged first size left [] = None
 judged first size left (i ∷ is) = if nat_eq left 0 then Some Worn else (if is_within first size i then judged first size (left - 1) is else Some (OutOfRange first size))
@@ -91,7 +91,7 @@ module _ (first size : ℕ) (is : List ℕ) (left k : ℕ) (small : k < length i
 pub judged_none : (first size left k : ℕ) (is : List ℕ) → length is ≤ k → judged first size left (drop k is) ≡ None
 judged_none first size left k is end = ap (judged first size left) (drop_all k is end)
 
--- where none is refused, edits are left for all
+-- if none is refused, edits are left for all
 pub judged_few : (first size left : ℕ) (is : List ℕ) → judged first size left is ≡ None → length is ≤ left
 judged_few first size left [] free = omega arith
 judged_few first size left (i ∷ is) free =

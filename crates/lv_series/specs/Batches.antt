@@ -1,4 +1,4 @@
--- Many edits at once, of which all are made or none: what they make of a series, and what they are answered.
+-- Many edits at once, either all made or none: how they change a series, and what the call returns.
 use Rattle.std.specs.Prelude.{◌≡◌, ℕ, ℤ, ◌+◌, Option, Some, None, Result, Ok, Err, List, [], ◌∷◌, length, map}
 use Rattle.lv_series.specs.declared.edits.LongEdit.{LongEdit}
 use Rattle.lv_series.specs.declared.edits.LongEdit.TheVariants.{Push, Write}
@@ -15,7 +15,7 @@ first_refusal (Some refusal) later = Some refusal
 abbrev pub with_edit : SeriesState → LongEdit → SeriesState
 with_edit s edit = record s { held = changed s.held edit; edits = s.edits + 1 }
 
--- the refusal of the first edit that is refused, of edits one after another, out of memory apart; none where all are accepted
+-- the refusal of the first edit that is refused, of edits one after another, except for out of memory; none if all are accepted
 abbrev pub verdict_of_edits : SeriesState → List LongEdit → Option LongRefusal
 verdict_of_edits s [] = None
 verdict_of_edits s (edit ∷ edits) = first_refusal (refused s edit) (verdict_of_edits (with_edit s edit) edits)
@@ -26,7 +26,7 @@ pub record AcceptsEdits (old : SeriesState) (edits : List LongEdit) (edit : ℕ)
   pub edit_is : edit ≡ old.edits + length edits
   pub after : new ≡ after_edits old edits
 
--- they were refused, as the first of them that is refused, or because memory ran out where none is; nothing has changed
+-- they were refused, as the first of them that is refused, or, if none is, because memory ran out; nothing has changed
 pub record RefusesEdits (old : SeriesState) (edits : List LongEdit) (refusal : LongRefusal) (new : SeriesState) : Type 0 where
   pub why : IsRefusal (verdict_of_edits old edits) refusal
   pub same : new ≡ old

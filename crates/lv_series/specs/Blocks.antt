@@ -1,18 +1,18 @@
--- The elements of a series as they lie in memory, and the trees over their blocks of eight.
+-- The elements of a series in memory, and the trees over their blocks of eight.
 use Rattle.std.specs.Prelude.{◌≡◌, ℕ, ℤ, ◌+◌, ◌-◌, ◌*◌, ◌/◌, ◌^◌, ◌<◌, ◌≤◌, Bool, true, if◌then◌else◌, List, [], ◌∷◌, ◌++◌, length, take, drop, slice_set, All}
 use Rattle.lv_geometry.specs.Elements.{IsElement}
 use Rattle.lv_bodies.specs.Body.{Operations, fold_of}
 use Rattle.lv_tree.specs.Blocks.{AreLeaves}
 use Rattle.lv_tree.specs.Folds.{AreFolds}
 
--- a tree over blocks, where it is kept: the body, the number of the first block that has a leaf, and the summary of each in order
+-- a tree over blocks, which may be kept or not: the body, the number of the first block that has a leaf, and the summary of each in order
 pub record Layered (B S : Type 0) : Type 0 where
   pub body : B
   pub kept : Bool
   pub first : ℕ
   pub sums : List S
 
--- elements in memory, of which the first has the index 8 * base; those before `first` are gone
+-- elements in memory: the first has the index 8 * base, and those before `first` have expired
 pub record IsWindow (base first : ℕ) (elements : List ℤ) : Type 0 where
   pub low : 8 * base ≤ first
   pub high : first ≤ 8 * base + length elements
@@ -38,7 +38,7 @@ CoversBlocks o base first elements layer = CoversTo o base first (length element
 abbrev pub IsOver : {B S : Type 0} → Operations S → ℕ → ℕ → List ℤ → Layered B S → Type 0
 IsOver o base first elements layer = layer.kept ≡ true → CoversBlocks o base first elements layer
 
--- a tree with one leaf more at its end, or with another in the place of one; where it isn't kept it stays
+-- a tree with one leaf more at its end, or with another in the place of one; if it isn't kept, it is unchanged
 abbrev pub with_leaf : {B S : Type 0} → S → Layered B S → Layered B S
 with_leaf s layer = if layer.kept then record layer { sums = layer.sums ++ s ∷ [] } else layer
 
@@ -70,7 +70,7 @@ pub record ReachesTo {B S : Type 0} (block : ℕ) (layer : Layered B S) : Type 0
   pub low : layer.first ≤ block
   pub high : block ≤ layer.first + length layer.sums
 
--- the same where the tree is kept
+-- if the tree is kept, the leaf of a block may be added to it, or may replace one
 abbrev pub CanGrow : {B S : Type 0} → Operations S → List ℤ → Layered B S → Type 0
 CanGrow o block layer = layer.kept ≡ true → TakesLeaf o (fold_of o block) layer
 

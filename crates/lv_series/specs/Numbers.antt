@@ -14,7 +14,7 @@ number_of Full = 5
 number_of NoMemory = 6
 number_of BadRange = 7
 
--- that of a refusal of samples
+-- the number of a refusal of samples
 abbrev pub sample_number_of : SampleRefusal → ℕ
 sample_number_of (Refused refusal) = number_of refusal
 sample_number_of (Earlier newest) = 21

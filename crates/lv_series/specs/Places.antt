@@ -1,5 +1,5 @@
--- Where in a range of a series something stands, and what a search for it answers. Indices are those under which the series keeps its
--- elements, and the end of a range is excluded.
+-- Positions in a range of a series, and what a search for one answers. Indices are those under which the series keeps its elements, and the end
+-- of a range is excluded.
 use Rattle.std.specs.Prelude.{◌≡◌, ℕ, ℤ, ◌+◌, ◌-◌, ◌≤◌, Bool, true, false, Option, Some, None, Result, Ok, Err, List}
 use Rattle.lv_bodies.specs.declared.kinds.Kind.{Kind}
 use Rattle.lv_tree.specs.Searches.{FindsEnd, FindsStart}
@@ -11,27 +11,27 @@ use Rattle.lv_series.specs.declared.places.LongRun.{LongRun}
 use Rattle.lv_series.specs.declared.refusals.LongRefusal.{LongRefusal}
 use Rattle.lv_series.specs.Series.{Held, RefusesAsked, SeriesState, keeps_kind, range_refused, with_kind}
 
--- what is true of a place in the list of the kept elements, counted from the first of them, where an index is given; or of none
+-- a statement about a place in the list of the kept elements, counted from the first of them, made about an index, or about none
 abbrev pub IsAtIndex : Held → (Option ℕ → Type 0) → Option ℕ → Type 0
 IsAtIndex h is_place None = is_place None
 IsAtIndex h is_place (Some i) = (h.first ≤ i) × is_place (Some (i - h.first))
 
--- the first, or the last, index of a range whose element is within a bound; none where no element of the range is
+-- the first, or the last, index of a range whose element is within a bound; none if no element of the range is
 abbrev pub IsFirstIndexIn : Bound → Held → ℕ → ℕ → Option ℕ → Type 0
 IsFirstIndexIn bound h lo hi index = IsAtIndex h (IsFirstIndex bound h.elements (lo - h.first) (hi - h.first)) index
 
 abbrev pub IsLastIndexIn : Bound → Held → ℕ → ℕ → Option ℕ → Type 0
 IsLastIndexIn bound h lo hi index = IsAtIndex h (IsLastIndex bound h.elements (lo - h.first) (hi - h.first)) index
 
--- the least end up to which the elements from lo on add up to a sum at least, or the greatest start from which on those up to hi do; none
--- where there is no such end, or start
+-- the least end up to which the elements from lo on add up to a sum at least, or the greatest start from which on those up to hi do; none if
+-- there is no such end, or start
 abbrev pub IsEndReachedIn : ℤ → Held → ℕ → ℕ → Option ℕ → Type 0
 IsEndReachedIn sum h lo hi end = IsAtIndex h (IsEndReached h.elements (lo - h.first) (hi - h.first) sum) end
 
 abbrev pub IsStartReachedIn : ℤ → Held → ℕ → ℕ → Option ℕ → Type 0
 IsStartReachedIn sum h lo hi start = IsAtIndex h (IsStartReached h.elements (lo - h.first) (hi - h.first) sum) start
 
--- where the first least, the first greatest and the best run of a range stand; none where there are no elements
+-- the position of the first least element, of the first greatest one and of the best run of a range, or none if the range is empty
 abbrev pub IsPlaceOfLeastIn : Held → ℕ → ℕ → Option LongPlaced → Type 0
 IsPlaceOfLeastIn h lo hi None = lo ≡ hi
 IsPlaceOfLeastIn h lo hi (Some p) = (h.first ≤ p.index) × IsFirstLeast h.elements (lo - h.first) (hi - h.first) (p.index - h.first) p.value
@@ -44,8 +44,8 @@ abbrev pub IsPlaceOfBestIn : Held → ℕ → ℕ → Option LongRun → Type 0
 IsPlaceOfBestIn h lo hi None = lo ≡ hi
 IsPlaceOfBestIn h lo hi (Some r) = (h.first ≤ r.from) × IsBestRun h.elements (lo - h.first) (hi - h.first) (r.from - h.first) (r.to - h.first) r.sum
 
--- the end at which a range comes to have what is sought, or the start where it is looked for from the end back; none where all of it has
--- nothing of that
+-- the end at which a range comes to have what is sought, or the start, if it is looked for from the end back; none if the whole range has nothing
+-- of that
 abbrev pub Finds : Bool → Sought → List ℤ → ℕ → ℕ → Option ℕ → Type 0
 Finds false sought xs lo hi place = FindsEnd sought xs lo hi place
 Finds true sought xs lo hi place = FindsStart sought xs lo hi place

@@ -40,7 +40,7 @@ keeps_kind k kind.Best = k.best
 keeps_kind k kind.Affine = k.affine
 keeps_kind k kind.Automaton = k.automaton
 
--- the same with one kind more
+-- the kinds that have a tree, with one kind more
 abbrev pub with_kind : Kind → KeptKinds → KeptKinds
 with_kind kind.Sum k = record k { sum = true }
 with_kind kind.Least k = record k { least = true }
@@ -110,7 +110,7 @@ module _ {S : Type 0} (o : Operations S) (s : SeriesState) (lo hi : ℕ) where
     pub count : scan.count ≡ min (length old) (hi - lo)
     pub values : new ≡ running_folds inclusive o before (slice_of s.held lo (lo + scan.count)) ++ drop scan.count old
 
--- a call on a series: for edits, of which all were accepted or none; or for the tree of a kind
+-- a call on a series: for edits, which are all accepted or all refused; or for the tree of a kind
 pub data Called : Type 0 where
   edited : List LongEdit → Bool → Called
   prepared : Kind → Called
@@ -134,7 +134,7 @@ abbrev pub accepted_in : List Called → List LongEdit
 accepted_in [] = []
 accepted_in (call ∷ others) = accepted_by call ++ accepted_in others
 
--- what some edits make of a series without elements, of which no kind has a tree
+-- a series that begins without elements and without trees, after some edits
 abbrev pub plain_series : List (List ℕ) → List LongEdit → SeriesState
 plain_series table edits = after_edits (record { table = table; kinds = no_kinds; held = record { first = 0; elements = [] }; edits = 0 }) edits
 

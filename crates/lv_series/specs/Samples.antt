@@ -41,11 +41,11 @@ is_between since until t = int_le since t && int_lt t until
 abbrev pub is_among_last : ℤ → ℕ → ℤ → Bool
 is_among_last newest span t = int_lt (newest -ℤ pos span) t
 
--- the time of the last sample; 0 where there is none
+-- the time of the last sample; 0 if there is none
 abbrev pub newest_of : List ℤ → ℤ
 newest_of times = slice_index_or times (length times - 1) (pos 0)
 
--- the same, or none
+-- the time of the last sample, or none if there are no samples
 abbrev pub newest_in : List ℤ → Option ℤ
 newest_in times = if nat_eq (length times) 0 then None else Some (newest_of times)
 
@@ -90,7 +90,7 @@ abbrev pub refused_or : Option LongRefusal → Option SampleRefusal → Option S
 refused_or (Some r) other = Some (Refused r)
 refused_or None other = other
 
--- why an edit is refused, out of memory apart: as the series of values refuses it, or else because it is earlier than the last sample
+-- why an edit is refused, except for out of memory: as the series of values refuses it, or else because it is earlier than the last sample
 abbrev pub sample_refused : SamplesState → SampleEdit → Option SampleRefusal
 sample_refused s e = refused_or (refused s.series (value_edit e)) (earlier_refusal s.times e)
 
@@ -140,7 +140,7 @@ pub record IsSampleValue (s : SamplesState) (k : Kind) (counts : ℤ → Bool) (
   pub edit : answer.edit ≡ s.series.edits
   pub value : answer.value ≡ summary_by s.series.table k (values_in s counts)
 
--- the same between two times, or that the second one is before the first
+-- the answer by a kind over the window between two times, or that the second one is before the first
 abbrev pub AnswersValue : SamplesState → Kind → ℤ → ℤ → Result (LongAnswer KindSummary) LongRefusal → Type 0
 AnswersValue s k since until (Ok answer) = (int_lt until since ≡ false) × IsSampleValue s k (is_between since until) answer
 AnswersValue s k since until (Err r) = (int_lt until since ≡ true) × (r ≡ refusal.BadRange)
@@ -166,11 +166,12 @@ accepted_samples [] = []
 accepted_samples (edited e accepted ∷ others) = (if accepted then e ∷ [] else []) ++ accepted_samples others
 accepted_samples (prepared k ∷ others) = accepted_samples others
 
--- what some edits make of no samples, of which no kind has a tree
+-- samples that begin empty and without trees, after some edits
 abbrev pub plain_samples : List (List ℕ) → List SampleEdit → SamplesState
 plain_samples table edits = fold with_sample_edit (record { series = plain_series table []; times = [] }) edits
 
--- whatever the calls on new samples, what is kept at the end, and each value over a window of time, is what the accepted edits alone make
+-- whatever the calls on new samples, what is kept at the end, and each value over a window of time, is what the accepted edits make without any
+-- other call
 pub record IsPlainSamples (table : List (List ℕ)) (calls : List SampleCalled) (s : SamplesState) : Type 0 where
   pub times : s.times ≡ (plain_samples table (accepted_samples calls)).times
   pub held : s.series.held ≡ (plain_samples table (accepted_samples calls)).series.held

@@ -1,4 +1,4 @@
--- What each call on a series answers: why an edit is refused, what an accepted one returns, and what is asked of a range.
+-- What each call on a series answers: why an edit is refused, what an accepted one returns, and the values of a range.
 use Rattle.std.specs.Prelude.{◌≡◌, ℕ, ℤ, pos, ◌+◌, ◌-◌, ◌*◌, ◌^◌, ◌≤◌, Bool, false, ◌&&◌, Option, Some, None, Result, Ok, Err, ◌⊎◌, List, drop, length, All, nat_le, nat_lt, nat_eq, if◌then◌else◌}
 use Rattle.std.specs.List.{slice_index_or}
 use Rattle.lv_geometry.specs.Elements.{IsElement}
@@ -15,7 +15,7 @@ use Rattle.lv_series.specs.declared.refusals.LongRefusal.{LongRefusal}
 use Rattle.lv_series.specs.declared.refusals.LongRefusal.TheVariants.{Worn, Empty, OutOfRange, Full, NoMemory}
 pub use Rattle.lv_series.specs.Plain.{Held, IsLongAnswer, IsLongScan, IsLongValue, SeriesState, changed, is_border, keeps_kind, range_refused, running_fold, running_folds, size_of, slice_of, with_kind}
 
--- what is kept of elements in memory, of which the first has the index 8 * base
+-- what is kept, if the first of the elements in memory has the index 8 * base
 abbrev pub held_in : ℕ → ℕ → List ℤ → Held
 held_in base first elements = record { first = first; elements = drop (first - 8 * base) elements }
 
@@ -46,15 +46,16 @@ pub record StandsBefore {S : Type 0} (o : Operations S) (before : S) (more : ℕ
   pub elements : All IsElement front
   pub few : length front + more ≤ 2 ^ 62
 
--- a refusal is the one that applies, or out of memory where none does
+-- a refusal is the one that applies, or `NoMemory` if none does
 abbrev pub IsRefusal : Option LongRefusal → LongRefusal → Type 0
 IsRefusal known refusal = (known ≡ Some refusal) ⊎ ((known ≡ None) × (refusal ≡ NoMemory))
 
--- the first refusal that applies to an edit, out of memory apart, or none: 2 ^ 64 - 1 edits are the most
+-- the first refusal that applies to an edit, except for out of memory, or none: 2 ^ 64 - 1 edits are the most
 abbrev pub refused : SeriesState → LongEdit → Option LongRefusal
 refused s edit = if nat_eq s.edits 18446744073709551615 then Some Worn else refused_on s.held edit
 
--- the receipt of an accepted edit: its number, and where, what was dropped, what was before, how many, or what is there now
+-- the receipt of an accepted edit: its number, and the index, the element dropped, the element before, how many were dropped, or what there is
+-- now
 abbrev pub receipt_of : SeriesState → LongEdit → LongReceipt
 receipt_of s (Push x) = Pushed (s.edits + 1) (size_of s.held)
 receipt_of s Pop = Popped (s.edits + 1) (element_of s.held (size_of s.held - 1))

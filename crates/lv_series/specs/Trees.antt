@@ -20,7 +20,7 @@ use Rattle.lv_series.specs.Blocks.{CanCut, CanGrow, CanRenew, IsOver, Layered, b
 use Rattle.lv_series.specs.Plain.{KeptKinds}
 use Rattle.lv_series.specs.declared.trees.Grown.{Grown}
 
--- the tree of each kind, where it is kept; those of the least, the greatest and the best run have bare summaries
+-- for each kind its tree, which may be kept or not; those of the least, the greatest and the best run have bare summaries
 pub record TreesState : Type 0 where
   pub sums : Layered Sum ℕ
   pub least : Layered (BareExtreme Upward) ℤ
@@ -74,7 +74,7 @@ each f t = some_changed all_grown f t
 abbrev pub AreOver : ℕ → ℕ → List ℤ → TreesState → Type 0
 AreOver base first elements t = OfEach (λ B S o layer. IsOver o base first elements layer) t
 
--- the same kinds have a tree, and the automaton is the same
+-- no kind gains or loses its tree, and the automaton is unchanged
 pub record KeepsKinds (old new : TreesState) : Type 0 where
   pub table : table_in new ≡ table_in old
   pub kinds : kinds_in new ≡ kinds_in old

@@ -3,7 +3,7 @@ ghost use Rattle.std.specs.Prelude.{◌≡◌, ⊤};
 
 use std::alloc::AllocError;
 
-/// The answer to a question about a range: the number of the last edit, and the value of the range's elements after it.
+/// The answer to a query of a range: the number of the last edit, and the value of the range's elements after it.
 #[derive(Copy, PartialEq, Eq)]
 pub struct LongAnswer<S> {
     pub edit: u64,

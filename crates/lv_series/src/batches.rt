@@ -22,7 +22,7 @@ impl Series {
         }
     }
 
-    /// Why pushes, one after another, would be refused, except for memory; none where all would be accepted.
+    /// Why pushes, one after another, would be refused, except for memory; none if all would be accepted.
     #[tactic(auto, using(crate::proofs::BatchLaws::full_or_none, crate::proofs::BatchLaws::worn_or_none, crate::proofs::KeptLaws::size_in))]
     pub fn verdict_of_pushes(&self, values: &[i64]) -> Option<LongRefusal>
         ensures { result ≡ verdict_of_edits self.now (pushes_of values.now) }
@@ -48,7 +48,7 @@ impl Series {
             None => Ok(self.make_writes(indices, values)),
         }
     }
-    /// Why writes, one after another, would be refused; none where all would be accepted.
+    /// Why writes, one after another, would be refused; none if all would be accepted.
     #[tactic(auto, using(crate::proofs::WriteLaws::judged_more, crate::proofs::WriteLaws::judged_none, crate::proofs::WriteLaws::judged_out, crate::proofs::WriteLaws::judged_worn, crate::proofs::WriteLaws::verdict_judged))]
     pub fn verdict_of_writes(&self, indices: &[u64], values: &[i64]) -> Option<LongRefusal>
         requires paired { length indices.now ≡ length values.now }
@@ -66,7 +66,7 @@ impl Series {
         None
     }
 
-    // Puts elements at the end, where nothing refuses that. Where memory runs out nothing has changed.
+    // Puts elements at the end, if nothing refuses that. If memory runs out, nothing has changed.
     #[tactic(auto, using(crate::proofs::BatchLaws::all_accepted, crate::proofs::BatchLaws::count_pushes, crate::proofs::BatchLaws::free_pushes, crate::proofs::BatchLaws::pushes_made, crate::proofs::KeptLaws::more_in, crate::proofs::KeptLaws::size_in))]
     fn make_pushes(&mut self, values: &[i64]) -> Result<u64, LongRefusal>
         requires { verdict_of_edits self.old (pushes_of values.now) ≡ None }
@@ -93,7 +93,7 @@ impl Series {
         Ok(self.edits)
     }
 
-    // Writes values under indices, where nothing refuses that.
+    // Writes values under indices, if nothing refuses that.
     #[tactic(auto, using(crate::proofs::BatchLaws::all_accepted, crate::proofs::WriteLaws::count_writes, crate::proofs::WriteLaws::judged_few, crate::proofs::WriteLaws::judged_kept, crate::proofs::WriteLaws::verdict_judged))]
     fn make_writes(&mut self, indices: &[u64], values: &[i64]) -> u64
         requires free { verdict_of_edits self.old (writes_at indices.now values.now) ≡ None }

@@ -10,8 +10,8 @@ use crate::windows::{add_element, is_wide, remove_and_shrink, set_element};
 /// How many elements a block has.
 pub const BLOCK: usize = 8;
 
-/// Adds an element at the end, and the leaf of its block where that is whole now. Where there is no memory nothing has changed, and it
-/// says so.
+/// Adds an element at the end, and the leaf of its block if that is whole now. If there is no memory, nothing has changed, and the result is
+/// false.
 #[tactic(auto, using(crate::proofs::WindowLaws::window_more))]
 #[inline(always)]
 pub fn push_into(elements: &mut Vec<i64>, trees: &mut Trees, base: u64, first: u64, x: i64) -> bool
@@ -109,9 +109,9 @@ pub fn cut(elements: &mut Vec<i64>, trees: &mut Trees, base: u64, first: u64, ke
     trees.truncate(base + (kept / BLOCK) as u64);
 }
 
-/// Drops the elements before an index, and the leaves of their blocks. Where those that are gone are a quarter of those that are left, whole
-/// blocks of them are removed, so that each that expires pays for four that move; and memory is given back, also that of the trees, where
-/// more than half of the elements' would be idle. Tells which block is first in memory then.
+/// Drops the elements before an index, and the leaves of their blocks. If those that are gone are a quarter of those that are left, whole blocks
+/// of them are removed, so that each that expires pays for four that move. Memory is given back, also that of the trees, if more than half of the
+/// elements' memory would be idle. Returns which block is first in memory then.
 #[tactic(auto, using(crate::proofs::WindowLaws::window_expired))]
 pub fn forget(elements: &mut Vec<i64>, trees: &mut Trees, base: u64, first: u64, to: u64) -> u64
     requires window { IsWindow base first elements.old.items }

@@ -152,9 +152,9 @@ impl Series {
         })
     }
 
-    /// Drops the elements before an index, and returns how many they were; the others keep their indices. O(1) amortised, and O(1) joins
-    /// for each tree. There is memory for at most twice the elements that are left, and 64, then: where the array gives memory back the
-    /// trees are made anew, and those for which there is no memory stay. Refused with `Worn`, then `OutOfRange`, and never for memory.
+    /// Drops the elements before an index, and returns how many they were; the others keep their indices. O(1) amortised, and O(1) joins for each
+    /// tree. There is memory for at most twice the elements that are left, and 64, then. If the array gives memory back, the trees are made anew,
+    /// and those for which there is no memory stay. Refused with `Worn`, then `OutOfRange`, and never for memory.
     #[tactic(auto, using(crate::proofs::KeptLaws::expire_in, crate::proofs::FreeLaws::free_cut, crate::proofs::FreeLaws::free_edit, crate::proofs::SeriesLaws::accepted))]
     pub fn expire(&mut self, index: u64) -> Result<LongReceipt, LongRefusal>
         ensures { Answers self.old (asked.Expire index) result self.new }

@@ -1,4 +1,4 @@
-//! The tree of one kind over the blocks of a series, where it is kept.
+//! The tree of one kind over the blocks of a series, if it is kept.
 ghost use Rattle.std.specs.Prelude.{◌≡◌, ◌+◌, ◌-◌, ◌*◌, ◌/◌, ◌^◌, ◌≤◌, [], true, false, if◌then◌else◌, length, All, IfSome};
 ghost use Rattle.std.specs.List.{slice_range};
 ghost use Rattle.lv_bodies.specs.Body.{fold_of};
@@ -15,7 +15,7 @@ use lv_tree::{
 use std::alloc::Global;
 use std::marker::Model;
 
-// A range of at most so many elements is folded where it is kept.
+// A range of at most so many elements is folded directly, without the tree.
 const FEW: usize = 64;
 
 /// A fold tree whose leaves are blocks of eight elements, or none.
@@ -60,8 +60,8 @@ impl<B: LongBody> Layer<B> {
         self.kept
     }
 
-    /// Adds the leaf of a block behind the others, where `before` says that this was done in the trees before. Where there is no memory
-    /// nothing has changed, and it says so.
+    /// Adds the leaf of a block behind the others, if `before` says that this was done in the trees before. If there is no memory, nothing has
+    /// changed, and the result is false.
     #[inline(always)]
     pub fn grow(&mut self, block: &[i64], before: bool) -> bool
         requires eight { length block.now ≡ 8 }
@@ -80,7 +80,7 @@ impl<B: LongBody> Layer<B> {
         self.tree.push(sum).is_ok()
     }
 
-    /// Takes the last leaf away again, where it has `grown` by one.
+    /// Takes the last leaf away again, if the tree has `grown` by one.
     #[inline(always)]
     pub fn take_back(&mut self, grown: bool)
         ensures { self.new ≡ (if grown then without_last self.old else self.old) }
@@ -127,8 +127,8 @@ impl<B: LongBody> Layer<B> {
         }
     }
 
-    /// Makes the tree, with a leaf for each block that is whole, where there is none. Where there is no memory nothing has changed, and it
-    /// says so.
+    /// Makes the tree, with a leaf for each block that is whole, if there is none. If there is no memory, nothing has changed, and the result is
+    /// false.
     #[inline(always)]
     pub fn make(&mut self, elements: &Vec<i64>, base: u64, first: u64) -> bool
         requires window { IsWindow base first elements.now.items }
@@ -142,7 +142,8 @@ impl<B: LongBody> Layer<B> {
         self.kept || self.make_anew(elements, base, first)
     }
 
-    // The same, whether there is a tree or not: the new one has no memory for blocks that are gone.
+    // Makes the tree anew, whether there is one or not, with a leaf for each block that is whole. The new tree has no memory for blocks that have
+    // expired. If there is no memory, nothing has changed, and the result is false.
     fn make_anew(&mut self, elements: &Vec<i64>, base: u64, first: u64) -> bool
         requires window { IsWindow base first elements.now.items }
         requires over { IsOver (B.operations self.old.body) base first elements.now.items self.old }
@@ -168,7 +169,7 @@ impl<B: LongBody> Layer<B> {
         }
     }
 
-    /// Gives the memory of blocks that are gone back, where the tree is kept: it is made anew. It stays where there is no memory for that.
+    /// Gives the memory of blocks that are gone back, if the tree is kept: it is made anew. It stays if there is no memory for that.
     pub fn shrink(&mut self, elements: &Vec<i64>, base: u64, first: u64)
         requires window { IsWindow base first elements.now.items }
         requires over { IsOver (B.operations self.old.body) base first elements.now.items self.old }
@@ -181,7 +182,7 @@ impl<B: LongBody> Layer<B> {
         }
     }
 
-    /// The fold of the elements from a place up to another: by the tree, where it is kept, or else over the range.
+    /// The fold of the elements from a place up to another: by the tree, if it is kept, or else over the range.
     #[inline(always)]
     pub fn fold(&self, elements: &[i64], base: u64, first: u64, from: usize, to: usize) -> B::S
         requires window { IsWindow base first elements.now }
@@ -200,7 +201,8 @@ impl<B: LongBody> Layer<B> {
         fold_range(self.tree.tree(), &items, from - gone, to - gone)
     }
 
-    /// The same, where a long range's whole blocks are remembered until others are asked for.
+    /// The fold of the elements from a place up to another, as `fold` gives it. The whole blocks of a long range are remembered until others are
+    /// asked for.
     #[inline(always)]
     pub fn ask(&mut self, elements: &[i64], base: u64, first: u64, from: usize, to: usize) -> B::S
         requires window { IsWindow base first elements.now }
@@ -332,7 +334,7 @@ fn gone_before(base: u64, first: u64) -> usize
     BLOCK * (first / BLOCK as u64 - base) as usize
 }
 
-// A tree with a leaf for each block that is whole, from that of `first` on; none where there is no memory.
+// A tree with a leaf for each block that is whole, from that of `first` on; none if there is no memory.
 fn grown_over<B: LongBody>(
     alloc: Global,
     body: &B,

@@ -1,4 +1,4 @@
-//! A series: a list that goes on. Its elements and edits are bounded by memory only, and elements at its front may expire.
+//! A series: a list that goes on. In practice its elements and edits are bounded by memory only, and elements at its front may expire.
 //!
 //! The elements are in one array, each under an index of 64 bits that it keeps for as long as it is kept. For each of the six kinds that is
 //! asked for there is a fold tree over blocks of eight elements, which every edit brings up to date at once. So a value of a range takes

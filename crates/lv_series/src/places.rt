@@ -1,8 +1,8 @@
-//! Searches in a series: where the least, the greatest and the best run of a range stand, where an element within a bound stands, and where a
-//! sum from its start on, or up to its end, is reached.
+//! Searches for a position in a range of a series: that of the least and the greatest element, of the best run, and of an element within a bound,
+//! and the index at which a sum from the range's start on, or up to its end, is reached.
 //!
-//! Each answer is stated of the plain list of the elements that are kept. A search makes the tree of one kind first, where there is none, and
-//! asks it for the place at which a test on folds becomes true: this takes O(log n) joins. It changes no element.
+//! Each answer is stated in terms of the plain list of the elements that are kept. A search first makes the tree of one kind, if there is none,
+//! and asks it for the place at which a test on folds becomes true: this takes O(log n) joins. It changes no element.
 ghost use Rattle.std.specs.Prelude.{◌≡◌, false, IfSome};
 ghost use Rattle.lv_bodies.specs.declared.kinds.Kind.TheVariants as kind;
 ghost use Rattle.lv_series.specs.Places.{FindsIn, IsEndReachedIn, IsFirstIndexIn, IsLastIndexIn, IsPlaceOfBestIn, IsPlaceOfGreatestIn, IsPlaceOfLeastIn, IsSearchable, IsStartReachedIn, Searches, end_of};
@@ -16,7 +16,7 @@ use crate::series::Series;
 use lv_bodies::Kind;
 use lv_tree::{Bound, KindSummary, Sought, best_of, greatest_of, least_of};
 
-/// An element, and the index at which it stands.
+/// An element with its index.
 #[derive(Clone, Copy, PartialEq, Eq)]
 pub struct LongPlaced {
     pub index: u64,
@@ -32,9 +32,9 @@ pub struct LongRun {
 }
 
 impl Series {
-    /// The first index from `lo` up to `hi` whose element is within a bound, or none. An element that is at least so great is asked of the
-    /// kind of the greatest, and one that is at most so great of the least: that kind's tree is made first, where there is none. Refused
-    /// with `BadRange`, then `OutOfRange`, then `NoMemory`: nothing has changed then.
+    /// The first index from `lo` up to `hi` whose element is within a bound, or none. A lower bound uses the tree of the kind `Greatest`, and an
+    /// upper bound that of `Least`. That tree is made first, if there is none. Refused with `BadRange`, then `OutOfRange`, then `NoMemory`:
+    /// nothing has changed then.
     pub fn first_index(
         &mut self,
         bound: Bound,
@@ -49,7 +49,7 @@ impl Series {
         }
     }
 
-    /// The same of a range that `prepare_for` the kind let pass. Takes no memory, changes nothing.
+    /// What `first_index` answers, of a range that `prepare_for` has accepted for the kind. Takes no memory, changes nothing.
     #[inline(always)]
     pub fn first_inside(&self, bound: Bound, lo: u64, hi: u64) -> Option<u64>
         requires { IsSearchable self.now (kind_within bound) lo hi }
@@ -71,7 +71,7 @@ impl Series {
         }
     }
 
-    /// The same of a range that `prepare_for` the kind let pass. Takes no memory, changes nothing.
+    /// What `last_index` answers, of a range that `prepare_for` has accepted for the kind. Takes no memory, changes nothing.
     #[inline(always)]
     pub fn last_inside(&self, bound: Bound, lo: u64, hi: u64) -> Option<u64>
         requires { IsSearchable self.now (kind_within bound) lo hi }
@@ -81,7 +81,7 @@ impl Series {
     }
 
     /// The least end, from `lo` to `hi`, up to which the elements from index `lo` on add up to `sum` at least, or none. Elements may be
-    /// negative, and no sum wraps. It is asked of the kind of the best run, and refused as `first_index` is.
+    /// negative, and no sum wraps. It uses the tree of the kind `Best`, and is refused as `first_index` is.
     pub fn reaches(&mut self, lo: u64, hi: u64, sum: i128) -> Result<Option<u64>, LongRefusal>
         ensures { Searches (IsEndReachedIn sum) self.old kind.Best lo hi result self.new }
     {
@@ -91,7 +91,7 @@ impl Series {
         }
     }
 
-    /// The same of a range that `prepare_for` the kind let pass. Takes no memory, changes nothing.
+    /// What `reaches` answers, of a range that `prepare_for` has accepted for the kind. Takes no memory, changes nothing.
     #[tactic(auto, using(crate::proofs::PlaceLaws::end_reached_in))]
     #[inline(always)]
     pub fn end_inside(&self, lo: u64, hi: u64, sum: i128) -> Option<u64>
@@ -104,8 +104,8 @@ impl Series {
         self.find(Sought::Beginning(sum), lo, hi, false)
     }
 
-    /// The greatest start, from `hi` down to `lo`, from which on the elements up to `hi` add up to `sum` at least, or none. It is `hi` itself
-    /// where `sum` is 0 or less. It is asked of the kind of the best run, and refused as `first_index` is.
+    /// The greatest start, from `hi` down to `lo`, from which on the elements up to `hi` add up to `sum` at least, or none. It is `hi` itself if
+    /// `sum` is 0 or less. It uses the tree of the kind `Best`, and is refused as `first_index` is.
     pub fn reaches_back(&mut self, lo: u64, hi: u64, sum: i128) -> Result<Option<u64>, LongRefusal>
         ensures { Searches (IsStartReachedIn sum) self.old kind.Best lo hi result self.new }
     {
@@ -115,7 +115,7 @@ impl Series {
         }
     }
 
-    /// The same of a range that `prepare_for` the kind let pass. Takes no memory, changes nothing.
+    /// What `reaches_back` answers, of a range that `prepare_for` has accepted for the kind. Takes no memory, changes nothing.
     #[tactic(auto, using(crate::proofs::PlaceLaws::start_reached_in))]
     #[inline(always)]
     pub fn start_inside(&self, lo: u64, hi: u64, sum: i128) -> Option<u64>
@@ -128,8 +128,8 @@ impl Series {
         self.find(Sought::Ending(sum), lo, hi, true)
     }
 
-    /// The first of the least elements from index `lo` up to `hi`, and where it stands; none where there are no elements. It is asked of the
-    /// kind of the least, and refused as `first_index` is.
+    /// The first of the least elements from index `lo` up to `hi`, with its index; none if there are no elements. It uses the tree of the kind
+    /// `Least`, and is refused as `first_index` is.
     pub fn first_least(&mut self, lo: u64, hi: u64) -> Result<Option<LongPlaced>, LongRefusal>
         ensures { Searches IsPlaceOfLeastIn self.old kind.Least lo hi result self.new }
     {
@@ -139,7 +139,7 @@ impl Series {
         }
     }
 
-    /// The same of a range that `prepare_for` the kind let pass. Takes no memory, changes nothing.
+    /// What `first_least` answers, of a range that `prepare_for` has accepted for the kind. Takes no memory, changes nothing.
     #[inline(always)]
     pub fn least_inside(&self, lo: u64, hi: u64) -> Option<LongPlaced>
         requires { IsSearchable self.now kind.Least lo hi }
@@ -151,8 +151,8 @@ impl Series {
         }
     }
 
-    /// The first of the greatest elements, and where it stands; none where there are no elements. It is asked of the kind of the greatest, and
-    /// refused as `first_index` is.
+    /// The first of the greatest elements from index `lo` up to `hi`, with its index; none if there are no elements. It uses the tree of the kind
+    /// `Greatest`, and is refused as `first_index` is.
     pub fn first_greatest(&mut self, lo: u64, hi: u64) -> Result<Option<LongPlaced>, LongRefusal>
         ensures { Searches IsPlaceOfGreatestIn self.old kind.Greatest lo hi result self.new }
     {
@@ -162,7 +162,7 @@ impl Series {
         }
     }
 
-    /// The same of a range that `prepare_for` the kind let pass. Takes no memory, changes nothing.
+    /// What `first_greatest` answers, of a range that `prepare_for` has accepted for the kind. Takes no memory, changes nothing.
     #[inline(always)]
     pub fn greatest_inside(&self, lo: u64, hi: u64) -> Option<LongPlaced>
         requires { IsSearchable self.now kind.Greatest lo hi }
@@ -174,9 +174,9 @@ impl Series {
         }
     }
 
-    /// The best run from index `lo` up to `hi`: elements side by side, one at least, that add up to the most. Of several it is the one that
-    /// ends first, and of those the shortest. There is none where there are no elements. It is asked of the kind of the best run, and refused
-    /// as `first_index` is.
+    /// The best run from index `lo` up to `hi`: elements side by side, one at least, that add up to the most. Of several it is the one that ends
+    /// first, and of those the shortest. There is none if there are no elements. It uses the tree of the kind `Best`, and is refused as
+    /// `first_index` is.
     pub fn best_run(&mut self, lo: u64, hi: u64) -> Result<Option<LongRun>, LongRefusal>
         ensures { Searches IsPlaceOfBestIn self.old kind.Best lo hi result self.new }
     {
@@ -186,7 +186,7 @@ impl Series {
         }
     }
 
-    /// The same of a range that `prepare_for` the kind let pass. Takes no memory, changes nothing.
+    /// What `best_run` answers, of a range that `prepare_for` has accepted for the kind. Takes no memory, changes nothing.
     #[inline(always)]
     pub fn best_inside(&self, lo: u64, hi: u64) -> Option<LongRun>
         requires { IsSearchable self.now kind.Best lo hi }
@@ -205,7 +205,7 @@ impl Series {
         }
     }
 
-    // The first element of a range with which it comes to have what is sought, told as `value`; none where it never does.
+    // The first element of a range with which it comes to have what is sought, returned with the given `value`; none if it never does.
     #[inline(always)]
     fn first_placed(&self, sought: Sought, value: i64, lo: u64, hi: u64) -> Option<LongPlaced>
         requires { IsSearchable self.now (kind_for sought) lo hi }

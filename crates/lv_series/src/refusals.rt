@@ -9,7 +9,7 @@ pub enum LongRefusal {
     OutOfRange { first: u64, size: u64 },
     /// The last index there can be is taken, which is 2^62 - 1.
     Full,
-    /// Memory was wanted, and there was none.
+    /// Memory was needed, and there was none.
     NoMemory,
     /// A range whose start is past its end.
     BadRange,

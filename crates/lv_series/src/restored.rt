@@ -13,8 +13,8 @@ use lv_bodies::Automaton;
 use std::alloc::Global;
 
 impl Series {
-    /// The series that has these elements, the first of them under the index `first`, after so many edits. No kind has a tree. O(n). None
-    /// where there is no memory.
+    /// The series that has these elements, the first of them under the index `first`, after so many edits. No kind has a tree. O(n). None if
+    /// there is no memory.
     pub fn restored(
         alloc: Global,
         automaton: Automaton,
@@ -39,8 +39,8 @@ impl Series {
 }
 
 impl Samples {
-    /// The samples that have these values and times, the first of them under the index `first`, after so many edits. No kind has a tree.
-    /// O(n). None where there is no memory.
+    /// The samples that have these values and times, the first of them under the index `first`, after so many edits. No kind has a tree. O(n).
+    /// None if there is no memory.
     pub fn restored(
         alloc: Global,
         automaton: Automaton,
@@ -99,7 +99,7 @@ fn in_memory(alloc: Global, gone: usize, elements: &[i64]) -> Option<Vec<i64>>
     None
 }
 
-/// Says that each element has 64 bits. No step of it is left where it runs.
+/// Proves to the checker that each element has 64 bits. The loop computes nothing, so that no code is left of it.
 pub fn tell_elements(xs: &[i64])
     ensures { All IsElement xs.now }
 {

@@ -42,8 +42,8 @@ impl Samples {
         }
     }
 
-    /// Puts a sample at the end, and returns its index. O(1) amortised, and O(1) joins for each tree. Refused as `Series::push` is with
-    /// `Worn` and `Full`, then with `Earlier` where its time is before that of the last sample, then with `NoMemory`.
+    /// Puts a sample at the end, and returns its index. O(1) amortised, and O(1) joins for each tree. Refused as `Series::push` is with `Worn`
+    /// and `Full`, then with `Earlier` if its time is before that of the last sample, then with `NoMemory`.
     pub fn push(&mut self, time: i64, value: i64) -> Result<LongReceipt, SampleRefusal>
         ensures { AnswersSample self.old (asked.Push time value) result self.new }
     {
@@ -126,8 +126,8 @@ impl Samples {
         self.expire(index)
     }
 
-    /// Makes the tree of a kind over the values, where there is none: from then on a value by that kind takes O(log n) joins, and each
-    /// edit renews the tree. O(n). Refused with `NoMemory`, and nothing has changed then.
+    /// Makes the tree of a kind over the values, if there is none: from then on a value by that kind takes O(log n) joins, and each edit renews
+    /// the tree. O(n). Refused with `NoMemory`, and nothing has changed then.
     pub fn prepare(&mut self, kind: Kind) -> Result<(), LongRefusal>
         ensures ok { OnOk result (self.new ≡ record self.old { series = record self.old.series { kinds = with_kind kind self.old.series.kinds } }) }
         ensures same { OnErr result (self.new ≡ self.old) }
@@ -136,8 +136,8 @@ impl Samples {
         self.series.prepare(kind)
     }
 
-    /// Makes the tree of a kind for questions about the values from index `lo` up to `hi`, where there is none: that range of `series()` can
-    /// be searched by the kind then. Refused with `BadRange`, then `OutOfRange`, then `NoMemory`: nothing has changed then.
+    /// Makes the tree of a kind for queries of the values from index `lo` up to `hi`, if there is none: that range of `series()` can be searched
+    /// by the kind then. Refused with `BadRange`, then `OutOfRange`, then `NoMemory`: nothing has changed then.
     pub fn prepare_for(&mut self, kind: Kind, lo: u64, hi: u64) -> Result<(), LongRefusal>
         ensures searchable { OnOk result (IsSearchable self.new.series kind lo hi) }
         ensures ok { OnOk result (self.new ≡ record self.old { series = record self.old.series { kinds = with_kind kind self.old.series.kinds } }) }
@@ -147,8 +147,8 @@ impl Samples {
         self.series.prepare_for(kind, lo, hi)
     }
 
-    /// The summary by a kind of the values from index `lo` up to `hi`, with the number of the last edit: as a `Series` is asked. The kind's
-    /// tree is made first, where there is none. O(log n) joins then. Refused as `prepare_for` is.
+    /// The summary by a kind of the values from index `lo` up to `hi`, with the number of the last edit, as `Series::ask` gives it. The kind's
+    /// tree is made first, if there is none. O(log n) joins then. Refused as `prepare_for` is.
     #[inline(always)]
     pub fn ask(
         &mut self,

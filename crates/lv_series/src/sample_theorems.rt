@@ -5,9 +5,9 @@ ghost use Rattle.lv_series.specs.declared.receipts.LongReceipt.{LongReceipt};
 ghost use Rattle.lv_series.specs.declared.sample_edits.SampleEdit.{SampleEdit};
 ghost use Rattle.lv_series.specs.declared.sample_edits.SampleRefusal.{SampleRefusal};
 
-/// Whatever the calls on new samples, and whatever each was answered, out of memory included, the times, the values and each value over a
-/// window of time at the end are what the accepted edits alone make. Which kinds have a tree changes no answer. What each edit of samples
-/// ensures is a step of such a run.
+/// Whatever the calls on new samples, and whatever each was answered, out of memory included, the times, the values and each value over a window
+/// of time at the end are what the accepted edits make without any other call. Which kinds have a tree changes no answer. What each edit of
+/// samples ensures is a step of such a run.
 #[tactic(auto, using(crate::proofs::SamplePlainLaws::run_is_plain))]
 pub fn every_sample_answer_is_plain()
     ensures plain { (table : List (List ℕ)) (calls : List SampleCalled) (s : SamplesState) → SampleRun (plain_samples table []) calls s → IsPlainSamples table calls s }

@@ -24,8 +24,8 @@ impl Samples {
         self.series.first() + place_of(self.kept(), time) as u64
     }
 
-    /// The samples from time `since` up to `until`: one at `since` is among them, one at `until` isn't. O(log n). Refused with `BadRange`
-    /// where `until` is before `since`. Takes no memory.
+    /// The samples from time `since` up to `until`: one at `since` is among them, one at `until` isn't. O(log n). Refused with `BadRange` if
+    /// `until` is before `since`. Takes no memory.
     pub fn between(&self, since: i64, until: i64) -> Result<Window, LongRefusal>
         ensures { AnswersWindow self.now since until result }
     {
@@ -35,7 +35,7 @@ impl Samples {
         Ok(self.window(since, until))
     }
 
-    // The samples between two times, of which the second one isn't before the first.
+    // The samples between two times. The second one must not be before the first.
     fn window(&self, since: i64, until: i64) -> Window
         requires { int_lt until since ≡ false }
         ensures { IsWindowOf self.now (is_between since until) result.lo result.hi }
@@ -74,7 +74,8 @@ impl Samples {
         }
     }
 
-    /// The same of the values of the last `span` of time.
+    /// The summary by a kind of the values of the last `span` of time, as `last` has it, with the number of the last edit. Cost and memory are
+    /// those of `value`.
     pub fn value_of_last(&self, kind: Kind, span: u64) -> LongAnswer<KindSummary>
         ensures { IsSampleValue self.now kind (is_among_last (newest_of self.now.times) span) result }
     {

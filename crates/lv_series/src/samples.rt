@@ -1,4 +1,4 @@
-//! Samples: values with times that do not fall, and questions about windows of time.
+//! Samples: values with times that do not fall, and queries of windows of time.
 ghost use Rattle.std.specs.Prelude.{◌≡◌, [], All, IfErr, IfOk, None, Some, length};
 ghost use Rattle.lv_geometry.specs.Elements.{IsElement};
 ghost use Rattle.lv_bodies.specs.Automata.{table_of};
@@ -13,12 +13,12 @@ use lv_bodies::Automaton;
 use std::alloc::Global;
 use std::marker::Model;
 
-/// Samples in order of their times, each under an index of 64 bits. A sample takes 16 bytes, and at most 32 where the arrays have just
-/// grown; a tree of a kind takes as much as that of a `Series`. Times are `i64` in a unit of the caller's.
+/// Samples in order of their times, each under an index of 64 bits. A sample takes 16 bytes, and at most 32 when the arrays have just grown; a
+/// tree of a kind takes as much as that of a `Series`. Times are `i64` in a unit of the caller's.
 #[derive(Drop)]
 pub struct Samples {
     pub(crate) series: Series,
-    // The times in memory, of which the first `gone` belong to samples that expired.
+    // The times in memory. The first `gone` of them belong to samples that expired.
     pub(crate) times: Vec<i64>,
     pub(crate) gone: usize,
 }
@@ -60,7 +60,7 @@ impl Samples {
         &self.series
     }
 
-    /// What holds of all samples, for who saves them: a time for each value, in order, of 64 bits. Computes nothing.
+    /// What holds of all samples, for a caller who saves them: a time for each value, in order, of 64 bits. Computes nothing.
     pub fn holds(&self)
         ensures paired { length self.now.times ≡ length self.now.series.held.elements }
         ensures rising { IsRising self.now.times }
@@ -104,7 +104,7 @@ impl Samples {
         }
     }
 
-    /// The time of the last sample, or none where there is no sample.
+    /// The time of the last sample, or none if there is no sample.
     pub fn newest(&self) -> Option<i64>
         ensures { result ≡ newest_in self.now.times }
     {

@@ -26,7 +26,7 @@ impl Series {
         self.scan(body, true, before, lo, hi, into)
     }
 
-    /// The same, each without its own element.
+    /// The running folds of a range by a body, each without its own element. Everything else is as for `scan_inclusive`.
     pub fn scan_exclusive<B: LongBody>(
         &self,
         body: &B,

@@ -1,4 +1,4 @@
-//! Where a range of a series comes to have what a search looks for, by the tree of the kind by which it is looked for.
+//! The place at which a range of a series comes to have what a search looks for, by the tree of the search's kind.
 ghost use Rattle.std.specs.Prelude.{◌≡◌, ◌+◌, ◌*◌, ◌≤◌, true, length};
 ghost use Rattle.lv_series.specs.Blocks.{IsWindow};
 ghost use Rattle.lv_series.specs.Places.{Finds, FindsIn, IsSearchable};

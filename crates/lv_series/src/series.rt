@@ -13,11 +13,11 @@ use std::marker::Model;
 /// The most that an index behind the last element may be: 2^62.
 pub const MOST: u64 = 1 << 62;
 
-/// A list of `i64` that goes on: its elements and edits are bounded by memory only, and elements at its front may expire. Elements are
-/// kept under the indices from `first` up to `size`. An element takes 8 bytes of memory, and at most 16 where the array has just grown. A
-/// tree takes 2 bytes an element more (of the best run 16), and at most 6 (45) where it has grown or its window slides. Expired elements
-/// give their memory back: where more than half of the array would be idle it shrinks, and each tree is made anew over the elements that
-/// are left, if there is memory for that.
+/// A list of `i64` that goes on: in practice its elements and edits are bounded by memory only, since there are 2^62 indices and 2^64 - 1 edits.
+/// Elements at its front may expire. Elements are kept under the indices from `first` up to `size`. An element takes 8 bytes of memory, and at
+/// most 16 when the array has just grown. A tree takes 2 bytes an element more (of the best run 16), and at most 6 (45) when it has grown or its
+/// window slides. Expired elements give their memory back: if more than half of the array would be idle it shrinks, and each tree is made anew
+/// over the elements that are left, if there is memory for that.
 #[derive(Drop)]
 pub struct Series {
     // The block that is first in memory.
@@ -60,7 +60,7 @@ impl Series {
         }
     }
 
-    /// The index of the first element that is kept, or of the next one where none is.
+    /// The index of the first element that is kept, or of the next one if none is.
     #[inline(always)]
     pub fn first(&self) -> u64
         ensures { result ≡ self.now.held.first }
@@ -96,7 +96,7 @@ impl Series {
         self.elements.capacity()
     }
 
-    /// What holds of every series, for who goes on with a scan: each element has 64 bits, and no index is above 2^62. Computes nothing.
+    /// What holds of every series, for a caller who continues a scan: each element has 64 bits, and no index is above 2^62. Computes nothing.
     pub fn holds(&self)
         ensures elements { All IsElement self.now.held.elements }
         ensures few { size_of self.now.held ≤ 2 ^ 62 }

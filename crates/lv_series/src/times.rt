@@ -26,9 +26,9 @@ pub fn place_of(times: &[i64], time: i128) -> usize
     low
 }
 
-/// Gives memory back where the first `gone` times are not kept any more. Where those are a quarter of the ones that are left they are
-/// removed, so that each that expires pays for four that move; and where more than half of the memory would be idle it is given back.
-/// Returns how many of the times that are still in memory are not kept.
+/// Gives memory back when the first `gone` times are not kept any more. If those are a quarter of the ones that are left they are removed, so
+/// that each that expires pays for four that move; and if more than half of the memory would be idle it is given back. Returns how many of the
+/// times that are still in memory are not kept.
 pub fn forget_times(times: &mut Vec<i64>, gone: usize) -> usize
     requires { gone ≤ length times.old.items }
     ensures within { result ≤ length times.new.items }

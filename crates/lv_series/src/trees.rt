@@ -13,7 +13,7 @@ use lv_tree::{KindSummary, OfKind};
 use std::alloc::Global;
 use std::marker::Model;
 
-/// A tree for each kind, where it is kept.
+/// For each kind its tree, if it is kept.
 #[derive(Drop)]
 pub struct Trees {
     pub sums: Layer<Sum>,
@@ -60,7 +60,8 @@ impl Trees {
         }
     }
 
-    /// Adds the leaf of a block to each tree that is kept, behind the others. Where there is no memory nothing has changed, and it says so.
+    /// Adds the leaf of a block to each tree that is kept, behind the others. If there is no memory, nothing has changed, and the result is
+    /// false.
     #[tactic(auto, using(crate::proofs::TreeLaws::are_back))]
     #[inline(never)]
     pub fn grow(&mut self, block: &[i64]) -> bool
@@ -157,8 +158,8 @@ impl Trees {
         self.states.expire(block);
     }
 
-    /// Gives memory back where `wide` says that there is too much of it: each tree that is kept is made anew over the elements that are left,
-    /// where there is memory for that. O(n) then.
+    /// Gives memory back if `wide` says that there is too much of it: each tree that is kept is made anew over the elements that are left, if
+    /// there is memory for that. O(n) then.
     #[inline(never)]
     pub fn shrink(&mut self, elements: &Vec<i64>, base: u64, first: u64, wide: bool)
         requires window { IsWindow base first elements.now.items }
@@ -177,7 +178,7 @@ impl Trees {
         self.states.shrink(elements, base, first);
     }
 
-    /// Makes the tree of a kind, where there is none. O(n). Where there is no memory nothing has changed, and it says so.
+    /// Makes the tree of a kind, if there is none. O(n). If there is no memory, nothing has changed, and the result is false.
     #[inline(always)]
     pub fn make(&mut self, kind: Kind, elements: &Vec<i64>, base: u64, first: u64) -> bool
         requires window { IsWindow base first elements.now.items }
@@ -227,7 +228,8 @@ impl Trees {
         }
     }
 
-    /// The same, where a long range's whole blocks are remembered until others are asked for.
+    /// The summary by a kind of the elements from a place up to another. The whole blocks of a long range are remembered until others are asked
+    /// for.
     #[inline(always)]
     pub fn ask(
         &mut self,
@@ -280,7 +282,7 @@ fn value_by<K: OfKind>(
     K::tell(from < to, layer.fold(elements, base, first, from, to))
 }
 
-// The same, where whole blocks are remembered.
+// The summary by a kind of the elements from a place up to another, by that kind's layer, which remembers whole blocks.
 #[inline(always)]
 fn ask_by<K: OfKind>(
     layer: &mut Layer<K>,

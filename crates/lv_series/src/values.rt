@@ -10,8 +10,8 @@ use lv_bodies::{Kind, LongBody, fold_long};
 use lv_tree::KindSummary;
 
 impl Series {
-    /// Makes the tree of a kind, where there is none: from then on a value by that kind takes O(log n) joins, and each edit renews the
-    /// tree. O(n). Refused with `NoMemory`, and nothing has changed then.
+    /// Makes the tree of a kind, if there is none: from then on a value by that kind takes O(log n) joins, and each edit renews the tree. O(n).
+    /// Refused with `NoMemory`, and nothing has changed then.
     #[inline(always)]
     pub fn prepare(&mut self, kind: Kind) -> Result<(), LongRefusal>
         ensures ok { OnOk result (self.new ≡ record self.old { kinds = with_kind kind self.old.kinds }) }
@@ -56,9 +56,9 @@ impl Series {
         })
     }
 
-    /// The same, and makes the kind's tree first, where there is none. The tree remembers the whole blocks of eight elements that were asked
-    /// for last: as long as a range has just these, or some more behind them, it takes no joins for them. Refused as `value` is, then with
-    /// `NoMemory`: nothing has changed then.
+    /// Answers as `value` does, and first makes the kind's tree, if there is none. The tree remembers the whole blocks of eight elements that
+    /// were asked for last: as long as a range has just these, or some more behind them, it takes no joins for them. Refused as `value` is, then
+    /// with `NoMemory`; nothing has changed then.
     #[tactic(auto, using(crate::proofs::AskLaws::asks_after))]
     #[inline(always)]
     pub fn ask(
@@ -75,7 +75,7 @@ impl Series {
         }
     }
 
-    // The same of a range that is kept.
+    // The summary by a kind of a range that is kept, with the number of the last edit.
     #[tactic(auto, using(crate::proofs::KeptLaws::range_in, crate::proofs::FreeLaws::free_range))]
     #[inline(always)]
     fn asked(&mut self, kind: Kind, lo: u64, hi: u64) -> LongAnswer<KindSummary>
@@ -99,8 +99,8 @@ impl Series {
         }
     }
 
-    /// Makes the tree of a kind for questions about the elements from index `lo` up to `hi`, where there is none: the range can be searched
-    /// by that kind then. Refused as `ask` is.
+    /// Makes the tree of a kind for queries of the elements from index `lo` up to `hi`, if there is none: the range can be searched by that kind
+    /// then. Refused as `ask` is.
     #[inline(always)]
     pub fn prepare_for(&mut self, kind: Kind, lo: u64, hi: u64) -> Result<(), LongRefusal>
         ensures searchable { OnOk result (IsSearchable self.new kind lo hi) }

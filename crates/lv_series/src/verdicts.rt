@@ -7,7 +7,7 @@ use crate::refusals::LongRefusal;
 use crate::series::{MOST, Series};
 
 impl Series {
-    /// Why an edit would be refused, except for memory; none where it would be accepted.
+    /// Why an edit would be refused, except for memory; none if it would be accepted.
     #[inline(always)]
     pub fn verdict(&self, edit: &LongEdit) -> Option<LongRefusal>
         ensures { result ≡ refused self.now edit.now }
@@ -18,7 +18,7 @@ impl Series {
         self.verdict_on(edit)
     }
 
-    // The same, while edits are left.
+    // Why an edit would be refused, except for memory, while edits are left; none if it would be accepted.
     #[inline(always)]
     fn verdict_on(&self, edit: &LongEdit) -> Option<LongRefusal>
         ensures { result ≡ refused_on self.now.held edit.now }

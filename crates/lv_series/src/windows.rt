@@ -7,7 +7,7 @@ pub const MOST: usize = 1 << 59;
 /// How many elements more than twice those that are kept there may be room for.
 const SPARE: usize = 64;
 
-/// Adds an element at the end. Where there is no memory nothing has changed, and it says so.
+/// Adds an element at the end. If there is no memory, nothing has changed, and the result is false.
 #[inline(always)]
 pub fn add_element(elements: &mut Vec<i64>, x: i64) -> bool
     requires { length elements.old.items ≤ 2 ^ 59 }
@@ -37,7 +37,7 @@ fn remove_front(elements: &mut Vec<i64>, count: usize)
     elements.truncate(left);
 }
 
-/// Whether the memory of an array is more than twice what its elements need, where `gone` of them are not kept any more.
+/// Whether the memory of an array is more than twice what its elements need, if `gone` of them are not kept any more.
 #[inline(always)]
 pub fn is_wide(elements: &Vec<i64>, gone: usize) -> bool
     requires { gone ≤ length elements.now.items }
@@ -54,7 +54,7 @@ fn shrink(elements: &mut Vec<i64>)
     elements.shrink_to(wanted);
 }
 
-/// Removes elements at the front, and gives memory back where `wide` says that there is too much of it.
+/// Removes elements at the front, and gives memory back if `wide` says that there is too much of it.
 pub fn remove_and_shrink(elements: &mut Vec<i64>, count: usize, wide: bool)
     requires { count ≤ length elements.old.items }
     ensures { elements.new.items ≡ drop count elements.old.items }

@@ -1,4 +1,4 @@
--- What is so of subscribers beside sessions, from their beginning to the transcript.
+-- What holds of subscribers that run together with sessions, from their beginning to the transcript.
 use Rattle.std.proofs.Common.{◌≡◌, ℕ, Bool, suc, Option, Result, Ok, Err, IfOk, List, [], ◌∷◌, length, map, refl, sym, ap, subst, ◌∙◌}
 use Rattle.std.specs.Io.KnownBytes.{Appends}
 use Rattle.std.proofs.lemmas.List.Elements.{All-weaker}
@@ -17,7 +17,7 @@ use Rattle.lv_server.specs.Tasks.{AreAllHeld}
 use Rattle.lv_server.specs.Writing.{Writes}
 use Rattle.lv_server.proofs.ServedLaws.{begins}
 
--- sessions were held, by a share that has seen more
+-- sessions were run, and a share has seen more than they have
 pub held_more : (limits : Bounds) (numbers : LogHeading) (listing : Bool) (begun : List Edit) (share more : ShareState) (olds news : List Sides) (answers : List Claimed) → AreAllHeld limits numbers listing begun share olds news answers → more.count ≡ share.count → IsPrefix share.seen more.seen
     → AreAllHeld limits numbers listing begun more olds news answers
 held_more limits numbers listing begun share more olds news answers held count seen = record {
@@ -34,12 +34,12 @@ left_as_many : (numbers : LogHeading) (watchers : List WatcherState) → length 
 left_as_many numbers [] = refl
 left_as_many numbers (w ∷ watchers) = ap suc (left_as_many numbers watchers)
 
--- as many were taken back as began
+-- as many were taken back as were begun
 pub taken_as_many : (limits : Bounds) (numbers : LogHeading) (old new : ShareState) (begun watchers : List WatcherState) (left : List LeftState) → AreWatchedFrom limits numbers begun watchers → TakesWatchers numbers old new watchers left
     → length left ≡ length begun
 taken_as_many limits numbers old new begun watchers left are t = ap length t.left_are ∙ left_as_many numbers watchers ∙ are.len
 
--- what was told last is of the journal whose transcript was written, where nothing failed
+-- the last notifications are of the journal whose transcript was written, if nothing failed
 pub closes_telling : {F : Type 0} (share : ShareState) (seen history journal : List Edit) (listed : List Claimed) (left : List LeftState) (told : List NoticesState) (old new : Option (List ℕ))
     (written : Result (Unit {0}) Fault) (result : Result (Unit {0}) F) → journal ≡ history → IsPrefix share.seen seen → IsPrefix seen history → AllTellLast history left told
     → IfOk result (λ done. written ≡ Ok done) → Writes journal listed old new written → IfOk result (λ done. ClosesTelling share left told old new)

@@ -1,4 +1,4 @@
--- What was served from a log, once its hub is closed.
+-- Serving from a log, once its hub is closed.
 use Rattle.std.proofs.Common.{◌≡◌, ℕ, suc, ℤ, ◌+◌, ◌≤◌, Bool, true, false, is_ok, Option, Some, Result, Ok, Err, IfOk, IfSome, List, [], ◌∷◌, ◌++◌, All, drop, length, map, take, ap, ◌∙◌, subst, sym, refl, inl, inr, arith}
 use Rattle.std.specs.Prelude.{if◌then◌else◌, nat_eq}
 use Rattle.std.specs.Io.KnownBytes.{Appends}
@@ -37,9 +37,9 @@ use Rattle.lv_transcript.proofs.ContinuedLogs.{edits_of_edits}
 use Rattle.lv_server.proofs.PlainServedLaws.{held_plainly, made_so}
 use Rattle.lv_server.proofs.ServedLaws.{begins, if_some}
 
--- ---- what the last file has
+-- ---- the contents of the last file
 
--- what was written behind the edits of a log goes on with them
+-- what was written after the updates of a log continues them
 goes_on : (heading : LogHeading) (begun : List Edit) (log : Option LogThere) (start contents : Option (List ℕ)) (journal : List Edit) → log ≡ Some (log_of_edits heading begun) → WroteWhole log start contents journal → LogGoesOn begun journal start contents
 goes_on heading begun log start contents journal is whole =
     let w = subst (λ (log : Option LogThere). WroteWhole log start contents journal) is whole in
@@ -51,17 +51,17 @@ goes_on heading begun log start contents journal is whole =
       written = w.written;
     }
 
--- elements as the pushes of them are as many
+-- there are as many pushes as elements
 as_many_pushes : (elements : List ℤ) → length (map Push elements) ≡ length elements
 as_many_pushes [] = refl
 as_many_pushes (x ∷ elements) = ap suc (as_many_pushes elements)
 
--- and as entries they are those of their pushes
+-- the entries of elements are those of their pushes
 same_pushes : (elements : List ℤ) → map inl (map Push elements) ≡ pushes_of_elements elements
 same_pushes [] = refl
 same_pushes (x ∷ elements) = ap (λ (es : List Entry). pushed x ∷ es) (same_pushes elements)
 
--- what was written behind the elements of a log has all later edits
+-- what was written after the elements of a log has all later updates
 begun_anew : (heading : LogHeading) (edits : List Edit) (n : ℕ) (there : Option LogThere) (fresh begun contents : Option (List ℕ)) → n ≤ length edits → there ≡ Some (log_after heading n edits)
     → HasLog fresh (heading_after heading n edits) (list_of (take n edits)) begun → WroteWhole there begun contents (renewed_after n edits) → LogBegunAnew heading edits fresh contents
 begun_anew heading edits n there fresh begun contents some is has whole =
@@ -83,12 +83,12 @@ begun_anew heading edits n there fresh begun contents some is has whole =
       sound = subst (λ (es : List Entry). IsFrontOf (Some first) (front_bytes_of (Some first) es ++ ended (map entry_line w.entries)) (es ++ w.entries)) entries w.front;
     }
 
--- a hub that lasts is one whose vector may have as many edits as any
+-- a hub that lasts is one whose vector may have as many updates as any
 is_most : (limits served : Bounds) (same : Bool) → nat_eq limits.edits 16777215 ≡ same → served ≡ (if same then lasting limits else limits) → limits.edits ≤ 16777215 → served ≡ lasting served → limits.edits ≡ 16777215
 is_most limits served true most is few lasts = eqb-true limits.edits 16777215 most
 is_most limits served false most is few lasts = absurd (omega (arith, few, ap (λ (b : Bounds). b.edits) is, ap (λ (b : Bounds). b.edits) lasts))
 
--- the last file has all edits
+-- the last file has all updates
 has_all : (limits served : Bounds) (heading : LogHeading) (begun edits : List Edit) (log : Option LogThere) (fresh start contents : Option (List ℕ)) → served ≡ served_limits limits → limits.edits ≤ 16777215 → log ≡ Some (log_of_edits heading begun)
     → EndsInFile fresh served heading log start contents edits (Ok tt) → HasAllEdits limits heading begun edits fresh start contents
 unfolding list_of edited.replayed
@@ -103,7 +103,7 @@ has_all limits served heading begun edits log fresh start contents is few goes e
 
 -- ---- what was served
 
--- sessions and subscribers were served, where the hub was closed and all was written
+-- sessions and subscribers were served, if the hub was closed and all was written
 pub log_served : {V : Type 0} (fresh : Option (List ℕ)) (contents : V → Option (List ℕ)) (heading : LogHeading) (begun : List Edit) (log : Option LogThere) (start : Option (List ℕ)) (limits served : Bounds) (listing : Bool) (share : ShareState) (olds news : List Sides) (answers : List Claimed)
     (watches : List WatchState) (left : List LeftState) (told : List NoticesState) (file : Option V) → served ≡ served_limits limits → limits.edits ≤ 16777215 → log ≡ Some (log_of_edits heading begun)
     → AreAllHeld served heading listing begun share olds news answers → AreLeft heading share.seen watches left → ClosesLog fresh contents log start served heading share left told file
@@ -126,7 +126,7 @@ log_served fresh contents heading begun log start limits served listing share ol
 
 -- ---- how the hub is closed
 
--- a hub was closed by a share that has seen more
+-- a hub was closed with a share that has seen more
 pub closes_log : {V : Type 0} (fresh : Option (List ℕ)) (contents : V → Option (List ℕ)) (log : Option LogThere) (start : Option (List ℕ)) (limits : Bounds) (numbers : LogHeading) (share more : ShareState) (h : History) (edits : List Edit) (left : List LeftState) (told : List NoticesState) (file : Option V)
     (ended : Result (Unit {0}) Fault) → IsClosed limits edits h → more.count ≡ share.count → IsPrefix share.seen more.seen → IsPrefix more.seen edits → length edits ≡ more.count
     → AllTellLast edits left told → IfSome file (λ file. EndsInFile fresh limits numbers log start (contents file) edits ended) → IfOk ended (λ done. ClosesLog fresh contents log start limits numbers share left told file)
@@ -140,14 +140,14 @@ closes_log fresh contents log start limits numbers share more h edits left told 
   whole = ends;
 }
 
--- so it is told where it ended well
+-- a log's end that is reported as a success was one
 pub well_logged : {F : Type 0} (P : Type 0) (ended : Result (Unit {0}) Fault) (result : Result (Unit {0}) F) → IfOk result (λ done. ended ≡ Ok done) → IfOk ended (λ done. P) → IfOk result (λ done. P)
 well_logged P ended (Err failure) well holds = tt
 well_logged P ended (Ok done) well holds = subst (λ (r : Result (Unit {0}) Fault). IfOk r (λ done. P)) well holds
 
--- ---- what subscribers tell last
+-- ---- the last notifications of subscribers
 
--- they tell it once the log's end is recorded, and else nothing
+-- they are written once the log's end is recorded, and otherwise nothing is
 pub tells_once : {V : Type 0} (fresh : Option (List ℕ)) (contents : V → Option (List ℕ)) (log : Option LogThere) (start : Option (List ℕ)) (limits : Bounds) (numbers : LogHeading) (edits : List Edit) (left : List LeftState) (told : List NoticesState) (file : Option V)
     (ended : Result (Unit {0}) Fault) (is_recorded : Bool) → is_recorded ≡ is_ok ended → (is_recorded ≡ false → map (λ n. n.contents) told ≡ map (λ l. l.notices.contents) left)
     → AllTellLast edits left told → IfSome file (λ file. EndsInFile fresh limits numbers log start (contents file) edits ended) → TellsOnceRecorded fresh contents log start limits numbers left told file

@@ -1,4 +1,4 @@
--- Sessions that were served were served plainly.
+-- Sessions that were served satisfy the reference model.
 use Rattle.std.proofs.Common.{◌≡◌, ℕ, Bool, ◌+◌, Option, List, [], ◌∷◌, All, length, map, sum, refl, sym, ap, ◌∙◌, subst}
 use Rattle.std.specs.Io.KnownBytes.{Appends}
 use Rattle.std.specs.List.{sum_by}
@@ -16,13 +16,13 @@ use Rattle.lv_hub.proofs.PlainSessionLaws.{session_plain}
 use Rattle.lv_server.specs.PlainServed.{AreHeldPlainly, IsHeldPlainly, ServedPlainly}
 use Rattle.lv_server.specs.Served.{AreHeld, Served, Sides, counted_by, ended_well, new_session}
 
--- a conversation to the end of the lines: all were read, and answered in turn
+-- in a conversation to the end of the lines, all were read and answered in turn
 to_the_end : (limits : Bounds) (numbers : LogHeading) (begun : List Edit) (old new : Sides) (seen : Seen) → LinesServed (PlainSessionStep limits numbers) (kept_by (new_session begun)) seen old.lines new.lines old.replies new.replies ended_well → IsHeldPlainly limits numbers begun old new seen
 to_the_end limits numbers begun old new seen c =
     let (at_end, few, all) = c.ends in
     record { input = c.seen; read = c.read; at_end = at_end; few = few; text = all.text; answered = all.answered; written = all.written }
 
--- each session that was held was held plainly
+-- each session that was run satisfies the reference model
 pub held_plainly : (limits : Bounds) (numbers : LogHeading) (listing : Bool) (begun : List Edit) (olds news : List Sides) (states : List SessionState) → AreHeld limits numbers listing begun olds news states → AreHeldPlainly limits numbers begun olds news (map kept_by states)
 held_plainly limits numbers listing begun [] [] [] held = tt
 held_plainly limits numbers listing begun [] [] (s ∷ states) held = absurd held
@@ -32,7 +32,7 @@ held_plainly limits numbers listing begun (o ∷ olds) (n ∷ news) [] held = ab
 held_plainly limits numbers listing begun (o ∷ olds) (n ∷ news) (s ∷ states) held =
     (to_the_end limits numbers begun o n (kept_by s) (session_plain limits numbers listing (new_session begun) s o.lines n.lines o.replies n.replies ended_well held.0), held_plainly limits numbers listing begun olds news states held.1)
 
--- they made as many edits as they count
+-- they made as many updates as they count
 pub made_so : (states : List SessionState) → counted_by states ≡ sum_by (λ (seen : Seen). seen.made) (map kept_by states)
 made_so states =
     let made : Seen → ℕ = λ seen. seen.made in

@@ -1,4 +1,4 @@
--- What the file of a transcript has got, once all was written.
+-- The contents of a transcript's file, once all was written.
 use Rattle.std.proofs.Common.{◌≡◌, ℕ, None, Option, Result, Ok, Err, List, IfErr, IfOk, IfSome, sym, subst, ◌∙◌}
 use Rattle.std.specs.Prelude.{MatchResult}
 use Rattle.std.specs.Io.KnownBytes.{Appends}
@@ -15,13 +15,13 @@ use Rattle.lv_server.specs.Starting.{Records}
 use Rattle.lv_server.specs.Writing.{Writes}
 use Rattle.lv_server.proofs.ServedLaws.{if_some}
 
--- the log of a hub of one vector that ended well was written whole
+-- the log of a hub of one vector that ended well was written completely
 pub whole_so : {V : Type 0} (made : Option (List ℕ)) (contents : V → Option (List ℕ)) (limits : Bounds) (numbers : LogHeading) (log : Option LogThere) (start : Option (List ℕ)) (edits : List Edit) (file : Option V) (ended : Result Unit Fault) → IsOfOneVector limits
     → IfSome file (λ file. EndsInFile made limits numbers log start (contents file) edits ended) → IfOk ended (λ done. IfSome file (λ file. WroteWhole log start (contents file) edits))
 whole_so made contents limits numbers log start edits file (Ok done) one ends = if_some file (λ f ends. end_of_one made limits numbers log start (contents f) edits (Ok done) one ends) ends
 whole_so made contents limits numbers log start edits file (Err fault) one ends = tt
 
--- where neither the transcript nor its file failed, both have one journal
+-- if neither the transcript nor its file failed, both have one journal
 pub records_so : {V F : Type 0} (contents : V → Option (List ℕ)) (start : Option (List ℕ)) (history first second : List Edit) (listed : List Claimed) (old new : Option (List ℕ))
     (written ended : Result (Unit {0}) Fault) (result : Result (Unit {0}) F) (file : Option V) → first ≡ history → second ≡ history
     → IfOk result (λ done. written ≡ Ok done) → IfOk result (λ done. ended ≡ Ok done) → Writes first listed old new written

@@ -1,4 +1,4 @@
--- What is so of each session is so of all of them.
+-- What holds of each session holds of all of them.
 use Rattle.std.proofs.Common.{◌≡◌, ℕ, Bool, suc, Option, Some, None, Result, Ok, Err, OnOk, List, [], ◌∷◌, ◌++◌, All, IfErr, IfOk, IfSome, ◌⊎◌, length, map, refl, sym, ap, ◌∙◌, subst, arith, inl, inr, length-append, append-nil, append_assoc}
 use Rattle.std.specs.Prelude.{option_map, slice_index_or}
 use Rattle.std.specs.List.Sorted.{IsPermutation}
@@ -30,13 +30,13 @@ use Rattle.lv_server.specs.Tasks.{AreAllHeld, AreHeldFrom, IsHeldFrom, IsHeldOnc
 use Rattle.lv_server.specs.Writing.{FailsToClose, IsJournal, IsTextOf, Writes, WritesClosed}
 
 module _ (limits : Bounds) (numbers : LogHeading) (listing : Bool) where
-  -- a session that came to a state was held
+  -- a session that reached a state was run
   held_so : (begun ended : Sitting) (state : SessionState) → state_of ended ≡ Some state → IsHeldFrom limits numbers listing begun ended
       → LinesServed (SessionStep limits numbers listing) (session_at begun.share []) state begun.sides.lines ended.sides.lines begun.sides.replies ended.sides.replies ended_well
   held_so begun ended state is held =
       subst (λ (found : Option SessionState). IfSome found (λ state. LinesServed (SessionStep limits numbers listing) (session_at begun.share []) state begun.sides.lines ended.sides.lines begun.sides.replies ended.sides.replies ended_well)) is held
 
-  -- one that began to wait was held, or has come to no state
+  -- a session that waited at first was run, or has reached no state
   once_so : (begun : List Edit) (side : Sides) (e : Sitting) → IsHeldOnce limits numbers listing (begun_at begun side) e → IsHeldFrom limits numbers listing (begun_at begun side) e
   once_so begun side e held =
       elim held [
@@ -44,7 +44,7 @@ module _ (limits : Bounds) (numbers : LogHeading) (listing : Bool) where
         | inr came ↦ came.2
       ]
 
-  -- what is held once, and then again where it waits still, is held once
+  -- a session that is run once, and again if it still waits, is run once
   held_again : (old mid new : Sitting) → IsHeldOnce limits numbers listing old mid → IsHeldOnce limits numbers listing mid new → IsHeldOnce limits numbers listing old new
   held_again old mid new first second =
       elim first [
@@ -64,7 +64,7 @@ module _ (limits : Bounds) (numbers : LogHeading) (listing : Bool) where
   first_of : {A : Type 0} (x y : A) (xs ys : List A) → x ∷ xs ≡ y ∷ ys → (x ≡ y) × (xs ≡ ys)
   first_of x y xs ys e = (cc e, cc e)
 
-  -- each of several that began anew, and came to these states, was held
+  -- each of several new sessions that reached these states was run
   pub each_held : (begun : List Edit) (olds : List Sides) (ended : List Sitting) (states : List SessionState) → AreHeldFrom limits numbers listing (map (begun_at begun) olds) ended → map state_of ended ≡ map Some states
       → AreHeld limits numbers listing begun olds (map (λ ended. ended.sides) ended) states
   each_held begun [] [] [] held is = tt
@@ -78,11 +78,11 @@ module _ (limits : Bounds) (numbers : LogHeading) (listing : Bool) where
         each_held begun olds ended states (record { len = omega (arith, held.len); each = λ i b e within. held.each (suc i) b e (omega arith) }) parts.1,
       )
 
--- a beginning of a beginning is one
+-- a prefix of a prefix is one
 pub begins : (xs ys zs : List Edit) → IsPrefix xs ys → IsPrefix ys zs → IsPrefix xs zs
 begins xs ys zs p q = (p.0 ++ q.0, sym (append_assoc xs p.0 q.0) ∙ (ap (λ w. w ++ q.0) p.1 ∙ q.1))
 
--- one list more
+-- one more list
 pub row_push : (lists : List (List Claimed)) (answers : List Claimed) → in_a_row (lists ++ answers ∷ []) ≡ in_a_row lists ++ answers
 row_push lists answers = flat_map-append (λ answers. answers) lists (answers ∷ []) ∙ ap (λ (more : List Claimed). in_a_row lists ++ more) (append-nil answers)
 
@@ -100,7 +100,7 @@ takes_none share = record {
   sides_are = refl;
 }
 
--- a share takes one session more in
+-- a share takes in one more session
 takes_one_more : (old mid new : ShareState) (ended : List Sitting) (answers more : List Claimed) (sides : List Sides) (e : Sitting)
     → TakesBack old mid ended answers sides → AreTogether mid e.share new → e.answers ≡ Some more → e.share.parts ≡ 1 → All (IsTrueAnswer e.share.seen) more
     → TakesBack old new (ended ++ e ∷ []) (answers ++ more) (sides ++ e.sides ∷ [])
@@ -120,7 +120,7 @@ takes_one_more old mid new ended answers more sides e t both some one true =
       sides_are = ap (λ xs. xs ++ e.sides ∷ []) t.sides_are ∙ sym (map-append (λ ended. ended.sides) ended (e ∷ []));
     }
 
--- the same, where its reductions and its streams went behind the others
+-- a session that is taken back, if its reductions and its streams were put after the others
 pub takes_next : {S : Type 0} (side : S → Sides) (old mid new : ShareState) (ended : List Sitting) (answers more took : List Claimed) (streams kept : List S) (its : S) (e : Sitting)
     → TakesBack old mid ended answers (map side streams) → AreTogether mid e.share new → e.answers ≡ Some more → e.share.parts ≡ 1 → All (IsTrueAnswer e.share.seen) more
     → took ≡ answers ++ more → kept ≡ streams ++ its ∷ [] → side its ≡ e.sides → TakesBack old new (ended ++ e ∷ []) took (map side kept)
@@ -129,18 +129,18 @@ takes_next side old mid new ended answers more took streams kept its e t both so
     subst (λ took. TakesBack old new (ended ++ e ∷ []) took (map side kept)) (sym took_is)
     (subst (λ sides. TakesBack old new (ended ++ e ∷ []) (answers ++ more) sides) (sym sides_are) (takes_one_more old mid new ended answers more (map side streams) e t both some one true))
 
--- all that came were taken back
+-- all sessions were taken back
 pub takes_all : {S : Type 0} (side : S → Sides) (old new : ShareState) (came ended : List Sitting) (answers : List Claimed) (streams : List S)
     → came ≡ ended → TakesBack old new came answers (map side streams) → TakesBack old new ended answers (map side streams)
 takes_all side old new came ended answers streams is t = subst (λ ended. TakesBack old new ended answers (map side streams)) is t
 
--- one session more was given its share
+-- one more session got its share
 pub begins_one_more : {S : Type 0} (begun : S → Sitting) (tasks more : List Sitting) (task : Sitting) (streams : List S) (its : S)
     → tasks ≡ map begun streams → more ≡ tasks ++ task ∷ [] → task ≡ begun its → more ≡ map begun (streams ++ its ∷ [])
 begins_one_more begun tasks more task streams its are pushed is =
     pushed ∙ ap (λ tasks. tasks ++ task ∷ []) are ∙ ap (λ task. map begun streams ++ task ∷ []) is ∙ sym (map-append begun streams (its ∷ []))
 
--- all sessions were held, and their shares taken back by one that had counted and seen what the server began with
+-- all sessions were run, and their shares were taken back by one that had counted and seen what the server began with
 all_held : (limits : Bounds) (numbers : LogHeading) (listing : Bool) (first : List Edit) (old new : ShareState) (olds news : List Sides) (begun : List Sitting) (ended : List Sitting) (answers : List Claimed)
     → begun ≡ map (begun_at first) olds → AreHeldFrom limits numbers listing begun ended → TakesBack old new ended answers news → old.count ≡ length first → old.seen ≡ first → AreAllHeld limits numbers listing first new olds news answers
 all_held limits numbers listing first old new olds news begun ended answers is held t many seen = record {
@@ -153,7 +153,7 @@ all_held limits numbers listing first old new olds news begun ended answers is h
   all_true = t.all_true;
 }
 
--- what began anew for each of some streams
+-- the sessions that were begun for some streams
 begun_for : {S : Type 0} (first : List Edit) (side : S → Sides) (streams : List S) → map (λ s. begun_at first (side s)) streams ≡ map (begun_at first) (map side streams)
 begun_for first side [] = refl
 begun_for first side (s ∷ streams) = ap (λ begun. begun_at first (side s) ∷ begun) (begun_for first side streams)
@@ -189,7 +189,7 @@ module _ (limits : Bounds) (numbers : LogHeading) (listing : Bool) (begun : List
     all_true = All-permutation (IsTrueAnswer journal) answers is.answers is.permutes (all_true_of_more share.seen journal answers of.seen held.all_true);
   }
 
-  -- where it was written, the sessions were served
+  -- if it was written, the sessions were served
   pub served_so : {T : Type 0} (x : T) (contents_old contents_new : Option (List ℕ)) → WritesClosed {T = T} limits share answers contents_old contents_new (Ok x) → Served limits numbers listing begun olds news contents_old contents_new
   served_so x contents_old contents_new w =
       let written = w.written in record {
@@ -201,7 +201,7 @@ module _ (limits : Bounds) (numbers : LogHeading) (listing : Bool) (begun : List
         written = written.3;
       }
 
-  -- and else they were not
+  -- and otherwise they were not
   pub failed_so : {T : Type 0} (fault : Fault) (contents_old contents_new : Option (List ℕ)) → WritesClosed {T = T} limits share answers contents_old contents_new (Err fault) → FailsToServe limits begun contents_old contents_new fault
   failed_so fault contents_old contents_new w =
       elim w.written [
@@ -209,7 +209,7 @@ module _ (limits : Bounds) (numbers : LogHeading) (listing : Bool) (begun : List
         | inr front ↦ inr (front.0, held.states, front.1, transcript_so w.journal front.1 w.of front.2, front.3)
       ]
 
--- what a share that has seen more writes, one does that counts as many
+-- what is written with a share that has seen more is also written of a share that has seen less and counts as many
 pub closed_more : {T : Type 0} (limits : Bounds) (share more : ShareState) (listed : List Claimed) (old new : Option (List ℕ)) (result : Result T Fault)
     → more.count ≡ share.count → IsPrefix share.seen more.seen → WritesClosed limits more listed old new result → WritesClosed limits share listed old new result
 closed_more limits share more listed old new result same seen w = record {
@@ -218,20 +218,20 @@ closed_more limits share more listed old new result same seen w = record {
   written = w.written;
 }
 
--- what was written of a closed hub's journal where nothing failed
+-- what was written of a closed hub's journal if nothing failed
 pub closes_well : {F : Type 0} (limits : Bounds) (share : ShareState) (listed : List Claimed) (old new : Option (List ℕ)) (written : Result (Unit {0}) Fault) (result : Result (Unit {0}) F)
     → IfOk result (λ done. written ≡ Ok done) → WritesClosed limits share listed old new written → IfOk result (λ done. WritesClosed {T = Unit {0}} limits share listed old new (Ok done))
 closes_well limits share listed old new written (Ok done) is w = subst (WritesClosed limits share listed old new) is w
 closes_well limits share listed old new written (Err failure) is w = tt
 
--- all of it was written, which a write elsewhere that fails has as its front
+-- if all of it was written and a write elsewhere fails, what was written is a prefix, namely the whole
 wrote_all : (journal : List Edit) (listed : List Claimed) (old new : Option (List ℕ)) (fault : Fault) → fault ≡ WriteFault → Writes {T = Unit {0}} journal listed old new (Ok tt) → Writes {T = Unit {0}} journal listed old new (Err fault)
 wrote_all journal listed old new fault is w = inr (is, w.0, w.1, record { unsent = []; written = record { sent = w.0; appended = w.3; all = sym (append-nil w.0) } })
 
 closes_late : (limits : Bounds) (share : ShareState) (listed : List Claimed) (old new : Option (List ℕ)) (fault : Fault) → fault ≡ WriteFault → WritesClosed {T = Unit {0}} limits share listed old new (Ok tt) → FailsToClose limits share listed old new fault
 closes_late limits share listed old new fault is w = record { journal = w.journal; of = w.of; written = wrote_all w.journal listed old new fault is w.written }
 
--- and where something failed
+-- and if something failed
 pub closes_ill : {F : Type 0} (fault_of : F → Fault) (limits : Bounds) (share : ShareState) (listed : List Claimed) (old new : Option (List ℕ)) (written : Result (Unit {0}) Fault) (result : Result (Unit {0}) F)
     → IfErr result (λ failure. (written ≡ Err (fault_of failure)) ⊎ ((written ≡ Ok tt) × (fault_of failure ≡ WriteFault))) → WritesClosed limits share listed old new written
     → IfErr result (λ failure. FailsToClose limits share listed old new (fault_of failure))
@@ -263,7 +263,7 @@ pub ordered_text : (journal : List Edit) (listed : List Claimed) → IsTextOf jo
 ordered_text journal listed =
     record { answers = by_edit listed; text_is = refl; permutes = by_edit_permutes listed; ties = λ edit. by_edit_ties edit listed; order = by_edit_order listed }
 
--- the text of the edits of a hub of one vector that was closed was written
+-- the text of the updates of a hub of one vector that was closed was written
 pub closed_so : {T : Type 0} (limits : Bounds) (share : ShareState) (h : History) (edits : List Edit) (listed : List Claimed) (journal : List Edit) (old new : Option (List ℕ)) (result : Result T Fault) → IsOfOneVector limits → IsClosed limits edits h
     → journal ≡ h.journal → IsPrefix share.seen edits → length edits ≡ share.count → Writes journal listed old new result → WritesClosed limits share listed old new result
 closed_so limits share h edits listed journal old new result one closed is seen counted written =

@@ -1,4 +1,4 @@
--- How the hub of a server that goes on from a log is closed.
+-- How the hub of a server that continues a log is closed.
 use Rattle.std.specs.Prelude.{◌≡◌, ◌⊎◌, ℕ, Ok, Option, IfSome, List, length, map}
 use mathlib.Core.List.{IsPrefix}
 use Rattle.lv_geometry.specs.Bounds.{Bounds}
@@ -11,7 +11,8 @@ use Rattle.lv_hub.specs.Noticing.{NoticesState}
 use Rattle.lv_hub.specs.Renewing.{IsRun}
 use Rattle.lv_hub.specs.Watchers.{AllTellLast, LeftState}
 
--- a hub was closed by a share: subscribers told the last of its edits, all of which its last file has, if there is one
+-- A hub was closed with a share. Each subscriber wrote its last notification, and the last file of the log, if there is one, has all updates of
+-- the hub.
 pub record ClosesLog {V : Type 0} (made : Option (List ℕ)) (contents : V → Option (List ℕ)) (log : Option LogThere) (start : Option (List ℕ)) (limits : Bounds) (numbers : LogHeading) (share : ShareState) (left : List LeftState) (told : List NoticesState) (file : Option V) : Type 0 where
   pub edits : List Edit
   pub run : IsRun limits edits
@@ -20,7 +21,8 @@ pub record ClosesLog {V : Type 0} (made : Option (List ℕ)) (contents : V → O
   pub last : AllTellLast edits left told
   pub whole : IfSome file (λ file. EndsInFile made limits numbers log start (contents file) edits (Ok tt))
 
--- subscribers that have ended wrote nothing more; or else they told the last of some edits, all of which the log's last file has, if there is one
+-- Either subscribers that have ended wrote nothing more. Or they wrote their last notifications, at the end of some updates, and the last file of
+-- the log, if there is one, has all of these.
 abbrev pub TellsOnceRecorded : {V : Type 0} → Option (List ℕ) → (V → Option (List ℕ)) → Option LogThere → Option (List ℕ) → Bounds → LogHeading → List LeftState → List NoticesState → Option V → Type 0
 TellsOnceRecorded made contents log start limits numbers left told file =
     (map (λ n. n.contents) told ≡ map (λ l. l.notices.contents) left)

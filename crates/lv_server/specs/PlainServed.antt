@@ -1,5 +1,6 @@
--- What `livevec serve` writes, and what each session is replied, by the plain interpreter alone: one list of edits, those that the server
--- began with and those that the sessions made; each line is answered at some beginning of it; the transcript has the list, and answers that are true of it.
+-- A reference model of `livevec serve`, of its replies and of the transcript that it writes. There is one list of updates: those that the server
+-- began with, and those that the sessions made. Each line is answered after some prefix of that list. The transcript has the list, and answers
+-- that are true of it.
 use Rattle.std.specs.Prelude.{⊤, ◌≡◌, ℕ, ◌+◌, ◌^◌, ◌≤◌, Option, List, [], ◌∷◌, All, length, take, map}
 use Rattle.std.specs.List.{sum_by}
 use Rattle.std.specs.Io.KnownBytes.{Appends, Consumes, IsAtEnd}
@@ -15,10 +16,10 @@ use Rattle.lv_transcript.specs.Transcript.{IsTrueAnswer, transcript_text}
 use Rattle.lv_hub.specs.PlainSession.{PlainSessionStep, Seen}
 use Rattle.lv_server.specs.Served.{Sides}
 
--- of a server that began with these edits, and tells edits by these numbers
+-- The server began with the updates `begun`, and has this numbering of updates.
 module _ (limits : Bounds) (numbers : LogHeading) (begun : List Edit) where
-  -- a session, which had seen these edits and made none, was held to the end of its lines, of which at most 2 ^ 30 bytes were read: each was
-  -- answered in turn, by its first 121 bytes, and all replies were written. These are the edits that it had seen then
+  -- A session began having seen `begun` and made no update, and ran to the end of its lines. At most 2 ^ 30 bytes of them were read. Each line
+  -- was answered in turn, from its first 121 bytes, and all replies were written. `seen` is what the session had seen and made at its end.
   pub record IsHeldPlainly (old new : Sides) (seen : Seen) : Type 0 where
     pub input : List ℕ
     pub read : Consumes old.lines new.lines input
@@ -28,14 +29,15 @@ module _ (limits : Bounds) (numbers : LogHeading) (begun : List Edit) where
     pub answered : Answered (PlainSessionStep limits numbers) record { edits = begun; made = 0 } 1 (map (take 121) (lines_of input)) text seen
     pub written : Appends old.replies new.replies text
 
-  -- so was each of several
+  -- Each of several sessions ran to its end.
   abbrev pub AreHeldPlainly : List Sides → List Sides → List Seen → Type 0
   AreHeldPlainly [] [] [] = ⊤
   AreHeldPlainly (old ∷ olds) (new ∷ news) (seen ∷ sessions) = IsHeldPlainly old new seen × AreHeldPlainly olds news sessions
   AreHeldPlainly _ _ _ = ⊥
 
-  -- sessions were served: one legal list of edits, which begins with those that the server began with, and has as many more as the sessions made
-  -- together; of it each has seen a beginning at its end. What was written is the transcript of that list, with answers that are true of it
+  -- Sessions were served. There is one legal list of updates. It begins with `begun`, and has as many more updates as the sessions made together.
+  -- What each session has seen at its end is a prefix of it. The text that was written is the transcript of that list, with answers that are true
+  -- of it.
   pub record ServedPlainly (old new : List Sides) (contents_old contents_new : Option (List ℕ)) : Type 0 where
     pub edits : List Edit
     pub legal : IsLegalInLimits record { limits = limits; journal = edits }

@@ -1,5 +1,5 @@
--- What it means that sessions were served: each was a conversation on its own streams, on one vector whose edits are one list; and
--- what the transcript tells of them.
+-- What it means that sessions were served. Each was answered on its own streams, by one vector with one list of updates. The transcript has that
+-- list, and what sessions were answered.
 use Rattle.std.specs.Prelude.{⊤, ◌≡◌, ◌⊎◌, ℕ, ◌+◌, Bool, Option, Result, Ok, List, [], ◌∷◌, All, length}
 use Rattle.std.specs.List.{flat_map, sum_by}
 use Rattle.std.specs.List.Sorted.{IsPermutation}
@@ -18,31 +18,31 @@ use Rattle.lv_transcript.specs.Transcript.{AreAccepted, AreInOrder, IsSoundTrans
 use Rattle.lv_hub.specs.Session.{KeepTies, SessionState, SessionStep}
 use Rattle.lv_hub.specs.Told.{history_of}
 
--- what a session's streams are at: the bytes of its lines that are still to be read, and those that its replies have
+-- The state of a session's streams: the bytes of its lines that are still to be read, and the bytes of its replies that were written.
 pub record Sides : Type 0 where
   pub lines : Option (List ℕ)
   pub replies : Option (List ℕ)
 
--- a session that was held to the end of its lines
+-- The result of a session that ran to the end of its lines.
 abbrev pub ended_well : Result (Unit {0}) Fault
 ended_well = Ok tt
 
--- a session that has counted no edit, has seen those that the server began with, and was answered no reduction
+-- A session that has counted no update, has seen those that the server began with, and was answered no reduction.
 abbrev pub new_session : List Edit → SessionState
 new_session begun = record { count = 0; seen = begun; answers = [] }
 
--- the edits that sessions count together, and the reductions that they were answered, session by session
+-- The updates that sessions count together, and the reductions that they were answered, session by session.
 abbrev pub counted_by : List SessionState → ℕ
 counted_by states = sum_by (λ state. state.count) states
 
 abbrev pub answered_to : List SessionState → List Claimed
 answered_to states = flat_map (λ state. state.answers) states
 
--- of a server that began with these edits
+-- The server began with the updates `begun`.
 module _ (limits : Bounds) (begun : List Edit) where
-  -- a text is the transcript of sessions that came to these states. There is one list of edits, which begins with those that the server began
-  -- with, and has as many more as the sessions count together; each has seen a beginning of it. The answers are the reductions that they were answered, in the order of their edits, and
-  -- at one edit in the order of the sessions.
+  -- A text is the transcript of sessions that reached these states. There is one list of updates. It begins with `begun`, and has as many more
+  -- updates as the sessions count together. What each session has seen is a prefix of it. The answers are the reductions that the sessions were
+  -- answered, in the order of their versions, and at one version in the order of the sessions.
   pub record Transcript (states : List SessionState) (text : List ℕ) : Type 0 where
     pub journal : List Edit
     pub answers : List Claimed
@@ -57,25 +57,25 @@ module _ (limits : Bounds) (begun : List Edit) where
     pub order : AreInOrder answers
     pub all_true : All (IsTrueAnswer journal) answers
 
-  -- sessions were not served: nothing was written; or a write failed, and no more than a front of a transcript was
+  -- Sessions were not served. Either nothing was written, or a write failed, and what was written is at most a prefix of a transcript.
   abbrev pub FailsToServe : Option (List ℕ) → Option (List ℕ) → Fault → Type 0
   FailsToServe contents_old contents_new fault =
       (contents_new ≡ contents_old)
       ⊎ ((fault ≡ WriteFault) × (states : List SessionState) × (text : List ℕ) × Transcript states text × WritesFront contents_old [] contents_new text)
 
--- of one that tells edits by these numbers, and lists for the transcript what sessions are answered, or not
+-- The server has this numbering of updates, and lists the reductions that sessions are answered, for the transcript, or not.
 module _ (limits : Bounds) (numbers : LogHeading) (listing : Bool) (begun : List Edit) where
-  -- a session was held to the end of its lines, and came to this state
+  -- A session ran to the end of its lines, and reached this state.
   abbrev pub IsHeld : Sides → Sides → SessionState → Type 0
   IsHeld old new state = LinesServed (SessionStep limits numbers listing) (new_session begun) state old.lines new.lines old.replies new.replies ended_well
 
-  -- so was each of several
+  -- Each of several sessions ran to its end.
   abbrev pub AreHeld : List Sides → List Sides → List SessionState → Type 0
   AreHeld [] [] [] = ⊤
   AreHeld (old ∷ olds) (new ∷ news) (state ∷ states) = IsHeld old new state × AreHeld olds news states
   AreHeld _ _ _ = ⊥
 
-  -- sessions were served: each was held, and their transcript was written, which is sound
+  -- Sessions were served. Each ran to its end, and their transcript was written, which is valid.
   pub record Served (old new : List Sides) (contents_old contents_new : Option (List ℕ)) : Type 0 where
     pub states : List SessionState
     pub held : AreHeld old new states

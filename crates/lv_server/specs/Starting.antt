@@ -1,4 +1,4 @@
--- What the file of a transcript has got when sessions begin, and when they have ended well.
+-- The contents of a transcript's file when sessions begin, and when they have ended without a fault.
 use Rattle.std.specs.Prelude.{ℕ, Option, Some, None, List}
 use Rattle.std.specs.Io.KnownBytes.{Appends}
 use Rattle.lv_edits.specs.declared.edit.Edit.{Edit}
@@ -6,13 +6,13 @@ use Rattle.lv_transcript.specs.declared.claimed.Claimed.{Claimed}
 use Rattle.lv_transcript.specs.Transcript.{transcript_text}
 use Rattle.lv_hub.specs.Logging.{WroteWhole}
 
--- what it had, where there is such a file
+-- The contents of the file, if there is one.
 abbrev pub start_of : {V : Type 0} → (V → Option (List ℕ)) → Option V → Option (List ℕ)
 start_of contents (Some file) = contents file
 start_of contents None = None
 
--- the transcript of a journal was written; and a file that had got what it had at the start got all edits of that journal, each answer true of
--- those before it, and the last line
+-- The transcript of a journal was written. In addition, a file that had the contents `start` got all updates of that journal, answers that are
+-- each true of the updates before it, and the last line.
 pub record Records (start file contents_old contents_new : Option (List ℕ)) : Type 0 where
   pub journal : List Edit
   pub answers : List Claimed

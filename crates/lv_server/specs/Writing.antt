@@ -1,4 +1,4 @@
--- What the transcript of a journal, and of a hub that is closed, comes to.
+-- How the transcript of a journal, or of a closed hub, is written.
 use Rattle.std.specs.Prelude.{◌≡◌, ◌⊎◌, ℕ, Option, Result, Ok, Err, List, [], length}
 use Rattle.std.specs.List.Sorted.{IsPermutation}
 use Rattle.std.specs.Io.KnownBytes.{Appends}
@@ -15,7 +15,7 @@ use Rattle.lv_hub.specs.Counting.{ShareState}
 use Rattle.lv_hub.specs.Session.{KeepTies}
 use Rattle.lv_hub.specs.Told.{history_of}
 
--- a text is that of a journal and of these answers, once they are in order
+-- A text is the transcript of a journal and of these answers, once they are in order.
 pub record IsTextOf (journal : List Edit) (listed : List Claimed) (text : List ℕ) : Type 0 where
   pub answers : List Claimed
   pub text_is : text ≡ transcript_text journal answers
@@ -23,26 +23,26 @@ pub record IsTextOf (journal : List Edit) (listed : List Claimed) (text : List �
   pub ties : KeepTies listed answers
   pub order : AreInOrder answers
 
--- that text was written; or nothing; or a write failed, after no more than a front of it
+-- The transcript was written. Or nothing was written. Or a write failed, after no more than a prefix of it.
 abbrev pub Writes : {T : Type 0} → List Edit → List Claimed → Option (List ℕ) → Option (List ℕ) → Result T Fault → Type 0
 Writes journal listed contents_old contents_new (Ok _) =
     (text : List ℕ) × IsTextOf journal listed text × IsSoundTranscript text × Appends contents_old contents_new text
 Writes journal listed contents_old contents_new (Err fault) =
     (contents_new ≡ contents_old) ⊎ ((fault ≡ WriteFault) × (text : List ℕ) × IsTextOf journal listed text × WritesFront contents_old [] contents_new text)
 
--- a hub's edits, once it is closed by a share
+-- The updates of a hub that was closed with this share.
 pub record IsJournal (limits : Bounds) (share : ShareState) (journal : List Edit) : Type 0 where
   pub within : IsLegalInLimits (history_of limits journal)
   pub accepted : AreAccepted greatest journal
   pub seen : IsPrefix share.seen journal
   pub counted : length journal ≡ share.count
 
--- it was so of the journal of a hub
+-- The journal of a closed hub was written in this way.
 pub record WritesClosed {T : Type 0} (limits : Bounds) (share : ShareState) (listed : List Claimed) (contents_old contents_new : Option (List ℕ)) (result : Result T Fault) : Type 0 where
   pub journal : List Edit
   pub of : IsJournal limits share journal
   pub written : Writes journal listed contents_old contents_new result
 
--- it was so of one whose transcript wasn't written whole, or not everywhere, with this fault
+-- The hub was closed, and its transcript wasn't written, or not completely or not everywhere, with this fault.
 abbrev pub FailsToClose : Bounds → ShareState → List Claimed → Option (List ℕ) → Option (List ℕ) → Fault → Type 0
 FailsToClose limits share listed contents_old contents_new fault = WritesClosed {T = Unit {0}} limits share listed contents_old contents_new (Err fault)

@@ -1,4 +1,4 @@
-//! Sessions at a board in threads of their own, each by its own seat.
+//! Sessions at a board in threads of their own, each with its own seat.
 
 ghost use Rattle.std.specs.Prelude.{All};
 ghost use Rattle.lv_board.specs.Tells.{IsAt};
@@ -14,7 +14,7 @@ use std::io::{Read, Write};
 use std::thread;
 use std::thread::Threads;
 
-// A session at a board, with its seat, the number of its file and its streams, and how it ended; it hasn't yet at first.
+// A session at a board, with its seat, the number of its file, its streams, and how it ended, which is without a fault at first.
 #[derive(Drop)]
 struct Task<'a, B: BoardBody, F: Drop> {
     board: &'a Board<B>,
@@ -26,8 +26,8 @@ struct Task<'a, B: BoardBody, F: Drop> {
     ghost here: { IsAt board.now.table.shared.table_id board.now.terms seat },
 }
 
-/// Holds a session for each pair of streams at a board of the kind, in a thread of its own where one can be made. Where sessions
-/// end with faults, the first of them is the fault.
+/// Runs a session for each pair of streams at a board of the kind, in a thread of its own if one can be made. If sessions end with faults, the
+/// first of them is the fault.
 pub fn hold_sessions<F: Read + Write + Send + Drop, R: Threads + Sync>(
     rt: &R,
     alloc: Global,
@@ -45,7 +45,8 @@ pub fn hold_sessions<F: Read + Write + Send + Drop, R: Threads + Sync>(
     }
 }
 
-// Holds them at a board of a body. The options keep to the limits of boards, so that only want of memory refuses one.
+// Runs the sessions at a board with this monoid instance. The options keep to the limits of boards, so a board is refused only if memory runs
+// out.
 fn hold_at<B: BoardBody, F: Read + Write + Send + Drop, R: Threads + Sync>(
     rt: &R,
     alloc: Global,
@@ -64,7 +65,7 @@ fn hold_at<B: BoardBody, F: Read + Write + Send + Drop, R: Threads + Sync>(
     ended
 }
 
-// Holds them at a board, by its seats.
+// Runs the sessions at a board, with its seats.
 fn hold_all<B: BoardBody, F: Read + Write + Send + Drop, R: Threads + Sync>(
     rt: &R,
     alloc: Global,
@@ -81,7 +82,7 @@ fn hold_all<B: BoardBody, F: Read + Write + Send + Drop, R: Threads + Sync>(
     first_fault(&tasks)
 }
 
-// What the first session that ended with a fault ended with.
+// The fault of the first session that ended with one.
 fn first_fault<B: BoardBody, F: Drop>(tasks: &[Task<'_, B, F>]) -> Result<(), ProgramError> {
     for task in tasks {
         if let Err(fault) = task.ended {
@@ -127,7 +128,7 @@ fn seat_each<'a, B: BoardBody, F: Drop>(
     Ok(tasks)
 }
 
-// Holds a session.
+// Runs a session.
 fn hold<B: BoardBody, F: Read + Write + Drop>(alloc: Global, task: &mut Task<'_, B, F>) {
     task.ended = run_board_session(
         alloc,

@@ -1,4 +1,4 @@
-//! The clients of a server: sessions and subscribers, from when their files are open until each has left.
+//! The clients of a server: sessions and subscribers, from the opening of their files until each has left.
 
 ghost use Rattle.std.specs.Prelude.{◌≡◌, ◌+◌, ◌<◌, ◌≤◌, ◌^◌, ℕ, All, HoldsAt, IfErr, IfOk, List, OnOk, [], false, length, map, take, true, vec_capacity, vec_len};
 ghost use Rattle.lv_transcript.specs.Joined.{in_a_row};
@@ -21,7 +21,7 @@ use std::alloc::{AllocError, Global};
 use std::io::{Read, Write};
 use std::marker::Model;
 
-/// The sessions that are to be held, and the subscribers that are to be told beside them.
+/// The sessions that are to be run, and the subscribers that are to be notified at the same time.
 #[derive(Drop)]
 pub struct Clients<F: Drop> {
     pub streams: Vec<OpenedClient<F>>,
@@ -29,7 +29,7 @@ pub struct Clients<F: Drop> {
 }
 
 impl<F: Drop> Clients<F> {
-    /// None yet, and room for so many sessions and subscribers.
+    /// No clients yet, and room for this many sessions and subscribers.
     pub fn with_room(
         alloc: Global,
         sessions: usize,
@@ -41,7 +41,7 @@ impl<F: Drop> Clients<F> {
         })
     }
 
-    /// Adds a session, or else a subscriber. Says whether there was memory for it.
+    /// Adds a session, or otherwise a subscriber. Returns whether there was memory for it.
     pub fn add(&mut self, client: OpenedClient<F>, is_session: bool) -> bool {
         if is_session {
             return self.streams.push(client).is_ok();
@@ -61,7 +61,7 @@ impl<F: Drop> Clients<F> {
     }
 }
 
-/// As much memory as a session begins with, put by for it.
+/// As much memory as a session begins with, reserved for it.
 #[derive(Drop)]
 pub struct Spare {
     read: Vec<u8>,
@@ -69,7 +69,7 @@ pub struct Spare {
 }
 
 impl Spare {
-    // Puts it by. A session reads into as much as it holds of its replies.
+    // Reserves the memory. A session reads into a buffer as large as that of its replies.
     fn new(alloc: Global) -> Result<Spare, AllocError> {
         Ok(Spare {
             read: Vec::with_capacity(alloc, HELD)?,
@@ -78,8 +78,8 @@ impl Spare {
     }
 }
 
-/// A session with its part of the hub and memory that is put by for it. It waits until it is held; then it has the reductions that it was
-/// answered, which are true of what it has seen, or its fault.
+/// A session with its part of the hub and the memory that is reserved for it. It waits until it is run. Then it has either the reductions that it
+/// was answered, which are true of what it has seen, or its fault.
 #[derive(Drop)]
 pub struct Task<N: WithBody<Six>, F: Read + Write + Drop> {
     pub share: Share<N>,
@@ -100,17 +100,17 @@ impl<N: WithBody<Six>, F: Read + Write + Drop> Model for Task<N, F> {
     ghost invariant = { λ t. (t.share.parts ≡ 1) × IfSome t.ended (λ ended. IfOk ended (λ answers. All (IsTrueAnswer t.share.seen) answers)) };
 }
 
-/// What sessions that were held leave: the reductions that each was answered, in order, and their streams.
+/// What sessions that were run leave: the reductions that each was answered, in order, and their streams.
 #[derive(Drop)]
 pub struct Gathered<F: Drop> {
     pub answers: Vec<Queue>,
     pub streams: Vec<OpenedClient<F>>,
-    /// What their transcript is written by.
+    /// The writer of their transcript.
     pub transcript: TranscriptWriter,
 }
 
 impl<F: Drop> Gathered<F> {
-    /// Room for what so many sessions leave, so that their end needs no memory.
+    /// Room for what this many sessions leave, so that their end allocates no memory.
     pub fn with_room(alloc: Global, sessions: usize) -> Result<Gathered<F>, ProgramError>
         ensures answers { IfOk result (λ all. all.answers.items ≡ []) }
         ensures streams { IfOk result (λ all. all.streams.items ≡ []) }
@@ -131,7 +131,7 @@ impl<F: Drop> Gathered<F> {
     }
 }
 
-/// Gives each session a part of the hub, which has seen what the share has, and puts memory by for it.
+/// Gives each session a part of the hub, which has seen what the share has, and reserves memory for it.
 pub fn share_out<N: WithBody<Six>, F: Read + Write + Drop>(
     alloc: Global,
     share: &mut Share<N>,
@@ -161,8 +161,8 @@ pub fn share_out<N: WithBody<Six>, F: Read + Write + Drop>(
     Ok(tasks)
 }
 
-/// Takes the parts back, and gathers the reductions in the order of the sessions, where nothing is gathered yet. The first session's
-/// fault is the fault: `NoMemory` of one that still waits.
+/// Takes the parts back, and collects the reductions in the order of the sessions in `room`, which is empty. The fault is that of the first
+/// session that has one, and `NoMemory` for a session that still waits.
 pub fn take_back<N: WithBody<Six>, F: Read + Write + Drop>(
     room: Gathered<F>,
     share: &mut Share<N>,
@@ -213,9 +213,9 @@ pub struct Present<N: WithBody<Six>, F: Read + Write + Drop> {
     pub leaving: Leaving<F>,
 }
 
-/// Gives each session a part of the hub, which has seen what the share has, and each subscriber one that has seen what a prefix has, which is
-/// no edit, and the numbers that edits are told by. The share keeps one. Memory that is
-/// wanting is the fault, `NoMemory`; a question that no `watch` would take is `ReadFault`, though no file brings one here.
+/// Gives each session a part of the hub that has seen what the share has. Gives each subscriber a part that has seen what the prefix has, which
+/// is no updates, and the numbering of updates. The share keeps one part. If memory runs out, the fault is `NoMemory`. A question that `watch`
+/// refuses is `ReadFault`, but no file brings one here.
 pub fn begin_all<N: WithBody<Six>, F: Read + Write + Drop>(
     alloc: Global,
     numbers: LogHeading,
@@ -249,7 +249,7 @@ pub fn begin_all<N: WithBody<Six>, F: Read + Write + Drop>(
     })
 }
 
-// Gives each subscriber a part of the hub that has seen what a prefix has, which is no edit.
+// Gives each subscriber a part of the hub that has seen what the prefix has, which is no updates.
 fn subscribe<N: WithBody<Six>, F: Read + Write + Drop>(
     alloc: Global,
     numbers: LogHeading,
@@ -272,7 +272,7 @@ fn subscribe<N: WithBody<Six>, F: Read + Write + Drop>(
     }
 }
 
-/// That all that subscribers were told was written; or else the first whose output failed is the fault.
+/// Succeeds if all notifications were written. Otherwise the fault names the first subscriber whose output failed.
 pub fn first_unwritten<F: Write + Drop>(watched: &[Watched<F>]) -> Result<(), ProgramError>
     ensures written { OnOk result (All (λ w. w.notices.failed ≡ false) watched.now) }
     ensures fault { IfErr result (λ error. error.fault ≡ Fault.WriteFault) }

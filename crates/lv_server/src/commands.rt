@@ -1,4 +1,4 @@
-//! What a program does with files that are named: it serves them, by a transcript or by a log, holds them at a board, or restores from one.
+//! What a program does with the files that are named: it serves them with a transcript or a log, runs them at a board, or restores from one.
 
 use crate::board_sessions::hold_sessions;
 use crate::clients::{Clients, first_unwritten};
@@ -20,8 +20,8 @@ use std::sync::Wait;
 use std::thread::Threads;
 use std::time::Clock;
 
-/// Opens files, and serves them; they are waited for by a clock. What a subscriber was told that couldn't be written is the fault once all
-/// else is done.
+/// Opens files, and serves them. Input is waited for with the clock. If notifications couldn't be written, that is the fault once everything else
+/// is done.
 pub fn serve_files<
     C: Clock + Copy + Send,
     R: Eprint + Files<File = File> + PipeFolder + Sync + Threads + Wait,
@@ -48,7 +48,7 @@ pub fn serve_files<
     }
 }
 
-// Closes the clients' files. What a subscriber was told that couldn't be written is the fault.
+// Closes the clients' files. If notifications couldn't be written, that is the fault.
 fn closed<F: Write + Drop>(
     streams: Vec<OpenedClient<F>>,
     watched: Vec<Watched<F>>,
@@ -58,14 +58,14 @@ fn closed<F: Write + Drop>(
     ended
 }
 
-// Tells on standard error that all files are there and that clients are served from now on, if one of them may come later.
+// Says on standard error that all files are there and that clients are served from now on, if one of them may come later.
 fn tell_ready<R: Eprint, F: Drop>(rt: &R, names: Names<'_>, sessions: &[OpenedClient<F>]) {
     if sessions.iter().any(|session| session.is_absent) {
         let _ = eprintln!(rt; "livevec: ready, {} clients", names.clients);
     }
 }
 
-// The file of a transcript whose failure is told at once, if there is one.
+// The file of a transcript, if there is one, wrapped so that its failure is reported at once.
 fn announced<'a, R, F: Write + Drop>(
     rt: &'a R,
     names: Names<'a>,
@@ -80,9 +80,9 @@ where
     }
 }
 
-/// Opens files and a log, and serves them from where the log ends; they are waited for by a clock, and updates go to the log, and
-/// answers where that is planned. What can't be written to the log is told at once, and is the fault at the end. What a subscriber was told
-/// that couldn't be written is the fault once all else is done.
+/// Opens files and a log, and serves them from where the log ends. Input is waited for with the clock. Updates are written to the log, and
+/// answers if that is planned. A failure to write to the log is reported at once, and is the fault at the end. If notifications couldn't be
+/// written, that is the fault once everything else is done.
 pub fn serve_logged_files<
     C: Clock + Copy + Send,
     R: Eprint + Files<File = File> + LogFolder + PipeFolder + Sync + Threads + Wait,
@@ -136,7 +136,7 @@ pub fn serve_logged_files<
     }
 }
 
-// Whether a log's name no longer leads to it at its end, which is told.
+// Whether a log's name no longer leads to it at its end, which is reported.
 fn is_lost<'a, C: Clock + Copy, R: Eprint + LogFolder>(
     file: Option<AnnouncedFile<'a, &'a R, StoredLog<'a, C, &'a R>>>,
 ) -> bool {
@@ -146,7 +146,7 @@ fn is_lost<'a, C: Clock + Copy, R: Eprint + LogFolder>(
     }
 }
 
-// An error that names the log, where it is about that.
+// An error about the record's file, as one that names the log.
 fn about_log(error: ProgramError, names: Names<'_>) -> ProgramError {
     match error.reason {
         Reason::Transcript => ProgramError::new(error.fault, Reason::Log, names.clients),
@@ -154,7 +154,7 @@ fn about_log(error: ProgramError, names: Names<'_>) -> ProgramError {
     }
 }
 
-/// Opens files, and holds their sessions at a board; they are waited for by a clock.
+/// Opens files, and runs their sessions at a board. Input is waited for with the clock.
 pub fn hold_files<
     C: Clock + Copy + Send,
     R: Eprint + Files<File = File> + PipeFolder + Sync + Threads,
@@ -170,8 +170,8 @@ pub fn hold_files<
     hold_sessions(rt, alloc, limits, kind, streams)
 }
 
-/// Makes the edits of the file's front anew, and answers a script from there on. A line that is false or misspelt is the fault. No standard
-/// stream may write the file.
+/// Makes the updates of the file's valid prefix anew, and answers a script from there on. A line that is false or misspelt is the fault. No
+/// standard stream may write the file.
 pub fn restore_file<R: Clock + Files<File = File>, I: Read, W: Write>(
     rt: &R,
     alloc: Global,
@@ -186,7 +186,7 @@ pub fn restore_file<R: Clock + Files<File = File>, I: Read, W: Write>(
     restore_from(alloc, Waited::new(rt, front), reader, writer)
 }
 
-// Makes the edits of a front anew, and answers a script from there on.
+// Makes the updates of a prefix anew, and answers a script from there on.
 fn restore_from<F: Read + Drop, I: Read, W: Write>(
     alloc: Global,
     front: F,

@@ -1,7 +1,8 @@
 //! A server of sessions, and how it opens its clients' files.
 //!
-//! `serve` holds sessions and subscribers on streams of any kind, and its clauses say what they were told. `serve_files`, `hold_files` and
-//! `restore_file` open the files that are named and pass them on. What a file is opened, locked and written by, and why that fails, is in `lv_files`.
+//! `serve` serves sessions and subscribers on streams of any kind, and its clauses say what these received. `serve_files`, `serve_logged_files`,
+//! `hold_files` and `restore_file` open the named files and pass them on. How a file is opened, locked and written, and why that fails, is in
+//! `lv_files`.
 #![tactic(auto)]
 
 mod board_sessions;

@@ -1,4 +1,4 @@
-//! A server that goes on from a log of elements, whose file stays a log of all edits.
+//! A server that continues a log of elements, whose file remains a log of all updates.
 
 ghost use Rattle.std.specs.Prelude.{◌≡◌, ◌+◌, ◌<◌, ◌≤◌, ◌^◌, IfOk, IfSome, Ok, [], Some, is_some, map, true, false, vec_capacity, vec_len};
 ghost use Rattle.lv_transcript.specs.Logs.{IsLogOfEdits, log_of_edits};
@@ -28,13 +28,13 @@ use std::sync::Wait;
 use std::sync::ledger::Blank;
 use std::thread::Threads;
 
-/// Serves sessions and subscribers as `serve` does, on a vector that goes on from a log with this first line and these edits: the numbers that
-/// replies and notes tell go on from its base. Edits are written to its file before a reply or a note of them goes out, and so are answered
-/// reductions, where answers are logged. The file is at its end, and is given back. No transcript is written.
+/// Serves sessions and subscribers as `serve` does, on a vector that continues from a log with this first line and these updates. The numbers of
+/// replies and notes continue from its base. Updates are written to its file before a reply or a note of them is sent. If answers
+/// are logged, answered reductions are too. The file is passed at its end, and is returned. No transcript is written.
 ///
-/// Where an edit that the log has is refused, that is the fault: `NoMemory`, or else `ReadFault`. After a write that fails, or a flush, no edit is told
-/// of any more: sessions end, and the fault is `WriteFault`. Where sessions end with faults, the first of them is the fault. A failure gives
-/// nothing back; the file has a log then too, with each edit that was told of.
+/// If an update of the log is refused, the fault is `NoMemory`, or otherwise `ReadFault`. After a write or a flush that fails no further update
+/// is reported: sessions end, and the fault is `WriteFault`. If sessions end with faults, the first of them is the fault. A failure returns
+/// nothing, but the file has a log then too, with each update that was reported.
 pub fn serve_log<
     F: Read + Write + Send + Drop,
     V: LogWriter + Send + Drop,
@@ -53,7 +53,7 @@ pub fn serve_log<
     requires log { IsLogOfEdits heading begun.now }
     requires base { heading.base ≤ 2 ^ 62 }
     ensures back { IfOk result (λ done. is_some done.1 ≡ true) }
-    // Replies are the plain interpreter's, at beginnings of one list of edits, and the file has all of that list.
+    // Replies are those of the reference interpreter, after prefixes of one list of updates, and the file has all of that list.
     ensures served { IfOk result (λ done. IfSome done.1 (λ kept. LogServed plan.limits heading begun.now (map (λ s. record { lines = F.remaining s.lines; replies = F.contents s.replies }) streams.items) (map (λ s. record { lines = F.remaining s.lines; replies = F.contents s.replies }) done.0.items)
         (map (λ w. record { questions = w.questions.items; contents = F.contents w.notes }) watches.items) (map (λ w. w.notices) done.2.items) V.made (V.contents file) (V.contents kept))) }
 {
@@ -74,7 +74,7 @@ pub fn serve_log<
     )
 }
 
-// What becomes of answered reductions: none is listed.
+// What is recorded of answered reductions: none is listed.
 fn kept(logs_answers: bool) -> KeptAnswers
     ensures { are_listed result ≡ false }
 {
@@ -85,7 +85,7 @@ fn kept(logs_answers: bool) -> KeptAnswers
     }
 }
 
-// Serves them on a hub of this name.
+// Serves the clients on a hub of this name.
 fn serve_log_as<
     N: WithBody<Six> + Send + Sync,
     K: Begun + Send + Sync,
@@ -159,7 +159,8 @@ fn lasting(limits: Limits) -> Option<Limits>
     if lasts(limits) { Some(limits) } else { None }
 }
 
-// Closes a hub, ends its log, and gives its last file back. Then subscribers that have ended tell the last, unless the log's end failed. Takes no memory.
+// Closes a hub, ends its log, and returns the log's last file. Then subscribers that have ended write their last notifications, unless the log's
+// end failed. Allocates no memory.
 fn close_log<N: WithBody<Six>, K: Begun, F: Write + Drop, V: LogWriter + Drop>(
     hub: Hub<Six, N>,
     share: Share<N>,
@@ -171,7 +172,7 @@ fn close_log<N: WithBody<Six>, K: Begun, F: Write + Drop, V: LogWriter + Drop>(
     requires room { vec_len leaving.left ≤ vec_capacity leaving.watched }
     ensures back { is_some result.0 ≡ is_some log }
     ensures closed { IfOk result.1 (λ done. ClosesLog V.made V.contents K.there K.start N.limits N.numbers share leaving.left.items (map (λ w. w.notices) result.2.items) result.0) }
-    // No last note goes out unless its edits are recorded.
+    // No last note is sent unless its updates are recorded.
     ensures waits { TellsOnceRecorded V.made V.contents K.there K.start N.limits N.numbers leaving.left.items (map (λ w. w.notices) result.2.items) result.0 }
 {
     let share = shown(&log, share);
@@ -182,7 +183,7 @@ fn close_log<N: WithBody<Six>, K: Begun, F: Write + Drop, V: LogWriter + Drop>(
     (file, logged(ended), watched)
 }
 
-// How a log's end is told.
+// The fault that a log's end is reported as.
 fn logged(ended: Result<(), Fault>) -> Result<(), ProgramError>
     ensures { IfOk result (λ done. ended ≡ Ok done) }
 {

@@ -1,4 +1,4 @@
-//! The files of clients, and of the transcript or of the log, and how they are opened: none is changed before all are found fit.
+//! The files of clients, and of the transcript or of the log, and how they are opened. None is changed before all are found fit.
 
 ghost use Rattle.std.specs.Prelude.{◌≡◌, IfOk};
 ghost use Rattle.lv_files.specs.Stores.{IsFit, IsRightStore, MayStart};
@@ -19,14 +19,14 @@ use std::io::Read;
 use std::mem;
 use std::time::Clock;
 
-/// A session's file, and that of its replies; or a subscriber's, what it asks, and the file of its notes.
+/// A session's file and that of its replies, or a subscriber's file, its questions, and the file of its notes.
 #[derive(Drop)]
 pub struct OpenedClient<F: Drop> {
     /// Which of the files it is, counted from 0.
     pub number: usize,
     pub lines: F,
     pub replies: F,
-    /// What a subscriber asks; a session asks nothing.
+    /// The questions of a subscriber. A session has none.
     pub questions: Vec<Query>,
     /// Whether its lines come from a pipe that is opened once it is read.
     pub is_absent: bool,
@@ -40,7 +40,8 @@ pub struct OpenedClient<F: Drop> {
 type Served<'a, C, R> = Waited<C, ClientFile<'a, &'a R>>;
 
 impl OpenedClient<File> {
-    // The same as it is served: its streams are waited for, and a pipe that isn't open yet is opened once it is read. Until then another file has its descriptor.
+    // The client as it is served: its streams are waited for, and a pipe that isn't open yet is opened once it is read. Until then another file
+    // has its descriptor.
     fn served<'a, C: Clock + Copy, R: Eprint + PipeFolder>(
         self,
         clock: C,
@@ -76,15 +77,16 @@ impl OpenedClient<File> {
     }
 }
 
-/// Opens each file and that of its replies, in order: those of sessions, and then those of subscribers. Where there is a transcript, the pipe of a session isn't
-/// opened here but once it is read, so that who serves it waits for its client. Files of replies are emptied once all are open, each is found to be a regular file that nothing else here reads or writes, under whatever name, where standard streams
-/// count, and it is known what subscribers ask. All are waited for by a clock.
+/// Opens each file and that of its replies, in order: those of sessions, and then those of subscribers. If there is a transcript, the pipe of a
+/// session isn't opened here but once it is read, so that whoever serves it waits for its client. Files of replies are emptied only after all are
+/// open, each is found to be a regular file that nothing else here reads or writes under whatever name, standard streams included, and the
+/// questions of subscribers are known. All are waited for with the clock.
 ///
-/// The first that fails is the fault: `ReadFault` where a file can't be opened or is a directory, `WriteFault` where that of its
-/// replies can't be made, or is there and no regular file. Those that were made here are taken away then. So it is with what a
-/// subscriber's file asks, which is read next, and with the file of a transcript, which comes last, and is locked. Each file of replies
-/// is locked too, until it is closed: one that another has locked, or has written to since it was made here, or whose name leads elsewhere
-/// by then, is refused and left as it is. Names that clash are told before any file is opened.
+/// The first failure is the fault. It is `ReadFault` if a file can't be opened or is a directory, and `WriteFault` if the file of its replies
+/// can't be made, or is there but no regular file. Files that were made here are then removed. This also holds for the questions of a
+/// subscriber's file, which is read next, and for the file of a transcript, which comes last and is locked. Each file of replies is locked too,
+/// until it is closed. If another process has locked it, or has written to it since it was made here, or if its name leads elsewhere by then, it
+/// is refused and left as it is. Names that clash are reported before any file is opened.
 pub fn open_all<'a, C: Clock + Copy, R: Eprint + Files<File = File> + PipeFolder>(
     clock: C,
     rt: &'a R,
@@ -98,9 +100,10 @@ pub fn open_all<'a, C: Clock + Copy, R: Eprint + Files<File = File> + PipeFolder
     }
 }
 
-/// Opens each file and that of its replies likewise, behind the log that a server goes on from: this is locked before all else, and before it is read, so a second server on it is turned
-/// away at once. It begins, or has a torn line cut off, once all are found fit. It is so where it has whole lines that are a log, whose updates keep to these limits,
-/// or is new, if one may be made. One that may be made anew has nothing in its way beside it.
+/// Opens each file and that of its replies in the same way, and the log that a server continues. The log is locked first, before it is read, so a
+/// second server on it is turned away at once. The log is begun, or a torn line of it cut off, once all files are found fit. A log is fit if it
+/// has whole lines that are a log whose updates keep to these limits, or if it is new and one may be made. If it may be made anew later, nothing
+/// must be in the way of that in its folder.
 pub fn open_with_log<'a, C: Clock + Copy, R: Eprint + Files<File = File> + LogFolder + PipeFolder>(
     clock: C,
     rt: &'a R,
@@ -128,7 +131,7 @@ pub fn open_with_log<'a, C: Clock + Copy, R: Eprint + Files<File = File> + LogFo
     }
 }
 
-// Room for all clients, where their names don't clash.
+// Room for all clients, if their names don't clash.
 fn room_for<F: Drop>(
     alloc: Global,
     names: Names<'_>,
@@ -147,7 +150,7 @@ fn room_for<F: Drop>(
     Ok((clients, all))
 }
 
-// Opens them, reads what subscribers ask, and opens the file of a transcript if there is to be one.
+// Opens the clients' files, reads what subscribers ask, and opens the file of a transcript if there is to be one.
 fn open_and_ask<R: Files<File = File>>(
     rt: &R,
     alloc: Global,
@@ -167,7 +170,7 @@ fn open_and_ask<R: Files<File = File>>(
     }
 }
 
-// Opens them, and reads what subscribers ask.
+// Opens the clients' files, and reads what subscribers ask.
 fn open_asked<R: Files<File = File>>(
     rt: &R,
     alloc: Global,
@@ -195,7 +198,7 @@ fn open_store<C: Clock + Copy, R: Files<File = File>>(
     }
 }
 
-// The same error, where a log that isn't there was not to be made.
+// The error that is reported for a log that can't be opened: if it had to exist, the error says that it is missing.
 fn unfound(error: ProgramError, must_exist: bool) -> ProgramError {
     match error.reason {
         Reason::Unopened if must_exist => {
@@ -205,7 +208,8 @@ fn unfound(error: ProgramError, must_exist: bool) -> ProgramError {
     }
 }
 
-// Opens the clients' files, reads what subscribers ask, and begins the log. One that was made here and can't begin is taken away, before it is unlocked.
+// Opens the clients' files, reads what subscribers ask, and begins the log. A log that was made here and can't begin is removed before it is
+// unlocked.
 fn open_and_start<'a, C: Clock + Copy, R: Eprint + Files<File = File> + LogFolder>(
     clock: C,
     rt: &'a R,
@@ -225,7 +229,7 @@ fn open_and_start<'a, C: Clock + Copy, R: Eprint + Files<File = File> + LogFolde
     }
 }
 
-// Begins the log, once it is seen that no client reads or writes it, and that it is fit.
+// Begins the log, once it is checked that no client reads or writes it, and that it is fit.
 fn start<'a, C: Clock + Copy, R: Eprint + Files<File = File> + LogFolder>(
     clock: C,
     rt: &'a R,
@@ -253,7 +257,7 @@ fn start<'a, C: Clock + Copy, R: Eprint + Files<File = File> + LogFolder>(
     }
 }
 
-// Sees that no client reads or writes the log, that it is fit, and that nothing is in the way beside it.
+// Checks that no client reads or writes the log, that it is fit, and that no other file is in its way.
 fn see_log<'a, R: Files<File = File>>(
     rt: &R,
     alloc: Global,
@@ -283,7 +287,7 @@ fn see_log<'a, R: Files<File = File>>(
     Ok(places)
 }
 
-// Sees that nothing is in the way beside a log when it is made anew, and that no client reads or writes it.
+// Checks that no other file is in the way of a log when it is made anew, and that no client reads or writes one.
 fn see_places<R: Files<File = File>>(
     rt: &R,
     places: &LogPlaces<'_>,
@@ -309,7 +313,7 @@ fn is_at(all: &[OpenedClient<File>], found: Found) -> bool {
     }
 }
 
-// The same log, as one that may be made anew.
+// The started log, as one that may be made anew.
 fn stored<'a, C: Clock + Copy, R: Eprint + LogFolder>(
     clock: C,
     rt: &'a R,
@@ -336,7 +340,7 @@ fn stored<'a, C: Clock + Copy, R: Eprint + LogFolder>(
     }
 }
 
-// Opens them in order, and sees that none is written that is read or written otherwise.
+// Opens the clients' files in order, and checks that none is written that is read or written otherwise.
 fn open_each<R: Files<File = File>>(
     rt: &R,
     alloc: Global,
@@ -417,8 +421,8 @@ fn is_used<F: Drop>(all: &[OpenedClient<F>], number: usize, output: Identity) ->
     false
 }
 
-// Opens the file of a transcript. No client reads or writes it, no standard stream leads there, nobody else has locked it, and it has one name, which is on the
-// disk where that is wanted. A file that was made here is removed otherwise, before it is unlocked.
+// Opens the file of a transcript. It is fit if no client reads or writes it, no standard stream leads there, nobody else has locked it, and it
+// has only one name, which is flushed to the disk if that is wanted. Otherwise a file that was made here is removed before it is unlocked.
 fn open_unshared<R: Files<File = File>>(
     rt: &R,
     names: Names<'_>,
@@ -445,7 +449,7 @@ fn open_unshared<R: Files<File = File>>(
     }
 }
 
-// Sees so of a file that is open and locked, and flushes its folder.
+// Checks this of a file that is open and locked, and flushes its folder if that is wanted.
 fn see_transcript<R: Files<File = File>>(
     rt: &R,
     names: Names<'_>,
@@ -470,8 +474,8 @@ fn see_transcript<R: Files<File = File>>(
     Ok(())
 }
 
-// Locks each file of replies until it is closed, and sees that its name leads to it still, that it has no other name, and that nobody has written to one that was made here. So
-// none is the log or the transcript of another server, nor becomes it.
+// Locks each file of replies until it is closed. Checks that its name still leads to it, that it has no other name, and that nobody has written
+// to one that was made here. So none is the log or the transcript of another server, nor becomes one.
 fn lock_replies<R: Files>(rt: &R, all: &[OpenedClient<File>]) -> Result<(), ProgramError> {
     for opened in all {
         let reason = match lost_by(opened) {
@@ -486,7 +490,8 @@ fn lock_replies<R: Files>(rt: &R, all: &[OpenedClient<File>]) -> Result<(), Prog
     Ok(())
 }
 
-// Why a client's file of replies is another's, if it is: another has locked it, or has written to it although it was made here. If not, it is locked here.
+// Why a client's file of replies belongs to another process, if it does: another has locked it, or has written to it although it was made here.
+// If not, it is locked here.
 fn lost_by(opened: &OpenedClient<File>) -> Option<Reason> {
     if is_held(&opened.replies) {
         return Some(Reason::Locked);
@@ -497,7 +502,7 @@ fn lost_by(opened: &OpenedClient<File>) -> Option<Reason> {
     None
 }
 
-// Whether a file has a second name, where that can be told.
+// Whether a file has a second name, if that can be found out.
 fn has_more_names(file: &File) -> bool {
     match names_of(file) {
         Ok(count) => count > 1,
@@ -505,7 +510,7 @@ fn has_more_names(file: &File) -> bool {
     }
 }
 
-// Whether another has locked a file. If not, it is locked from now on, where locks are to be had.
+// Whether another process has locked a file. If not, it is locked from now on, where locks are supported.
 fn is_held(file: &File) -> bool {
     match file.try_lock() {
         Err(TryLockError::WouldBlock) => true,
@@ -518,8 +523,8 @@ fn is_taken<R: Files, F: Drop>(rt: &R, all: &[OpenedClient<F>], output: OutputFi
     is_used(all, usize::MAX, output.identity) || standard_files(rt).contains(&Some(output.identity))
 }
 
-// Reads what each file asks that comes behind those of so many sessions. The first file that can't be read, or has a line that is wrong, is
-// the fault: `ReadFault`, and which line it is.
+// Reads the questions of each file after those of the first `sessions` clients. The first file that can't be read, or has a bad line, is the
+// fault: `ReadFault`, with the line's number.
 fn ask_each<F: Read + Drop>(
     alloc: Global,
     all: &mut [OpenedClient<F>],
@@ -533,7 +538,7 @@ fn ask_each<F: Read + Drop>(
     Ok(())
 }
 
-// Reads what a file asks, and keeps it.
+// Reads the questions of a file, and keeps them.
 fn ask<F: Read + Drop>(alloc: Global, opened: &mut OpenedClient<F>) -> Result<(), ProgramError> {
     let number = opened.number;
     match read_questions(alloc, &mut opened.lines) {
@@ -588,7 +593,8 @@ fn empty_all<'a, C: Clock + Copy, R: Eprint + PipeFolder>(
     Ok(clients)
 }
 
-// Takes away the files of replies that were made here and that nobody else has locked or written to, and adds to an error which is the first that is left.
+// Removes the files of replies that were made here and that nobody else has locked or written to. Adds to an error which is the first that is
+// left.
 fn without_new<R: Files>(rt: &R, all: &[OpenedClient<File>], error: ProgramError) -> ProgramError {
     let mut error = error;
     for opened in all {

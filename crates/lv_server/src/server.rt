@@ -1,4 +1,4 @@
-//! The server: sessions in threads of their own, with workers and subscribers beside them, and the transcript of it all.
+//! The server: sessions in threads of their own, workers and subscribers that run at the same time, and the transcript of everything.
 
 ghost use Rattle.std.specs.Prelude.{◌≡◌, ◌+◌, ◌≤◌, ◌^◌, IfErr, IfOk, IfSome, None, OnOk, [], Some, is_some, length, map, true, vec_capacity, vec_len};
 ghost use Rattle.lv_transcript.specs.Joined.{in_a_row};
@@ -41,27 +41,28 @@ use std::thread::Threads;
 pub struct Plan {
     /// The limits of the vector.
     pub limits: Limits,
-    /// How many workers refresh it.
+    /// How many workers precompute its aggregates.
     pub workers: u32,
     /// How many turns each of them takes.
     pub turns: u64,
-    /// At most how many answered reductions each session keeps for the transcript.
+    /// How many answered reductions each session keeps for the transcript at most.
     pub most: usize,
 }
 
-/// Holds a session for each pair of streams, in a thread of its own where one can be made, with workers beside them, on a vector that begins
-/// with some edits. Where one of those is refused, that is the fault: `NoMemory`, or else `ReadFault`. Then
-/// writes the transcript: the journal, and the sessions' reductions in the order of their edits. Gives the streams back, where
-/// each session has answered all its lines. Where sessions end with faults nothing is written, and the first of them is the fault.
+/// Runs a session for each pair of streams, in a thread of its own if one can be made, and workers at the same time, on a vector that begins with
+/// some updates. If one of these updates is refused, the fault is `NoMemory`, or otherwise `ReadFault`. At the end it writes the transcript: the
+/// journal, and the sessions' reductions in the order of their versions. It returns the streams if each session has answered all its lines. If
+/// sessions end with faults, nothing is written, and the first of these is the fault.
 ///
-/// Beside the sessions each subscriber is told, as they come, of edits that change the answers to its questions. One whose output fails ends
-/// by itself, and everything else is as without it; so it is no fault here, and what becomes of its lines is given back with the others'.
+/// While the sessions run, each subscriber is notified of the updates that change the answers to its questions. A subscriber whose output fails
+/// ends by itself, and everything else proceeds as if it weren't there. So this is no fault here, and the state of its lines is returned with
+/// that of the others.
 ///
-/// Where there is a file for it, and the vector begins with no edit, edits and answers are written there too, as they come, and the file is given back with all of them.
-/// That it can't be written is a fault at the end, once the transcript is written.
+/// If there is a file for it, and the vector begins with no updates, then updates and answers are also written to that file when they come, and
+/// the file is returned with all of them. If it can't be written, that is a fault at the end, once the transcript is written.
 ///
-/// A failure gives nothing back: no clause says what the file, the replies and the outputs of subscribers have got then. What was written
-/// to the file before stays there, and is for its audit to tell.
+/// A failure returns nothing: no clause says what the file, the replies and the outputs of subscribers have then. What was written to the file
+/// before stays there, and can be audited.
 pub fn serve<
     F: Read + Write + Send + Drop,
     V: LogWriter + Send + Drop,
@@ -79,13 +80,14 @@ pub fn serve<
 ) -> Result<(Vec<OpenedClient<F>>, Option<V>, Vec<Watched<F>>), ProgramError>
     requires { IfSome file (λ _. begun.now ≡ []) }
     ensures served { IfOk result (λ done. Served plan.limits from_the_first true begun.now (map (λ s. record { lines = F.remaining s.lines; replies = F.contents s.replies }) streams.items) (map (λ s. record { lines = F.remaining s.lines; replies = F.contents s.replies }) done.0.items) (W.contents writer.old) (W.contents writer.new)) }
-    // Each reply is the plain interpreter's, at a beginning of one list of edits.
+    // Each reply is that of the reference interpreter, after a prefix of one list of updates.
     ensures plain { IfOk result (λ done. ServedPlainly plan.limits from_the_first begun.now (map (λ s. record { lines = F.remaining s.lines; replies = F.contents s.replies }) streams.items) (map (λ s. record { lines = F.remaining s.lines; replies = F.contents s.replies }) done.0.items) (W.contents writer.old) (W.contents writer.new)) }
     ensures failed { IfErr result (λ failure. FailsToServe plan.limits begun.now (W.contents writer.old) (W.contents writer.new) failure.fault) }
     ensures back { IfOk result (λ done. is_some done.1 ≡ is_some file) }
-    // The file has got the edits of the transcript that was written, and true answers between them, in the order of time.
+    // The file has got the updates of the transcript that was written, and true answers between them, in the order of time.
     ensures recorded { IfOk result (λ done. IfSome done.1 (λ kept. Records (start_of V.contents file) (V.contents kept) (W.contents writer.old) (W.contents writer.new))) }
-    // Each subscriber's lines are plain values at edits of the transcript that was written, of which the last stand at its end.
+    // Each subscriber's lines have plain values after prefixes of the updates of the transcript that was written, and the last ones have those
+    // after all updates.
     ensures watched { IfOk result (λ done. ServedWatched from_the_first (map (λ w. record { questions = w.questions.items; contents = F.contents w.notes }) watches.items) (map (λ w. w.notices) done.2.items) (W.contents writer.old) (W.contents writer.new)) }
 {
     let parts = streams.len() as u64 + watches.len() as u64 + 1;
@@ -106,7 +108,7 @@ pub fn serve<
     )
 }
 
-// Serves them on a hub of this name.
+// Serves the clients on a hub of this name.
 fn serve_as<
     N: WithBody<Six> + Send + Sync,
     K: Begun + Send + Sync,
@@ -177,8 +179,9 @@ fn serve_as<
     }
 }
 
-/// Serves them on a hub, and gathers what they leave: the reductions in the order of the sessions, and what subscribers were told. Its
-/// share has all parts, and has them again. Where the hub goes on when its vector's edits are used up, these are that vector's limits; then no reductions are listed.
+/// Serves the clients on a hub, and collects what they leave: the reductions in the order of the sessions, and the last reported answers of
+/// subscribers. The share has all parts, and has them again afterwards. `lasts` has the limits of the hub's vector if the hub continues when that
+/// vector's updates are used up. In that case no reductions are listed.
 pub fn serve_all<
     N: WithBody<Six> + Send + Sync,
     K: Begun + Send + Sync,
@@ -243,7 +246,7 @@ pub fn serve_all<
     Ok((all, unlocked(rt, hub, log), left))
 }
 
-// Makes the edits that a hub begins with. Its share has all parts. Memory that is wanting is the fault, `NoMemory`; an edit that is refused
+// Makes the updates that a hub begins with. The share has all parts. If memory runs out, the fault is `NoMemory`. An update that is refused
 // otherwise is `ReadFault`.
 fn begin<N: WithBody<Six>, R: Wait>(
     rt: &R,

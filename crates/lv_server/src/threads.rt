@@ -1,4 +1,4 @@
-//! The threads of a server: a session in each, with workers and subscribers beside them.
+//! The threads of a server: one for each session, and those of workers and subscribers.
 
 ghost use Rattle.lv_server.specs.Tasks.{AreHeldFrom, IsHeldOnce};
 ghost use Rattle.lv_hub.specs.Watchers.{AreWatchedFrom};
@@ -19,8 +19,8 @@ use std::sync::{Mutex, Wait};
 use std::thread;
 use std::thread::Threads;
 
-/// Holds all sessions, with workers and subscribers beside them, which end when the last session has ended. Where no thread can be made
-/// for the workers, they come last, and end at once.
+/// Runs all sessions, and at the same time workers and subscribers, which end when the last session has ended. If no thread can be made for the
+/// workers, they run last, and end at once.
 pub fn hold_all<
     N: WithBody<Six> + Send + Sync,
     K: Begun + Send + Sync,
@@ -50,8 +50,8 @@ pub fn hold_all<
     ended
 }
 
-// Refreshes the hub by all workers. Their threads are made once there may be work for them; where memory is wanting for so many, one
-// goes on alone.
+// Precomputes the hub's aggregates with all workers. Their threads are made once there may be work for them. If there is no memory for so many,
+// one worker does everything.
 fn refresh<N: WithBody<Six> + Send + Sync, R: Threads + Wait + Sync>(
     rt: &R,
     alloc: Global,
@@ -68,8 +68,8 @@ fn refresh<N: WithBody<Six> + Send + Sync, R: Threads + Wait + Sync>(
     }
 }
 
-// Holds all sessions, and has subscribers told beside them. Once the last session has ended it dismisses them, and the workers. Where
-// no thread can be made for the subscribers, they come last, and each still tells what there is to tell.
+// Runs all sessions and, at the same time, the subscribers. Once the last session has ended it dismisses the subscribers and the workers. If no
+// thread can be made for the subscribers, they run last, and each still reports what there is to report.
 fn hold_beside<
     N: WithBody<Six> + Send + Sync,
     K: Begun + Send + Sync,
@@ -102,7 +102,7 @@ fn hold_beside<
     (held, watchers)
 }
 
-// Has each subscriber told so, and gives them back. Takes no memory.
+// Runs each subscriber, and returns them. Allocates no memory.
 fn watch_all<
     N: WithBody<Six> + Send + Sync,
     K: Begun + Send + Sync,
@@ -123,7 +123,7 @@ fn watch_all<
     watchers
 }
 
-// Has each subscriber told, in a thread of its own where one can be made, until the hub's workers are dismissed.
+// Runs each subscriber, in a thread of its own if one can be made, until the hub's workers are dismissed.
 fn watch_each<
     N: WithBody<Six> + Send + Sync,
     K: Begun + Send + Sync,
@@ -148,8 +148,8 @@ fn watch_each<
     );
 }
 
-// Holds each session in a thread of its own, where one can be made. One that finds no memory there to begin with is held behind the others,
-// by what was put by for it. Then it dismisses workers and subscribers.
+// Runs each session in a thread of its own, if one can be made. A session that can't begin there for lack of memory is run after the others, with
+// the memory that was reserved for it. Afterwards it dismisses workers and subscribers.
 fn hold_each<
     N: WithBody<Six> + Send + Sync,
     K: Begun + Send + Sync,
@@ -169,8 +169,8 @@ fn hold_each<
     tasks
 }
 
-// Holds them so where they stand: in threads of their own first, and then those that wait still, one behind the other in this thread.
-// Takes no memory but that of threads.
+// Runs the sessions in place: in threads of their own first, and then those that still wait, one after the other in this thread. Allocates no
+// memory except that of threads.
 fn hold_in_place<
     N: WithBody<Six> + Send + Sync,
     K: Begun + Send + Sync,
@@ -189,8 +189,9 @@ fn hold_in_place<
     hold_waiting(place, log, tasks, 1, true);
 }
 
-// Holds each that waits, in so many threads, where they can be made. Threads take memory before they begin, and so does each session that has
-// begun: one that finds none waits still. Where it is to be freed, what was put by for each is free when it begins.
+// Runs each session that waits, in this many threads, if they can be made. Threads take memory before they begin, and each session that has begun
+// takes some too. A session that finds none still waits. If `frees` is set, the memory that was reserved for each session is released when it
+// begins.
 fn hold_waiting<
     N: WithBody<Six> + Send + Sync,
     K: Begun + Send + Sync,
@@ -217,7 +218,7 @@ fn hold_waiting<
     thread::for_each_mut(place.rt, tasks, threads.max(1), &held);
 }
 
-// Holds a session that waits. Where it finds no memory to begin with it waits still, and nothing is changed.
+// Runs a session that waits. If it finds no memory to begin with, it still waits, and nothing has changed.
 fn hold<N: WithBody<Six>, K: Begun, F: Read + Write + Drop, V: LogWriter + Drop, R: Wait>(
     place: &SessionPlace<'_, N, R>,
     log: Option<&Mutex<OperationLog<N, V, K>>>,

@@ -1,4 +1,4 @@
-//! The transcript of a server: its file, which is written as edits come, and what is written at the close.
+//! The transcript of a server: its file, which is written when updates come, and what is written at the close.
 
 ghost use Rattle.std.specs.Prelude.{◌≡◌, ◌⊎◌, ◌<◌, ◌≤◌, All, Err, IfErr, IfOk, IfSome, MatchResult, None, Ok, [], is_some, map, true, vec_capacity, vec_len};
 ghost use mathlib.Core.List.{IsPrefix};
@@ -29,7 +29,7 @@ use std::alloc::Global;
 use std::io::Write;
 use std::sync::{Mutex, Wait};
 
-/// The log of a hub, where there is a file for it: it goes on behind the edits that were there, or begins a transcript.
+/// The log of a hub, if there is a file for it. It continues after the updates that were there, or begins a transcript.
 pub fn begin_log<N: WithBody<Six>, K: Begun, V: LogWriter + Drop, R: Wait>(
     rt: &R,
     alloc: Global,
@@ -57,7 +57,7 @@ pub fn begin_log<N: WithBody<Six>, K: Begun, V: LogWriter + Drop, R: Wait>(
     }
 }
 
-/// The log, once no session is held any more: what came last is recorded. Where that fails, the log's end tells it.
+/// The log, once no session runs any more. What came last is recorded. If that fails, the log's end reports it.
 pub fn unlocked<N: WithBody<Six>, K: Begun, V: LogWriter + Drop, R: Wait>(
     rt: &R,
     hub: &Hub<Six, N>,
@@ -72,9 +72,9 @@ pub fn unlocked<N: WithBody<Six>, K: Begun, V: LogWriter + Drop, R: Wait>(
     }
 }
 
-/// Closes a hub and writes its transcript by what was made for it, ends its log, and gives its file back. Then subscribers that
-/// have ended tell the last, unless the log's end failed. Takes no memory. The transcript's fault comes before that of the log. A call drops the vector, as one above drops the hub: the proof of a body
-/// that does so by itself is long.
+/// Closes a hub, writes its transcript with the writer that was made for it, ends its log, and returns the log's file. Then subscribers that have
+/// ended write their last notifications, unless the log's end failed. Allocates no memory. The transcript's fault takes precedence over that of
+/// the log. A call drops the vector, as a call above drops the hub, since the proof of a function that drops it itself is long.
 pub fn write_closed<N: WithBody<Six>, K: Begun, F: Write + Drop, V: LogWriter + Drop, W: Write>(
     hub: Hub<Six, N>,
     share: Share<N>,
@@ -93,11 +93,11 @@ pub fn write_closed<N: WithBody<Six>, K: Begun, F: Write + Drop, V: LogWriter + 
     ensures written { IfOk result.1 (λ done. WritesClosed N.limits share (in_a_row queues.old.items) (W.contents writer.old) (W.contents writer.new) (Ok done)) }
     ensures failed { IfErr result.1 (λ failure. FailsToClose N.limits share (in_a_row queues.old.items) (W.contents writer.old) (W.contents writer.new) failure.fault) }
     ensures back { is_some result.0 ≡ is_some log }
-    // The file has the edits of the transcript that was written.
+    // The file has the updates of the transcript that was written.
     ensures recorded { K.there ≡ None → IfOk result.1 (λ done. IfSome result.0 (λ file. Records K.start (V.contents file) (W.contents writer.old) (W.contents writer.new))) }
-    // What subscribers tell last is of those edits too.
+    // The last notifications of subscribers are of those updates too.
     ensures told { IfOk result.1 (λ done. ClosesTelling share leaving.left.items (map (λ w. w.notices) result.2.items) (W.contents writer.old) (W.contents writer.new)) }
-    // No last note goes out unless its edits are recorded.
+    // No last note is sent unless its updates are recorded.
     ensures waits { TellsOnceRecorded V.made V.contents K.there K.start N.limits N.numbers leaving.left.items (map (λ w. w.notices) result.2.items) result.0 }
 {
     let share = shown(&log, share);
@@ -109,7 +109,7 @@ pub fn write_closed<N: WithBody<Six>, K: Begun, F: Write + Drop, V: LogWriter + 
     (file, first_failure(written, ended), watched)
 }
 
-/// A share that has seen what was recorded too.
+/// The share, which has also seen what was recorded.
 pub fn shown<N: WithBody<Six>, K: Begun, V: LogWriter + Drop>(
     log: &Option<OperationLog<N, V, K>>,
     share: Share<N>,
@@ -125,7 +125,7 @@ pub fn shown<N: WithBody<Six>, K: Begun, V: LogWriter + Drop>(
     share
 }
 
-/// Ends a log, if there is one, by all edits of the hub, and gives its file back.
+/// Ends a log, if there is one, given all updates of the hub, and returns its file.
 pub fn end_log<N: WithBody<Six>, K: Begun, V: LogWriter + Drop>(
     log: Option<OperationLog<N, V, K>>,
     edits: &HistoryPrefix<N>,
@@ -133,7 +133,8 @@ pub fn end_log<N: WithBody<Six>, K: Begun, V: LogWriter + Drop>(
     requires { IfSome log (λ log. IsPrefix log.seen edits.now) }
     ensures late { IfErr result.1 (λ fault. fault ≡ Fault.WriteFault) }
     ensures back { is_some result.0 ≡ is_some log }
-    // Its last file has all edits, each answer true of those before it, and the last line of a transcript; unless a write has failed.
+    // Its last file has all updates, answers that are each true of the updates before it, and the last line of a transcript, unless a write has
+    // failed.
     ensures ends { IfSome result.0 (λ file. EndsInFile V.made N.limits N.numbers K.there K.start (V.contents file) edits.now result.1) }
 {
     let Some(log) = log else {
@@ -143,7 +144,7 @@ pub fn end_log<N: WithBody<Six>, K: Begun, V: LogWriter + Drop>(
     (Some(file), ended)
 }
 
-// Writes the transcript of a journal, with the reductions in the order of their edits.
+// Writes the transcript of a journal, with the reductions in the order of their versions.
 fn write_in_order<W: Write>(
     journal: &[Edit],
     queues: &mut Vec<Queue>,
@@ -158,7 +159,7 @@ fn write_in_order<W: Write>(
     write_joined_transcript(transcript, journal, queues, writer)
 }
 
-// What failed first: the transcript on standard output, or else its file.
+// The first failure: that of the transcript on standard output, or otherwise that of its file.
 fn first_failure(written: Result<(), Fault>, ended: Result<(), Fault>) -> Result<(), ProgramError>
     requires late { IfErr ended (λ fault. fault ≡ Fault.WriteFault) }
     ensures well { IfOk result (λ done. written ≡ Ok done) }
@@ -174,7 +175,7 @@ fn first_failure(written: Result<(), Fault>, ended: Result<(), Fault>) -> Result
     }
 }
 
-/// The streams and the file, and what was told, where nothing failed.
+/// The streams, the file and the subscribers, if nothing failed.
 pub fn all_or_failure<F: Write + Drop, V: Drop>(
     written: Result<(), ProgramError>,
     streams: Vec<OpenedClient<F>>,

@@ -31,7 +31,7 @@ chosen_joined false s t u same few e = elim (not_ok OtherTable u (sym (other_lea
 pub were_joined : (s t u : Summary) → join_of s t ≡ Ok u → WereJoined s t u
 were_joined s t u e = chosen_joined (same_leads s.leads t.leads) s t u refl (cases_lt (2 ^ 62) (s.count + t.count)) e
 
--- joins of three, as they are where both sides were joined
+-- joins of three, as they are if both sides were joined
 joined_associate : (s t u : Summary) → IsPossible s → IsPossible t → IsPossible u → s.count + t.count + u.count ≤ 2 ^ 62 → joined (joined s t) u ≡ joined s (joined t u)
 joined_associate s t u p q r few =
     let sixes = six_long.associative s.six t.six u.six s.count t.count u.count p.within q.within r.within few in

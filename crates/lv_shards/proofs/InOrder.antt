@@ -38,7 +38,7 @@ joined_from table xs r (ys ∷ lists) (s ∷ parts) p all =
     subst (λ zs. IfOk (fold join_next (join_next r s) parts) (IsSummaryOf table zs)) (append_assoc xs ys (flat_map (λ zs. zs) lists))
     (joined_from table (xs ++ ys) (join_next r s) lists parts (joined_next table xs ys r s p all.0) all.1)
 
--- the same for shards
+-- the summaries of shards, combined in order, are that of all their elements
 pub shards_from : (table : List (List ℕ)) (xs : List ℤ) (r : Result Summary JoinRefusal) (shards : List Shard) (parts : List Summary) → IfOk r (IsSummaryOf table xs) → AreOfShards table shards parts
     → IfOk (fold join_next r parts) (IsSummaryOf table (xs ++ flat_map elements_of shards))
 shards_from table xs r [] [] p all = subst (λ ys. IfOk r (IsSummaryOf table ys)) (sym (append-nil xs)) p
@@ -63,7 +63,7 @@ granted_from leads s (t ∷ parts) same all few =
     let one : join_of s t ≡ Ok (joined s t) = are_joined s t ((exact_leads s.leads t.leads).1 (same ∙ sym first)) (omega (arith, few)) in
     subst (λ r. IsOk (fold join_next r parts)) (sym one) (granted_from leads (joined s t) parts same (All-tail (λ u. u.leads ≡ leads) t parts all) (omega (arith, few)))
 
--- where one is refused, all are
+-- if one is rejected, all are
 pub refused_at : (all first d part : Summary) (parts : List Summary) (i : ℕ) (refusal : JoinRefusal) → i < length parts → part ≡ get_or parts i d → Err refusal ≡ join_of all part
     → fold join_next (Ok all) (drop i parts) ≡ fold join_next (Ok first) parts → Err refusal ≡ fold join_next (Ok first) parts
 refused_at all first d part parts i refusal below is refused so_far =

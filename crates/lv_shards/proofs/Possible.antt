@@ -51,7 +51,7 @@ joined_empty s t p q none =
     let right : t.count ≡ 0 = omega arith in
     ap (λ u. o.join u t.six) (p.empty left) ∙ ap (o.join o.identity) (q.empty right) ∙ six_long.left_identity o.identity 0 six_long.identity_within (omega arith)
 
--- where there are elements on either side there are some in both together
+-- if there are elements on either side there are some in both together
 joined_full : (s t : Summary) → IsPossible s → IsPossible t → 0 < s.count + t.count → HasElements (joined s t).six
 joined_full s t p q some =
     elim (cases_lt 0 s.count) [

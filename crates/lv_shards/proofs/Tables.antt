@@ -55,7 +55,7 @@ rows_are_states leads h =
 
 -- ---- two tables that lead to the same states
 
--- by a remainder a table leads where it is said to lead
+-- by a remainder, a table leads to the states that are listed for it
 at_remainder : (table : List (List ℕ)) (n : ℕ) → n < 4 → map (λ row. slice_index row n) table ≡ get_or (leads_of table) n []
 at_remainder table zero below = refl
 at_remainder table (suc zero) below = refl

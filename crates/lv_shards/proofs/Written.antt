@@ -19,7 +19,7 @@ pub checksum_none : (before : ℕ) → before ≡ checksum_from before []
 unfolding checksum_from
 checksum_none before = refl
 
--- the checksum stands behind the payload
+-- the checksum is after the payload
 pub sealed : (payload part : List ℕ) → length payload ≡ 176 → put_mid 176 8 (payload ++ 0 ∷ 0 ∷ 0 ∷ 0 ∷ 0 ∷ 0 ∷ 0 ∷ 0 ∷ []) part ≡ payload ++ part
 sealed payload part many =
     let zeros : List ℕ = 0 ∷ 0 ∷ 0 ∷ 0 ∷ 0 ∷ 0 ∷ 0 ∷ 0 ∷ [] in

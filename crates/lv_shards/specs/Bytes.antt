@@ -12,11 +12,11 @@ low_bits x = cast_unsigned w128 x % 2 ^ 64
 abbrev pub high_bits : ℤ → ℕ
 high_bits x = cast_unsigned w128 x / 2 ^ 64
 
--- an element in two's complement, 0 where there is none
+-- an element in two's complement, 0 if there is none
 abbrev pub element_bits : Option ℤ → ℕ
 element_bits x = cast_unsigned w64 (unwrap_or x (pos 0))
 
--- a best run, zeros where there is none
+-- a best run, zeros if there is none
 abbrev pub run_or_zeros : Option RunTotals → RunTotals
 run_or_zeros best = unwrap_or best (record { total = pos 0; prefix = pos 0; suffix = pos 0; best = pos 0 })
 
@@ -36,7 +36,7 @@ numbers_of s =
     ∷ s.six.1.1.1.1.0.a ∷ s.six.1.1.1.1.0.b ∷ from_le_bytes w64 s.six.1.1.1.1.1
     ∷ states_at s.leads 0 ∷ states_at s.leads 1 ∷ states_at s.leads 2 ∷ states_at s.leads 3 ∷ []
 
--- the checksum of some bytes: FNV-1a of 64 bits; it begins with a number, and goes on byte by byte
+-- the checksum of some bytes: FNV-1a of 64 bits, which begins with a number and continues byte by byte
 unfoldable pub checksum_from : ℕ → List ℕ → ℕ
 checksum_from hash bytes = fold (λ h byte. (bit_xor h byte * 1099511628211) % 2 ^ 64) hash bytes
 
@@ -55,13 +55,13 @@ sealed_by payload = payload ++ to_le_bytes w64 (checksum_of payload)
 abbrev pub bytes_of : Summary → List ℕ
 bytes_of s = sealed_by (spelled (numbers_of s))
 
--- the number whose eight bytes stand at a place among the numbers
+-- the number whose eight bytes are at a place among the numbers
 abbrev pub number_in : List ℕ → ℕ → ℕ
 number_in bytes j =
     from_le_bytes w64
     (slice_index bytes (8 * j) ∷ slice_index bytes (8 * j + 1) ∷ slice_index bytes (8 * j + 2) ∷ slice_index bytes (8 * j + 3)
     ∷ slice_index bytes (8 * j + 4) ∷ slice_index bytes (8 * j + 5) ∷ slice_index bytes (8 * j + 6) ∷ slice_index bytes (8 * j + 7) ∷ [])
 
--- the version of the layout that bytes tell
+-- the version of the layout that bytes have
 abbrev pub version_of : List ℕ → ℕ
 version_of bytes = number_in bytes 0

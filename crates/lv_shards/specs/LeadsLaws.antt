@@ -1,4 +1,4 @@
--- What a table leads to, as states and as numbers.
+-- The states that a table leads to, as states and as numbers.
 use Rattle.std.proofs.Common.{◌≡◌, ℕ, ℤ, pos, ◌^◌, ◌<◌, List, [], ◌∷◌, length, get_or, refl, arith, inl, inr}
 use Rattle.std.specs.Prelude.{IsTrue, All}
 use Rattle.std.specs.Int.{w64, from_le_bytes, to_le_bytes}
@@ -42,7 +42,7 @@ row_short leads k h below = states_short (get_or leads k []) 0 (row_at leads k h
 four_rows : (P : List ℕ → Type 0) (a b c d : List ℕ) → P a → P b → P c → P d → All P (a ∷ b ∷ c ∷ d ∷ [])
 four_rows P a b c d of_a of_b of_c of_d = All-cons P a (b ∷ c ∷ d ∷ []) of_a (All-cons P b (c ∷ d ∷ []) of_b (All-cons P c (d ∷ []) of_c (All-cons P d [] of_d (All-nil P))))
 
--- what a table leads to
+-- the states that a table leads to
 pub leads_of_table : (table : List (List ℕ)) → IsTrue (is_table table) → AreLeads (leads_of table)
 leads_of_table table valid =
     let IsRow : List ℕ → Type 0 = λ row. IsStateMap row 0 in

@@ -1,4 +1,4 @@
--- What some elements come to, where there is at least one, as the six summaries.
+-- The fold of at least one element by each of the six, as the six summaries.
 use Rattle.std.specs.Prelude.{Some}
 use Rattle.lv_bodies.specs.Six.{SixSummary}
 use Rattle.lv_shards.specs.declared.filled.Filled.{Filled}

@@ -27,7 +27,7 @@ pub record Shard : Type 0 where
 abbrev pub elements_of : Shard → List ℤ
 elements_of shard = slice_range (list_of (take shard.edit shard.journal)) shard.lo shard.hi
 
--- the summary of a shard's elements, which tells its edit
+-- the summary of a shard's elements, which has the shard's version
 abbrev pub IsOfShard : List (List ℕ) → Shard → Summary → Type 0
 IsOfShard table shard s = IsSummaryOf table (elements_of shard) s × (s.edit ≡ Some shard.edit)
 

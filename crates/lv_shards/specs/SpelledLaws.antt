@@ -1,4 +1,4 @@
--- Numbers by their bytes, and the numbers that stand there.
+-- Numbers as bytes, and the numbers that are read at their places.
 use Rattle.std.proofs.Common.{◌≡◌, ℕ, zero, suc, ◌+◌, ◌-◌, ◌*◌, ◌^◌, ◌<◌, ◌≤◌, List, [], ◌∷◌, ◌++◌, length, get_or, take, drop, refl, sym, ap, ◌∙◌, arith, append_assoc, length-append, length-drop}
 use Rattle.std.specs.Prelude.{All}
 use Rattle.std.specs.Int.{w64, from_le_bytes, to_le_bytes}
@@ -31,7 +31,7 @@ still_many a n bytes part many eight within =
     ∙ ap (λ m. length (take a bytes) + m) (length-append part (post_of a (a + 8 - a) bytes))
     ∙ omega (arith, length-take a bytes, length-drop (a + 8 - a) (drop a bytes), length-drop a bytes)
 
--- one number more is written behind the others
+-- one number more is written after the others
 pub written_more : (j : ℕ) (numbers bytes part : List ℕ) → j < length numbers → 8 * j + 8 ≤ length bytes → part ≡ to_le_bytes w64 (get_or numbers j 0) → take (8 * j) bytes ≡ spelled (take j numbers)
     → take (8 * (j + 1)) (put_mid (8 * j) (8 * j + 8 - 8 * j) bytes part) ≡ spelled (take (j + 1) numbers)
 written_more j numbers bytes part below within is so_far =
@@ -40,7 +40,7 @@ written_more j numbers bytes part below within is so_far =
     ∙ ap (λ b. spelled (take j numbers) ++ b) is
     ∙ sym (spelled_more numbers j below)
 
--- what stands after a number's eight bytes
+-- the bytes after a number's eight bytes
 after_eight : (n k : ℕ) (rest : List ℕ) → get_or (to_le_bytes w64 n ++ rest) (8 + k) 0 ≡ get_or rest k 0
 after_eight n k rest =
     let eight : 8 + k ≡ suc (suc (suc (suc (suc (suc (suc (suc k))))))) = omega arith in
@@ -57,11 +57,11 @@ eight_same : (a b c d e f g h a' b' c' d' e' f' g' h' : ℕ) → a ≡ a' → b 
     → from_le_bytes w64 (a ∷ b ∷ c ∷ d ∷ e ∷ f ∷ g ∷ h ∷ []) ≡ from_le_bytes w64 (a' ∷ b' ∷ c' ∷ d' ∷ e' ∷ f' ∷ g' ∷ h' ∷ [])
 eight_same a b c d e f g h a' b' c' d' e' f' g' h' p q r s t u v w = omega arith
 
--- the number at a later place stands at the place before in the rest
+-- the number at a later place is the number at the place before in the rest
 number_later : (n j : ℕ) (rest : List ℕ) → number_in (to_le_bytes w64 n ++ rest) (suc j) ≡ number_in rest j
 number_later n j rest = eight_same _ _ _ _ _ _ _ _ _ _ _ _ _ _ _ _ (later_first n j rest) (later n j 1 rest) (later n j 2 rest) (later n j 3 rest) (later n j 4 rest) (later n j 5 rest) (later n j 6 rest) (later n j 7 rest)
 
--- the number that stands at a place is the one that was spelled
+-- the number at a place is the one that was spelled
 pub number_is : (numbers rest : List ℕ) (j : ℕ) → j < length numbers → All (λ n. n < 2 ^ 64) numbers → number_in (spelled numbers ++ rest) j ≡ get_or numbers j 0
 unfolding spelled
 number_is [] rest j below short = absurd (omega arith)
@@ -71,7 +71,7 @@ number_is (n ∷ numbers) rest (suc j) below short =
     ∙ number_later n j (flat_map (to_le_bytes w64) numbers ++ rest)
     ∙ number_is numbers rest j (omega (arith, below)) (All-tail (λ m. m < 2 ^ 64) n numbers short)
 
--- so it is in front of a checksum
+-- the number at a place is the one that was spelled, also if a checksum follows the numbers
 pub number_in_sealed : (numbers : List ℕ) (j : ℕ) → j < length numbers → All (λ n. n < 2 ^ 64) numbers → number_in (sealed_by (spelled numbers)) j ≡ get_or numbers j 0
 unfolding sealed_by
 number_in_sealed numbers j below short = number_is numbers _ j below short

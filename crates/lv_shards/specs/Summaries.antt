@@ -1,4 +1,4 @@
--- What the summary of a shard says, when it is that of a list, and what two summaries are joined to.
+-- Aggregates (*summaries*) of shards: what they contain, when one is that of a list, and how two are combined.
 use Rattle.std.specs.Prelude.{◌≡◌, ℕ, ℤ, pos, ◌+◌, ◌^◌, ◌<◌, ◌≤◌, Bool, IsTrue, nat_eq, nat_lt, Option, None, IfSome, IsSome, Result, Ok, Err, List, [], ◌∷◌, length, map, fold, All, slice_index, if◌then◌else◌}
 use Rattle.std.specs.Cmp.Lexicographic.{pointwise}
 use Rattle.std.specs.List.{range_with_len}
@@ -10,8 +10,8 @@ use Rattle.lv_bodies.specs.Tables.{IsStateMap, column_of, is_table}
 use Rattle.lv_shards.specs.declared.refusals.JoinRefusal.{JoinRefusal}
 use Rattle.lv_shards.specs.declared.refusals.JoinRefusal.TheVariants.{OtherTable, TooLong}
 
--- of how many elements a summary is, after which edit one vector had them, what they come to by each of the six, and by which
--- automaton: for each remainder by 4, the states that it leads to
+-- a summary: how many elements it is of, the version at which one vector had them, their fold by each of the six monoid instances, and the
+-- automaton, as the states to which it leads for each remainder by 4
 pub record Summary : Type 0 where
   pub count : ℕ
   pub edit : Option ℕ
@@ -22,7 +22,7 @@ pub record Summary : Type 0 where
 abbrev pub leads_of : List (List ℕ) → List (List ℕ)
 leads_of table = column_of table (pos 0) ∷ column_of table (pos 1) ∷ column_of table (pos 2) ∷ column_of table (pos 3) ∷ []
 
--- the table again: for each of the eight states, where it leads by each remainder
+-- the table again: for each of the eight states, the states to which it leads by each remainder
 abbrev pub rows_of : List (List ℕ) → List (List ℕ)
 rows_of leads = map (λ q. map (λ states. slice_index states q) leads) (range_with_len 0 8)
 
@@ -38,7 +38,7 @@ pub record IsSummaryOf (table : List (List ℕ)) (xs : List ℤ) (s : Summary) :
 abbrev pub empty_of : List (List ℕ) → Summary
 empty_of leads = record { count = 0; edit = None; six = six_operations.identity; leads = leads }
 
--- what only some elements have: a least, a greatest and a best run
+-- the values that only some elements have, and not an empty list: a minimum, a maximum and a best run
 pub record HasElements (six : SixSummary) : Type 0 where
   pub least : IsSome six.1.0
   pub greatest : IsSome six.1.1.0
@@ -49,8 +49,8 @@ pub record AreLeads (leads : List (List ℕ)) : Type 0 where
   pub four : length leads ≡ 4
   pub states : All (λ row. IsStateMap row 0) leads
 
--- it may be the summary of so many elements, as far as the bounds of the six say: of at most 2 ^ 62, by an automaton of eight
--- states, and that of no elements where there are none
+-- it may be the summary of its count of elements, as far as the bounds of the six say: of at most 2 ^ 62, by an automaton of eight states. If
+-- there are no elements, it is that of none
 pub record IsPossible (s : Summary) : Type 0 where
   pub few : s.count ≤ 2 ^ 62
   pub edit : IfSome s.edit (λ e. e < 2 ^ 32)
@@ -70,19 +70,19 @@ pub record IsFold (table : List (List ℕ)) (count : ℕ) (six : SixSummary) : T
 abbrev pub same_leads : List (List ℕ) → List (List ℕ) → Bool
 same_leads = pointwise (pointwise nat_eq)
 
--- of the elements of the one, then of those of the other; no one vector had them after one edit
+-- the summary of the elements of the one, then of those of the other; it has no version, since no one vector had them at one
 abbrev pub joined : Summary → Summary → Summary
 joined s t = record { count = s.count + t.count; edit = None; six = six_operations.join s.six t.six; leads = s.leads }
 
--- two summaries are joined where they are by one automaton, and of at most 2 ^ 62 elements together
+-- two summaries are combined if they have one automaton, and at most 2 ^ 62 elements together
 abbrev pub join_of : Summary → Summary → Result Summary JoinRefusal
 join_of s t = if same_leads s.leads t.leads then (if nat_lt (2 ^ 62) (s.count + t.count) then Err TooLong else Ok (joined s t)) else Err OtherTable
 
--- one more summary after those that were joined
+-- one more summary combined with those before it
 abbrev pub join_next : Result Summary JoinRefusal → Summary → Result Summary JoinRefusal
 join_next (Ok s) t = join_of s t
 join_next (Err refusal) t = Err refusal
 
--- all in order, from the left, until one is refused
+-- all combined in order, from the left, until one is rejected
 abbrev pub join_all_of : List (List ℕ) → List Summary → Result Summary JoinRefusal
 join_all_of leads parts = fold join_next (Ok (empty_of leads)) parts

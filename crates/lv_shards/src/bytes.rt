@@ -9,7 +9,7 @@ use crate::refusals::ReadRefusal;
 use crate::shard::ShardSummary;
 use lv_bodies::RunTotals;
 
-// A best run, zeros where there is none.
+// A best run, zeros if there is none.
 fn run_of(best: Option<RunTotals>) -> RunTotals
     ensures { result ≡ run_or_zeros best }
 {
@@ -31,7 +31,7 @@ fn mark(edit: Option<u32>) -> u64
     }
 }
 
-// An element in two's complement, 0 where there is none.
+// An element in two's complement, 0 if there is none.
 fn bits(x: Option<i64>) -> u64
     ensures { result ≡ element_bits x }
 {
@@ -89,11 +89,11 @@ impl ShardSummary {
     /// The summary that has these bytes.
     ///
     /// # Errors
-    /// `OtherVersion` where the first number is not this layout's version, else `Damaged` where no summary has these bytes.
+    /// `OtherVersion` if the first number is not this layout's version, else `Damaged` if no summary has these bytes.
     pub fn from_bytes(bytes: &[u8; SUMMARY_BYTES]) -> Result<ShardSummary, ReadRefusal>
         // What is read has these bytes, and may be the summary of its count of elements.
         ensures found { IfOk result (λ s. IsPossible s × (bytes.now ≡ bytes_of s)) }
-        // What has these bytes is read.
+        // Bytes that a summary has are read.
         ensures only { (s : Summary) → IsPossible s → bytes.now ≡ bytes_of s → result ≡ Ok s }
         ensures other_version { IsErrOf result ReadRefusal.OtherVersion ↔ ¬ (version_of bytes.now ≡ 1) }
     {

@@ -1,4 +1,4 @@
-//! The automaton of a summary, and a summary with more elements behind its own.
+//! The automaton of a summary, and a summary with more elements after its own.
 ghost use Rattle.std.specs.Prelude.{◌≡◌, ◌++◌, ◌+◌, ◌^◌, ◌<◌, ◌≤◌, ◌↔◌, ℕ, ℤ, List, [], IfOk, IsErrOf, All, length, map, slice_index};
 ghost use Rattle.lv_bodies.specs.Automata.{table_of};
 ghost use Rattle.lv_shards.specs.Summaries.{AreLeads, IsSummaryOf, Summary, join_of, leads_of, rows_of};
@@ -8,7 +8,7 @@ use crate::shard::ShardSummary;
 use crate::sixfold::Leads;
 use lv_bodies::Automaton;
 
-// Where a state leads by each remainder.
+// The states to which a state leads by each remainder.
 fn row(leads: &Leads, q: usize) -> [u8; 4]
     requires { q < 8 }
     ensures { result ≡ map (λ states. slice_index states q) leads.now }
@@ -16,7 +16,7 @@ fn row(leads: &Leads, q: usize) -> [u8; 4]
     [leads[0][q], leads[1][q], leads[2][q], leads[3][q]]
 }
 
-// Where each of the eight leads.
+// The states to which each of the eight leads.
 fn rows_by(leads: &Leads) -> [[u8; 4]; 8]
     ensures { result ≡ rows_of leads.now }
 {
@@ -27,7 +27,7 @@ fn rows_by(leads: &Leads) -> [[u8; 4]; 8]
     rows
 }
 
-/// The automaton that leads so.
+/// The automaton that leads to these states.
 pub fn automaton_by(leads: &Leads) -> Automaton
     requires { AreLeads leads.now }
     ensures rows { table_of result ≡ rows_of leads.now }
@@ -40,17 +40,17 @@ pub fn automaton_by(leads: &Leads) -> Automaton
 }
 
 impl ShardSummary {
-    /// The table of its automaton: for each of the eight states, where it leads by each remainder by 4.
+    /// The table of its automaton: for each of the eight states, the states to which it leads by each remainder by 4.
     pub fn rows(&self) -> [[u8; 4]; 8]
         ensures { result ≡ rows_of self.now.leads }
     {
         rows_by(&self.leads())
     }
 
-    /// The summary of its elements, and then of those that lie here.
+    /// The summary of its elements, followed by those of a slice.
     ///
     /// # Errors
-    /// `TooLong` where they are more than 2^62 together.
+    /// `TooLong` if they are more than 2^62 together.
     pub fn extend(&self, xs: &[i64]) -> Result<ShardSummary, JoinRefusal>
         requires { length xs.now ≤ 2 ^ 20 }
         ensures joined { (s : Summary) × IsSummaryOf (rows_of self.now.leads) xs.now s × (result ≡ join_of self.now s) }

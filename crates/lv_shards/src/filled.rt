@@ -1,4 +1,4 @@
-//! What some elements come to by each of the six, where there is at least one.
+//! The fold of at least one element by each of the six.
 ghost use Rattle.std.specs.Prelude.{◌≡◌, ◌↔◌, ◌^◌, ◌≤◌, IsTrue};
 ghost use Rattle.lv_bodies.specs.RunTotals.{AreTotalsOf, IsTotalOf};
 ghost use Rattle.lv_bodies.specs.Six.{six_within};

@@ -8,7 +8,7 @@ use crate::refusals::JoinRefusal;
 use crate::shard::ShardSummary;
 use lv_bodies::Automaton;
 
-// One after the other, until one is refused.
+// Combines one after the other, until one is rejected.
 fn join_from(first: ShardSummary, parts: &[ShardSummary]) -> Result<ShardSummary, JoinRefusal>
     ensures { result ≡ fold join_next (Ok first) parts.now }
 {
@@ -19,16 +19,16 @@ fn join_from(first: ShardSummary, parts: &[ShardSummary]) -> Result<ShardSummary
     Ok(all)
 }
 
-/// The summary of the elements of each part, in the order of the parts. Of no part it is that of no elements.
+/// The summary of the elements of all parts, in the order of the parts. Without parts it is that of no elements.
 ///
 /// # Errors
-/// As the first join that is refused, from the left.
+/// Those of the first combination that is rejected, from the left.
 pub fn join_all(automaton: Automaton, parts: &[ShardSummary]) -> Result<ShardSummary, JoinRefusal>
     ensures joined { result ≡ join_all_of (leads_of (table_of automaton)) parts.now }
-    // Of the parts' lists end to end.
+    // For the parts' lists end to end.
     ensures plain { (lists : List (List ℤ)) → AreSummariesOf (table_of automaton) lists parts.now
         → IfOk result (IsSummaryOf (table_of automaton) (end_to_end lists)) }
-    // One automaton and few enough elements are refused nowhere.
+    // Parts with one automaton, and with few enough elements, are never rejected.
     ensures granted { All (λ s. s.leads ≡ leads_of (table_of automaton)) parts.now → sum_by (λ s. s.count) parts.now ≤ 2 ^ 62 → IsOk result }
 {
     join_from(ShardSummary::empty(automaton), parts)

@@ -1,6 +1,6 @@
-//! Summaries that travel: of a shard's elements, by each of the six kinds, in an order that their joins keep.
+//! Aggregates (*summaries*) that travel: those of a shard's elements by each of the six kinds. Combining them keeps the order of elements.
 //!
-//! The model of a `ShardSummary` is what it says: a count, an edit, the six summaries and a table. Its contracts speak of the
+//! The model of a `ShardSummary` is a count, a version (*edit*), the six aggregates and a table. Its contracts speak of the
 //! lists that it is the summary of. It knows of no vector, takes no memory, and sends nothing.
 #![tactic(auto)]
 

@@ -52,7 +52,7 @@ pub fn checksum(bytes: &[u8]) -> u64
     checksum_more(CHECKSUM_OF_NONE, bytes)
 }
 
-/// The checksum of some bytes, and then of these, where `before` is that of the first ones. O(n).
+/// The checksum of some bytes, and then of these, if `before` is that of the first ones. O(n).
 pub fn checksum_more(before: u64, bytes: &[u8]) -> u64
     ensures { result ≡ checksum_from before bytes.now }
 {
@@ -73,7 +73,7 @@ pub fn seal(payload: &[u8; NUMBER_BYTES]) -> [u8; SUMMARY_BYTES]
     bytes
 }
 
-/// The number whose eight bytes stand at a place among the numbers.
+/// The number whose eight bytes are at a place among the numbers.
 pub fn number_at(bytes: &[u8], j: usize) -> u64
     requires { 8 * j + 8 ≤ length bytes.now }
     ensures { result ≡ number_in bytes.now j }

@@ -1,4 +1,4 @@
-//! What the numbers of a summary say.
+//! How the numbers of a summary are read.
 ghost use Rattle.std.specs.Prelude.{◌≡◌, ◌<◌, ◌^◌, ℕ, Option, Some, IfSome, is_some, unwrap_or, if◌then◌else◌};
 ghost use Rattle.lv_shards.specs.Bytes.{numbers_of};
 ghost use Rattle.lv_shards.specs.Reading.{six_of};
@@ -10,7 +10,7 @@ use crate::shard::ShardSummary;
 use crate::sixfold::{Leads, leads_by_numbers};
 use lv_bodies::{AffineMap, RunTotals};
 
-// An edit behind its mark.
+// The version after its mark.
 fn edit_in(mark: u64, number: u64) -> Option<u32>
     ensures { (edit : Option ℕ) → IfSome edit (λ e. e < 2 ^ 32) → mark ≡ (if is_some edit then 1 else 0) → number ≡ unwrap_or edit 0 → result ≡ edit }
 {
@@ -33,7 +33,7 @@ fn run_in(numbers: &Numbers) -> RunTotals
     }
 }
 
-// What some elements come to.
+// The fold of the elements by each of the six.
 fn filled_in(numbers: &Numbers) -> Filled
     ensures { (s : Summary) → IsPossible s → 0 < s.count → numbers.now ≡ numbers_of s → six_of result ≡ s.six }
 {
@@ -50,7 +50,7 @@ fn filled_in(numbers: &Numbers) -> Filled
     }
 }
 
-// What the automaton leads to, if to states.
+// The states to which the automaton leads, if the numbers are states.
 fn leads_in(numbers: &Numbers) -> Option<Leads>
     ensures kept { IfSome result AreLeads }
     ensures back { (s : Summary) → AreLeads s.leads → numbers.now ≡ numbers_of s → result ≡ Some s.leads }

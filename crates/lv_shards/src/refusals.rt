@@ -1,6 +1,6 @@
-//! Why summaries are refused.
+//! Errors about summaries.
 
-/// Why two summaries are not joined.
+/// The reason that two summaries can't be combined.
 #[derive(Clone, Copy, Debug, PartialEq, Eq)]
 pub enum JoinRefusal {
     /// They are by automata of two tables.

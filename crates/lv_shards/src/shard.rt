@@ -10,8 +10,8 @@ use crate::sixfold::{Each, Leads, identity, join_each, leads_by};
 use lv_bodies::{Automaton, SixByTable, fold_slice};
 use std::marker::Model;
 
-/// What a list of elements comes to by each of the six kinds, how many elements there are, by which automaton, and after
-/// which edit one vector had them.
+/// The aggregate of a list of elements by each of the six kinds, how many elements there are, by which automaton, and at which version
+/// (after which edit) one vector had them.
 #[derive(Drop)]
 pub struct ShardSummary {
     count: u64,
@@ -70,7 +70,7 @@ impl ShardSummary {
         }
     }
 
-    /// The summary of some elements where they lie. It tells no edit.
+    /// The summary of the elements of a slice. It has no version.
     pub fn of_slice(automaton: Automaton, xs: &[i64]) -> ShardSummary
         requires { length xs.now ≤ 2 ^ 20 }
         ensures summary { IsSummaryOf (table_of automaton) xs.now result }
@@ -123,7 +123,7 @@ impl ShardSummary {
         })
     }
 
-    /// Of how many elements it is.
+    /// How many elements it is of.
     pub fn count(&self) -> u64
         ensures value { result ≡ self.now.count }
         ensures few { result ≤ 2 ^ 62 }
@@ -131,14 +131,14 @@ impl ShardSummary {
         self.count
     }
 
-    /// After which edit one vector had them, if one had.
+    /// The version at which one vector had the elements, if one had them.
     pub fn edit(&self) -> Option<u32>
         ensures { result ≡ self.now.edit }
     {
         self.edit
     }
 
-    /// What they come to by each of the six.
+    /// The fold of the elements by each of the six.
     pub fn six(&self) -> Each
         ensures { result ≡ self.now.six }
     {
@@ -162,7 +162,7 @@ impl ShardSummary {
     /// The summary of these elements, and then of those of another.
     ///
     /// # Errors
-    /// `OtherTable` where their automata differ, else `TooLong` where they are of more than 2^62 elements together.
+    /// `OtherTable` if their automata differ, else `TooLong` if they are more than 2^62 elements together.
     pub fn join(&self, right: &ShardSummary) -> Result<ShardSummary, JoinRefusal>
         ensures joined { result ≡ join_of self.now right.now }
         ensures end_to_end { (table : List (List ℕ)) (xs ys : List ℤ) → IsSummaryOf table xs self.now → IsSummaryOf table ys right.now

@@ -55,7 +55,7 @@ pub fn join_each(a: Each, b: Each) -> Each
     )
 }
 
-/// What an automaton leads to, by the numbers in which four rows of states are written; none where they are no states.
+/// The states to which an automaton leads, from the numbers in which four rows of states are written; none if they are no states.
 pub fn leads_by_numbers(zero: u64, one: u64, two: u64, three: u64) -> Option<Leads>
     ensures kept { IfSome result AreLeads }
     ensures back { (leads : List (List ℕ)) → AreLeads leads → zero ≡ states_at leads 0 → one ≡ states_at leads 1 → two ≡ states_at leads 2 → three ≡ states_at leads 3 → result ≡ Some leads }

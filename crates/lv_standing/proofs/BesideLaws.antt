@@ -1,4 +1,4 @@
--- What is kept by kind beside a live vector is right after its edits.
+-- What is stored by kind for a live vector is right after the vector's edits.
 use Rattle.std.proofs.Common.{◌≡◌, ℕ, ℤ, pos, ◌+◌, ◌-◌, ◌≤◌, None, List, [], ◌∷◌, ◌++◌, length, map, take, sym, ap, ◌∙◌, subst, arith}
 use Rattle.std.specs.List.{slice_index_or}
 use Rattle.std.proofs.Math.Seq.{take-append_seam}
@@ -33,7 +33,7 @@ before_edit h new e is =
     let same : take (length (es ++ e ∷ []) - 1) (es ++ e ∷ []) ≡ es = ap (λ k. take k (es ++ e ∷ [])) shorter ∙ take-append_seam es (e ∷ []) in
     ap before_last is ∙ ap (λ j. record h { journal = j }) same
 
--- after an accepted edit for which there is room all is ready, once what is kept was told
+-- after an accepted edit for which there is room all is ready, once it was reported to the kinds
 pub ready_made : (old new seen : History) (e : Edit) (size : ℕ) (kinds mid left : KindsState) → IsLegalInLimits old → verdict_of old.limits old.journal e ≡ None → new ≡ with_edit old e → seen ≡ new
     → size ≡ size_after (length (list_of old.journal)) e → KeepsAlike kinds mid → HaveRoomFor mid size
     → ((table : List (List ℕ)) → AreKept table (before_last seen).journal mid → AreKept table ((before_last seen).journal ++ e ∷ []) left) → LeavesAll mid left
@@ -47,11 +47,11 @@ ready_made old new seen e size kinds mid left legal free made same long alike ro
       room = leaves.room _ (subst (HaveRoomFor mid) after room);
     }
 
--- where room may have been made, and nothing else has changed, all is as ready as before
+-- if room may have been made and nothing else has changed, all is as ready as before
 pub ready_alike : (old now : History) (kinds new : KindsState) → now ≡ old → AreReady kinds.table old.journal kinds → KeepsAlike kinds new → AreReady kinds.table now.journal new
 ready_alike old now kinds new same was alike = subst (λ h. AreReady kinds.table h.journal new) (sym same) (AreReady-alike kinds.table old.journal kinds new was alike)
 
--- an accepted write is one over the element that its receipt tells
+-- an accepted write replaces the element that its receipt returns
 pub accepted_write_over : (h : History) (i : ℕ) (x before : ℤ) → IsLegalInLimits h → verdict_of h.limits h.journal (Write i x) ≡ None → before ≡ slice_index_or (list_of h.journal) i (pos 0) → IsWriteOver h i before
 accepted_write_over h i x before legal free is = record {
   legal = legal.legal;
@@ -59,7 +59,7 @@ accepted_write_over h i x before legal free is = record {
   before_is = is;
 }
 
--- after a write of which what is kept was told, all is as ready as before it
+-- after a write that was reported to the kinds, all is as ready as before it
 pub ready_written : (old new : History) (i : ℕ) (x before : ℤ) (kinds left : KindsState) → IsLegalInLimits old → verdict_of old.limits old.journal (Write i x) ≡ None → new ≡ with_edit old (Write i x)
     → before ≡ slice_index_or (list_of old.journal) i (pos 0)
     → ((table : List (List ℕ)) (h : History) → IsWriteOver h i before → AreKept table h.journal kinds → AreKept table (with_edit h (Write i x)).journal left) → LeavesAll kinds left
@@ -77,7 +77,7 @@ pushes_are_few h xs legal free =
     let made = made_by_pushes h xs (keeps_limits h legal) free in
     omega (arith, made.size, made.kept.size, ap (λ b. capacity_of b.buckets) made.limits, capacity_of_most h.limits.buckets legal.allowed.few_buckets)
 
--- after pushes for which there is room all is ready, once what is kept was told
+-- after pushes for which there is room all is ready, once they were reported to the kinds
 pub ready_pushed : (old new : History) (xs : List ℤ) (kinds mid left : KindsState) → IsLegalInLimits old → verdict_of_pushes old xs ≡ None → new ≡ with_pushes old xs
     → KeepsAlike kinds mid → HaveRoomFor mid (length (list_of old.journal) + length xs)
     → ((table : List (List ℕ)) (edits more : List Edit) → AreKept table edits mid → AreKept table (edits ++ more) left) → LeavesAll mid left
@@ -96,7 +96,7 @@ pub journal-edits : (h : History) (es : List Edit) → (with_edits h es).journal
 journal-edits h [] = sym (append-nil h.journal)
 journal-edits h (e ∷ es) = journal-edits (with_edit h e) es ∙ append_assoc h.journal (e ∷ []) es
 
--- after writes all is ready, once what is kept was told
+-- after writes all is ready, once they were reported to the kinds
 pub ready_overwritten : (old new : History) (is : List ℕ) (xs : List ℤ) (kinds left : KindsState) → IsLegalInLimits old → length is ≡ length xs → verdict_of_edits old (writes_at is xs) ≡ None → new ≡ with_edits old (writes_at is xs)
     → ((table : List (List ℕ)) (edits more : List Edit) → AreKept table edits kinds → AreKept table (edits ++ more) left) → LeavesAll kinds left
     → AreReady kinds.table old.journal kinds → AreReady kinds.table new.journal left

@@ -1,4 +1,4 @@
--- What an edit of a vector with queries leaves, refused or accepted.
+-- The state after an edit of a vector with queries, whether it was rejected or accepted.
 use Rattle.std.proofs.Common.{◌≡◌, None, IfSome, Result, Ok, Err, List, [], ◌∷◌, ◌++◌, length, map, refl, sym, ap, subst, ◌∙◌, arith}
 use Rattle.std.proofs.lemmas.List.{append-nil}
 use Rattle.lv_geometry.specs.declared.refusals.Refusal.{Refusal}
@@ -25,7 +25,7 @@ use Rattle.lv_standing.proofs.RangeLaws.{edit_elsewhere, push_is_last}
 use Rattle.lv_standing.proofs.TellLaws.{all_stay, answer_stays, nothing_told, summary_stays}
 use Rattle.lv_standing.proofs.UnaskedLaws.{LeavesUnasked-after, LeavesUnasked-same}
 
--- where nothing is done, claims and kept versions are the same
+-- if nothing is done, claims and stored versions are the same
 pub SameRefresh-same : (s : LiveState Six SixSummary) → SameRefresh s s
 SameRefresh-same s = record { body = refl; claimed = λ n. refl; kept = λ n. refl }
 
@@ -34,11 +34,11 @@ module _ (before after : LiveState Six SixSummary) (set : QuerySetState Query) (
   pub still_ready : AreReady kinds.table after.history.journal left → AreReady program_table after.history.journal left
   still_ready ready = subst (λ t. AreReady t after.history.journal left) standing.kept.kept.table_is ready
 
-  -- kinds that no query is of are left where all are
+  -- kinds that no query is of are left as they were if all kinds are
   unasked : LeavesAll kinds left → LeavesUnasked set.queries kinds left
   unasked leaves = LeavesUnasked-after set.queries kinds left left leaves (LeavesUnasked-same set.queries left)
 
-  -- an edit that was refused leaves all as it was, but that room may have been made
+  -- an edit that was rejected leaves all as it was, except that room may have been made
   pub refused_noted : (refusal : Refusal) → Refuses before.history edit refusal after.history → SameRefresh before after → AreReady kinds.table after.history.journal left → LeavesAll kinds left
       → AnswersNoted before after set set summaries kinds left notes notes edit (Err refusal)
   refused_noted refusal answer refresh ready leaves = record {
@@ -59,7 +59,7 @@ module _ (before after : LiveState Six SixSummary) (set : QuerySetState Query) (
     untold = refl;
   }
 
-  -- an edit for which no query has to be asked tells nothing
+  -- an edit after which no query has to be asked sends no note
   pub unasked_noted : (result : Result Receipt Refusal) (changed : Changed) → Answers before.history edit result after.history → IsLegalInLimits after.history → SameRefresh before after
       → AreReady kinds.table after.history.journal left → LeavesAll kinds left → length (asked changed set.queries) ≡ 0
       → ((receipt : Receipt) → Accepts before.history edit receipt after.history → SameElsewhere changed before.history.journal after.history.journal)

@@ -25,14 +25,14 @@ use Rattle.lv_standing.specs.Standings.{HaveOwnNames}
 -- ---- one element of a list
 
 module _ {X : Type 0} (p : X → Bool) where
-  -- what never passes is all kept
+  -- if no element passes the test, the filter keeps all
   all_stay : (xs : List X) → ((k : ℕ) (d : X) → k < length xs → p (get_or xs k d) ≡ false) → filter (λ x. not (p x)) xs ≡ xs
   all_stay [] none = refl
   all_stay (x ∷ xs) none =
       let here : p x ≡ false = none 0 x (omega arith) in
       rw here (ap (λ ys. x ∷ ys) (all_stay xs (λ k d within. none (suc k) d (omega arith))))
 
-  -- where one place alone passes, that one is removed
+  -- if only one place passes the test, the filter removes that one
   one_goes : (xs : List X) (i : ℕ) → i < length xs → ((d : X) → p (get_or xs i d) ≡ true) → ((k : ℕ) (d : X) → k < length xs → k ≢ i → p (get_or xs k d) ≡ false)
       → filter (λ x. not (p x)) xs ≡ remove xs i
   one_goes [] i within here others = absurd (omega arith)
@@ -43,7 +43,7 @@ module _ {X : Type 0} (p : X → Bool) where
       let stays : p x ≡ false = others 0 x (omega arith) (λ same. absurd (omega (arith, same))) in
       rw stays (ap (λ ys. x ∷ ys) (one_goes xs i (omega arith) here (λ k d below other. others (suc k) d (omega arith) (λ same. other (omega (arith, same))))))
 
-  -- where there is no place nothing passes
+  -- if there is no such place, no element passes the test
   none_passes : (xs : List X) → position p xs ≡ None → (k : ℕ) (d : X) → k < length xs → p (get_or xs k d) ≡ false
   none_passes xs none k d within =
       elim (cases_lt (position_or_len p xs) (length xs)) [
@@ -51,7 +51,7 @@ module _ {X : Type 0} (p : X → Bool) where
         | inr past ↦ fails_before_first p xs k d (omega (arith, within, past))
       ]
 
--- what is removed of a list that a function gives
+-- removing an element from the list of a function's values
 pub map_remove : {X Y : Type 0} (f : X → Y) (xs : List X) (i : ℕ) → remove (map f xs) i ≡ map f (remove xs i)
 map_remove f xs i = ap (λ ys. ys ++ drop (suc i) (map f xs)) (take-map f i xs) ∙ ap (λ ys. map f (take i xs) ++ ys) (drop-map f (suc i) xs) ∙ sym (map-append f (take i xs) (drop (suc i) xs))
 
@@ -62,7 +62,7 @@ module _ (name : List ℕ) where
   abbrev has : Query → Bool
   has q = bytes_eq q.name name
 
-  -- where none has it, none is found, and the other way round
+  -- no query is found if and only if none has the name
   absent : (qs : List Query) → query_of qs name ≡ None → (k : ℕ) (d : Query) → k < length qs → has (get_or qs k d) ≡ false
   absent [] none k d within = absurd (omega arith)
   absent (q ∷ qs) none zero d within =
@@ -124,7 +124,7 @@ module _ (name : List ℕ) where
   pub without_placed : (qs : List Query) (i : ℕ) → HaveOwnNames qs → position has qs ≡ Some i → remove qs i ≡ without_query qs name
   without_placed qs i apart at = sym (one_goes has qs i (place_within qs i at) (λ d. (position-Some has qs i d at).1) (others qs i apart at))
 
--- a query of a new name stands apart from the others
+-- names stay distinct after a query with a new name is added
 pub apart_more : (qs : List Query) (q : Query) → HaveOwnNames qs → query_of qs q.name ≡ None → HaveOwnNames (qs ++ q ∷ [])
 apart_more qs q apart none =
     all_pairs_push (λ a b. a.name ≢ b.name) qs q apart
@@ -132,7 +132,7 @@ apart_more qs q apart none =
 
 -- ---- refusals
 
--- where a query isn't refused its name is new
+-- the name of a query that isn't rejected is new
 free_name : (qs : List Query) (name : List ℕ) (o : Option ℕ) (rest : Option Refusal) → position (has name) qs ≡ o → cond (is_some o) (Some NameTaken) rest ≡ None → query_of qs name ≡ None
 free_name qs name None rest at free = not_placed name qs at
 free_name qs name (Some i) rest at free = absurd (none-some NameTaken (sym free))

@@ -6,7 +6,7 @@ use Rattle.lv_standing.specs.declared.notes.Note.{Note}
 use Rattle.lv_standing.specs.declared.questions.Terms.{Terms}
 use Rattle.lv_standing.specs.QuerySets.{AddsDue, AreDue}
 
--- a list up to an index, and what stands there
+-- a list up to and with an index is the list up to it, and then the element there
 next_of : {A : Type 0} (xs : List A) (i : ℕ) (x : A) → x ≡ get_or xs i x → i < length xs → take (i + 1) xs ≡ take i xs ++ x ∷ []
 next_of xs i x is inside = take_more xs i x inside ∙ ap (λ y. take i xs ++ y ∷ []) (sym is)
 
@@ -26,7 +26,7 @@ module _ {Q : Type 0} where
     due_more (p ∷ queries) (b ∷ told) (v ∷ answers) notes q before answer more as_told as_answers (inr due) one =
         inr (due.0, due.1 ++ more, ap (λ ns. ns ++ more) due.2, due_more queries told answers due.1 q before answer more (omega (arith, as_told)) (omega (arith, as_answers)) due.3 one)
 
-    -- what is due of the queries up to an index was noted, and then what stands there
+    -- if the notes of the queries before an index were appended, and then that of the query there, those of both are appended
     pub next_due : (q : Q) (before answer : Shown) (queries : List Q) (told answers : List Shown) (first notes more : List Note) (i : ℕ) → AddsDue terms_of (q ∷ []) (before ∷ []) (answer ∷ []) notes more
         → length told ≡ length queries → length answers ≡ length queries → i < length queries → q ≡ get_or queries i q → before ≡ get_or told i before → answer ≡ get_or answers i answer
         → AddsDue terms_of (take i queries) (take i told) (take i answers) first notes → AddsDue terms_of (take (i + 1) queries) (take (i + 1) told) (take (i + 1) answers) first more

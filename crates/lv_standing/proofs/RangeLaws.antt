@@ -216,7 +216,7 @@ pushed_inside old new changed (Between lo hi) x inside is joined =
     let pushed = subst (λ p. IfSome p (IsPushed changed old new)) joined is in
     ap (λ ys. slice_range ys lo hi) pushed.1 ∙ more_inside (list_of old) x lo hi (pushed.0 lo hi inside)
 
--- where an edit writes at one index alone, and drops none, a range with an index that changed has that index
+-- if an edit writes at only one index and drops none, a range with a changed element contains that index
 has_only : (changed : Changed) (n lo hi : ℕ) → indices_in changed.written ≡ n ∷ [] → changed.to ≤ changed.from → has_changed (Between lo hi) changed ≡ true → has_index lo hi n ≡ true
 has_only changed n lo hi one none inside =
     sym (ap (has_written lo hi) (same_touched changed.written (One n) one))

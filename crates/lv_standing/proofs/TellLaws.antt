@@ -45,7 +45,7 @@ module _ {A : Type 0} (now before : Query → A) (qs : List Query) (i : ℕ) (q 
       ∙ ap (λ xs. xs ++ rest) (sym (ap (map now) (take_more qs i q inside ∙ ap (λ x. take i qs ++ x ∷ []) (sym at)) ∙ map-append now (take i qs) (q ∷ [])))
       ∙ ap (λ n. map now (take (i + 1) qs) ++ map before (drop n qs)) next
 
-  -- so it is where nothing has to be done
+  -- nothing changes at the place if the two functions agree there
   pub left_alone : now q ≡ before q → up_to now before i qs ≡ up_to now before (i + 1) qs
   left_alone same = sym (set-get_or (up_to now before i qs) i (now q)) ∙ ap (set (up_to now before i qs) i) (as_before (now q) ∙ sym same) ∙ brought_up
 
@@ -58,7 +58,7 @@ told_front now before qs i inside =
 pub all_up_to : {A : Type 0} (now before : Query → A) (qs : List Query) (i : ℕ) → length qs ≤ i → up_to now before i qs ≡ map now qs
 all_up_to now before qs i end = ap₂ (λ front rest. map now front ++ map before rest) (take_all i qs end) (drop_all i qs end) ∙ append-nil (map now qs)
 
--- what a front of a list is of the queries, each of its elements is
+-- if a prefix of a list has the values of a function at the queries, each of its elements is the value at its query
 pub at_front : {A : Type 0} (f : Query → A) (qs : List Query) (xs : List A) (i j : ℕ) (q : Query) (d : A) → take i xs ≡ map f (take i qs) → j < i → i ≤ length qs → get_or xs j d ≡ f (get_or qs j q)
 at_front f qs xs i j q d is before inside =
     sym (get_or-take i xs j d before)
@@ -86,7 +86,7 @@ module _ (changed : Changed) (qs : List Query) (i : ℕ) (q : Query) (inside : i
 
 -- ---- notes
 
--- where all answers stay nothing is due
+-- if all answers stay, no note is due
 pub none_due : (qs : List Query) (answers : List Shown) → AreNotesOf qs answers answers []
 none_due [] answers = refl
 none_due (q ∷ qs) [] = refl
@@ -122,10 +122,10 @@ all_noted old new qs i end first notes before now before_is now_is so_far =
     subst (λ qs. AddsNotesOf qs before now first notes) (take_all i qs end)
     (subst (λ vs. AddsNotesOf (take i qs) vs now first notes) olds (subst (λ vs. AddsNotesOf (take i qs) (take i (map (watch_answer old) qs)) vs first notes) news so_far))
 
--- ---- an edit of which no query has to be asked
+-- ---- an edit after which no query has to be asked
 
 module _ (old new : List Edit) (changed : Changed) (elsewhere : SameElsewhere changed old new) where
-  -- what stays of a query of which no element changed
+  -- the answer of a query without a changed element stays
   pub answer_stays : (q : Query) → has_changed q.span changed ≡ false → watch_answer new q ≡ watch_answer old q
   answer_stays q other = ap (plain_value q.kind) (elsewhere q.span other)
 

@@ -12,7 +12,7 @@ use Rattle.lv_standing.specs.Standings.{IsUnasked, LeavesOrFollowsUnasked, Leave
 apart_from : (queries : List Query) (i : ℕ) (q : Query) (k : Kind) → i < length queries → q ≡ get_or queries i q → IsUnasked queries k → k ≢ q.kind
 apart_from queries i q k inside at unasked is = subst (λ (p : Query). p.kind ≢ k) (sym at) (All-get_or (λ (p : Query). p.kind ≢ k) queries i q inside unasked) (sym is)
 
--- where nothing is done nothing changes
+-- `LeavesUnasked` holds if nothing changes
 pub LeavesUnasked-same : (queries : List Query) (s : KindsState) → LeavesUnasked queries s s
 LeavesUnasked-same queries s = record { table = refl; followed = λ k unasked. refl; blocks = λ k unasked. refl; room = λ size room. room }
 

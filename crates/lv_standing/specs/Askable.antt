@@ -1,4 +1,4 @@
--- Who is asked: what it has, which of its elements are in a span, and the plain value of them.
+-- The state of whatever is asked: its elements, which of them are in a span, and their plain value.
 use Rattle.std.specs.Prelude.{ℕ, ℤ, ◌+◌, ◌-◌, List, drop, length}
 use Rattle.std.specs.List.{slice_range}
 use Rattle.lv_bodies.specs.declared.kinds.Kind.{Kind}
@@ -9,7 +9,7 @@ use Rattle.lv_edits.specs.History.{list_of}
 use Rattle.lv_standing.specs.declared.spans.Span.{Span}
 use Rattle.lv_standing.specs.declared.spans.Span.TheVariants.{Between, Last}
 
--- what is asked: the table of its automaton, the index of its first element, its elements, and how many edits it accepted
+-- the state: the table of the automaton, the index of the first element, the elements, and how many edits were accepted
 pub record AskableState : Type 0 where
   pub table : List (List ℕ)
   pub first : ℕ
@@ -20,7 +20,7 @@ pub record AskableState : Type 0 where
 abbrev pub vector_after : List (List ℕ) → List Edit → AskableState
 vector_after table edits = record { table = table; first = 0; elements = list_of edits; edit = length edits }
 
--- the index behind its last element
+-- the index after that of the last element
 abbrev pub end_of : AskableState → ℕ
 end_of s = s.first + length s.elements
 
@@ -28,8 +28,8 @@ end_of s = s.first + length s.elements
 abbrev pub value_between : AskableState → Kind → ℕ → ℕ → Shown
 value_between s kind lo hi = plain_value_with s.table kind (slice_range s.elements (lo - s.first) (hi - s.first))
 
--- the elements of a list in a span, where the first has this index: those under the indices of a range, or the last so many, as many of
--- them as there are
+-- the elements of a list in a span, if the first element has the given index: those at the indices of a range, or the last so many, but
+-- only as many as there are
 abbrev pub span_from : ℕ → Span → List ℤ → List ℤ
 span_from first (Between lo hi) xs = slice_range xs (lo - first) (hi - first)
 span_from first (Last n) xs = drop (length xs - n) xs

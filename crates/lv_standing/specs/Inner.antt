@@ -1,4 +1,4 @@
--- What the code of standing queries passes on from one to the next: what an edit changed, and how far the queries were brought up to it.
+-- Definitions for private functions of continuous (*standing*) queries: what an edit changes, and how far the queries were brought up to it.
 use Rattle.std.specs.Prelude.{◌≡◌, ℕ, ℤ, Bool, ◌&&◌, ◌||◌, max, min, Option, Some, None, true, false, Result, IfOk, OnErr, List, [], ◌∷◌, ◌+◌, ◌-◌, length, filter, map, take, drop, nat_eq, nat_le, nat_lt, not, ◌++◌}
 use Rattle.lv_geometry.specs.declared.refusals.Refusal.{Refusal}
 use Rattle.lv_bodies.specs.declared.sixes.Six.{Six}
@@ -35,7 +35,7 @@ size_after size (Reserve n) = size
 size_after size (Swap i j) = size
 size_after size (Truncate n) = n
 
--- the element that an edit brings at the end, if it brings one
+-- the element that an edit appends, if it appends one
 abbrev pub pushed_by : Edit → Option ℤ
 pushed_by (Push x) = Some x
 pushed_by Pop = None
@@ -44,64 +44,64 @@ pushed_by (Reserve n) = None
 pushed_by (Swap i j) = None
 pushed_by (Truncate n) = None
 
--- what an edit of a list changes: the indices at which it writes, how many elements there are after it and before, and what it pushes
+-- what an edit of a list changes: the indices at which it writes, the size after it and before it, and the element that it appends
 pub record IsChangedBy (xs : List ℤ) (edit : Edit) (changed : Changed) : Type 0 where
   pub written : indices_in changed.written ≡ indices_written xs edit
   pub from : changed.from ≡ size_after (length xs) edit
   pub to : changed.to ≡ length xs
   pub pushed : changed.pushed ≡ pushed_by edit
 
--- whether a range has an index
+-- whether a range contains an index
 abbrev pub has_index : ℕ → ℕ → ℕ → Bool
 has_index lo hi i = nat_le lo i && nat_lt i hi
 
--- whether a range has one of the indices at which an edit wrote; an element that is swapped with itself stays
+-- whether a range contains an index at which an edit wrote; an element that is swapped with itself doesn't count
 abbrev pub has_written : ℕ → ℕ → Touched → Bool
 has_written lo hi Nothing = false
 has_written lo hi (One i) = has_index lo hi i
 has_written lo hi (Two i j) = not (nat_eq i j) && (has_index lo hi i || has_index lo hi j)
 
--- whether a span has an element that changed; the last so many also change with each edit that changes how many there are
+-- whether a span has an element that changed; the last so many elements also change with each edit that changes the size
 abbrev pub has_changed : Span → Changed → Bool
 has_changed (Between lo hi) changed = has_written lo hi changed.written || nat_lt (max lo changed.from) (min hi changed.to)
 has_changed (Last n) changed = not (nat_eq changed.to changed.from) || has_written (changed.to - n) changed.to changed.written
 
--- each span without any has the same elements after both
+-- each span without a changed element has the same elements after the old edits and after the new ones
 abbrev pub SameElsewhere : Changed → List Edit → List Edit → Type 0
 SameElsewhere changed old new = (span : Span) → has_changed span changed ≡ false → span_of span (list_of new) ≡ span_of span (list_of old)
 
--- an element was pushed: it stands behind all others, and each range that has an element that changed has its index
+-- an element was pushed: it is the last of the list, and each range with a changed element contains its index
 abbrev pub IsPushed : Changed → List Edit → List Edit → ℤ → Type 0
 IsPushed changed old new x =
     ((lo hi : ℕ) → has_changed (Between lo hi) changed ≡ true → has_index lo hi (length (list_of old)) ≡ true) × (list_of new ≡ list_of old ++ x ∷ [])
 
--- the element that a push brings at the end of a span: to none of the last so many, since the first of those may go
+-- the element that a push appends to a span of that kind; none for a span of the last so many, since its first element may leave it
 abbrev pub joined_to : Span → Option ℤ → Option ℤ
 joined_to (Between lo hi) pushed = pushed
 joined_to (Last n) pushed = None
 
 -- ---- how far the queries were brought up to an edit
 
--- the queries of which an element changed
+-- the queries that have a changed element
 abbrev pub asked : Changed → List Query → List Query
 asked changed queries = filter (λ q. has_changed q.span changed) queries
 
--- what one function gives for the queries before a place, and another for the rest
+-- the values of one function for the queries before a place, and of another function for the rest
 abbrev pub up_to : {A : Type 0} → (Query → A) → (Query → A) → ℕ → List Query → List A
 up_to now before i queries = map now (take i queries) ++ map before (drop i queries)
 
--- the queries before a place count as told their answers after an edit, and have their summaries after it; the rest those before it
+-- for the queries before a place, the reported answers and the aggregates are those after an edit; for the rest, those before it
 pub record AreToldUpTo (old new : List Edit) (i : ℕ) (set : QuerySetState Query) (summaries : List KindSummary) : Type 0 where
   pub told : set.told ≡ up_to (watch_answer new) (watch_answer old) i set.queries
   pub summaries_are : summaries ≡ up_to (summary_at new) (summary_at old) i set.queries
 
--- the notes of the queries before a place stand behind those of a list
+-- the notes of the queries before a place are appended to a list of notes
 abbrev pub AddsNotesUpTo : List Edit → List Edit → ℕ → List Query → List Note → List Note → Type 0
 AddsNotesUpTo old new i queries notes more =
     AddsNotesOf (take i queries) (take i (map (watch_answer old) queries)) (take i (map (watch_answer new) queries)) notes more
 
--- an edit of a vector with queries was answered: it tells what it is to tell, behind the notes that there are, and nothing where it is
--- refused
+-- an edit of a vector with queries was answered: if it is accepted, the notes that are due are appended to the notes that there are; if
+-- it is rejected, no note is added
 pub record AnswersNoted (before after : LiveState Six SixSummary) (set now : QuerySetState Query) (summaries : List KindSummary) (kinds left : KindsState) (ahead more : List Note) (edit : Edit) (result : Result Receipt Refusal) : Type 0 where
   pub answer : Answers before.history edit result after.history
   pub refresh : SameRefresh before after

@@ -1,4 +1,4 @@
--- Standing queries: what each answers, and which notes an edit sends.
+-- Continuous (*standing*) queries: the answer of each, and the notifications (*notes*) that an edit sends.
 use Rattle.std.specs.Prelude.{◌≡◌, ◌≤◌, ◌-◌, ℕ, ℤ, Bool, false, Option, Some, None, List, [], ◌∷◌, ◌++◌, drop, length, filter, map, not, nat_lt, if◌then◌else◌}
 use Rattle.std.specs.List.{slice_range}
 use Rattle.std.specs.Str.{bytes_eq}
@@ -19,7 +19,7 @@ use Rattle.lv_standing.specs.Askable.{AskableState, value_in_span}
 use Rattle.lv_standing.specs.QuerySets.{AddsDue, AreDue, is_taken, refusal_by}
 pub use Rattle.lv_standing.specs.Thresholds.{crosses, holds, is_due, is_within, number_in, same_value}
 
--- what is shown of a range at the last edit, by what is shown of a list: nothing refuses the range
+-- the answer for a range at the last edit, if `plain` gives the answer for a list: the range is not rejected
 pub record IsShown (plain : List ℤ → Shown) (edits : List Edit) (lo hi : ℕ) (answered : Answered) : Type 0 where
   pub granted : range_refusal edits lo hi ≡ None
   pub edit : answered.edit ≡ length edits
@@ -36,15 +36,15 @@ abbrev pub span_of : Span → List ℤ → List ℤ
 span_of (Between lo hi) xs = slice_range xs lo hi
 span_of (Last n) xs = drop (length xs - n) xs
 
--- what a query answers after some edits: the plain value of the elements in its span
+-- the answer of a query after some edits: the plain value of the elements in its span
 abbrev pub watch_answer : List Edit → Query → Shown
 watch_answer edits q = plain_value q.kind (span_of q.span (list_of edits))
 
--- what it answers by who is asked: the plain value of the elements in its span
+-- the answer of a query about whatever is asked (a vector, a series, samples): the plain value of the elements in its span
 abbrev pub answer_in : AskableState → Query → Shown
 answer_in s q = value_in_span s q.kind q.span
 
--- what a query counts as told before its first note: its answer of no elements
+-- the answer that counts as reported before a query's first note: its answer for no elements
 abbrev pub untold : Query → Shown
 untold q = plain_value q.kind []
 
@@ -60,19 +60,19 @@ terms_of q = record { name = q.name; bound = q.bound; is_backwards = is_backward
 
 -- ---- which notes are due
 
--- the notes of queries that answered so before, and answer so now: one for each, in order, of which a note is due, with its answer now
+-- the notes that are due when queries had some answers before and have others now: in the order of the queries, each with the answer now
 abbrev pub AreNotesOf : List Query → List Shown → List Shown → List Note → Type 0
 AreNotesOf = AreDue terms_of
 
--- they stand behind the notes that a list had
+-- a list of notes has those notes appended to it
 abbrev pub AddsNotesOf : List Query → List Shown → List Shown → List Note → List Note → Type 0
 AddsNotesOf = AddsDue terms_of
 
--- the notes of an edit, by the edits before and after it
+-- the notes of an edit, given all edits before it and all edits up to it
 abbrev pub AreNotes : List Edit → List Edit → List Query → List Note → Type 0
 AreNotes old new queries notes = AreNotesOf queries (map (watch_answer old) queries) (map (watch_answer new) queries) notes
 
--- the notes of an edit stand behind those of a list, and there are at most 64 of them
+-- the notes of an edit are appended to a list of notes, and they are at most 64
 pub record TellsNotes (old new : List Edit) (queries : List Query) (notes more : List Note) : Type 0 where
   pub told : List Note
   pub more_is : more ≡ notes ++ told
@@ -81,7 +81,7 @@ pub record TellsNotes (old new : List Edit) (queries : List Query) (notes more :
 
 -- ---- which queries there are
 
--- the query of a range, that is told of at each change of its answer
+-- the query of a range, whose answer is reported each time it changes
 abbrev pub between : List ℕ → Kind → ℕ → ℕ → Query
 between name kind lo hi = record { name = name; kind = kind; span = Between lo hi; bound = None }
 
@@ -94,14 +94,14 @@ query_of (q ∷ queries) name = if bytes_eq q.name name then Some q else query_o
 abbrev pub without_query : List Query → List ℕ → List Query
 without_query queries name = filter (λ q. not (bytes_eq q.name name)) queries
 
--- why a query of a name and a span is refused among others, of which so many are allowed, out of memory apart: its range is backwards, or
--- its name is taken, or there are as many as are allowed
+-- why a query with a name and a span is rejected by a set that has some queries and may have `most`, if memory suffices: its range is
+-- backwards, its name is taken, or there are as many queries as are allowed
 abbrev pub span_refusal : ℕ → List Query → List ℕ → Span → Option Refusal
 span_refusal most queries name span = refusal_by (is_backwards span) (is_taken terms_of queries name) (length queries) most
 
 abbrev pub query_refusal : ℕ → List Query → Query → Option Refusal
 query_refusal most queries q = span_refusal most queries q.name q.span
 
--- the same at a vector with standing queries, of which it has at most 64
+-- why a vector with standing queries, which may have 64 of them, rejects the query of a range if memory suffices
 abbrev pub watch_refusal : List Query → List ℕ → ℕ → ℕ → Option Refusal
 watch_refusal queries name lo hi = span_refusal 64 queries name (Between lo hi)

@@ -1,4 +1,4 @@
--- What a vector with standing queries holds.
+-- The state of a vector with standing queries.
 use Rattle.std.specs.Prelude.{◌≡◌, ◌≢◌, ◌≤◌, ℕ, ℤ, All, AllPairs, IfErr, IfOk, List, None, Result, Some, length, map}
 use Rattle.lv_geometry.specs.declared.refusals.Refusal.{Refusal}
 use Rattle.lv_bodies.specs.declared.kinds.Kind.{Kind}
@@ -17,7 +17,8 @@ use Rattle.lv_standing.specs.declared.queries.Query.{Query}
 use Rattle.lv_standing.specs.Queries.{span_of, watch_answer}
 use Rattle.lv_standing.specs.QuerySets.{QuerySetState}
 
--- a live vector of all six bodies, its standing queries in order of registration, and what it keeps by kind of what it was asked
+-- a live vector of all six aggregates (*kinds*), its standing queries in the order of their registration, and what it stores for each
+-- kind that it was asked for
 pub record StandingState : Type 0 where
   pub live : LiveState Six SixSummary
   pub queries : List Query
@@ -35,20 +36,20 @@ HaveOwnNames queries = AllPairs (λ a b. a.name ≢ b.name) queries
 abbrev pub IsUnasked : List Query → Kind → Type 0
 IsUnasked queries k = All (λ q. q.kind ≢ k) queries
 
--- kinds that no query is of follow no more and no fewer edits than before, and there is room for no less
+-- each kind that no query is of has followed as many edits and has as many blocks as before, and there is room for at least as much
 pub record LeavesUnasked (queries : List Query) (old new : KindsState) : Type 0 where
   pub table : new.table ≡ old.table
   pub followed : (k : Kind) → IsUnasked queries k → followed_by new k ≡ followed_by old k
   pub blocks : (k : Kind) → IsUnasked queries k → blocks_of new k ≡ blocks_of old k
   pub room : (size : ℕ) → HaveRoomFor old size → HaveRoomFor new size
 
--- the same, but for kinds that follow all edits, since many have waited
+-- each kind that no query is of is as it was, or has followed all edits because many have waited; there is room for at least as much
 pub record LeavesOrFollowsUnasked (edits : List Edit) (queries : List Query) (old new : KindsState) : Type 0 where
   pub table : new.table ≡ old.table
   pub followed : (k : Kind) → IsUnasked queries k → IsLeftOrFollows edits k old new
   pub room : (size : ℕ) → HaveRoomFor old size → HaveRoomFor new size
 
--- a search of a range finds a place in the vector's list, or the range is refused; nothing has changed but what is kept by one kind
+-- a search of a range finds a place in the vector's list, or the range is rejected; only what is stored for one kind may have changed
 pub record Searches {T : Type 0} (IsPlace : List ℤ → ℕ → ℕ → T → Type 0) (kind : Kind) (old : StandingState) (lo hi : ℕ) (result : Result T Refusal) (new : StandingState) : Type 0 where
   pub ok : IfOk result (λ place. IsPlace (list_of old.live.history.journal) lo hi place)
   pub granted : IfOk result (λ _. range_refusal old.live.history.journal lo hi ≡ None)
@@ -57,8 +58,8 @@ pub record Searches {T : Type 0} (IsPlace : List ℤ → ℕ → ℕ → T → T
   pub queries : new.queries ≡ old.queries
   pub others : LeavesOthers kind old.kinds new.kinds
 
--- the vector is within its limits, there are at most 64 queries, each by its own name, each counts as told what it answers at the last edit
--- and has the summary of its elements, what is kept by kind is right for the vector, and there is room for all that it may be asked
+-- the vector is within its limits; there are at most 64 queries, each with a name of its own; the reported answer of each is the one at
+-- the last edit, and its aggregate is that of its elements; what is stored by kind is right for the vector, with room for any question
 pub record IsStanding (live : LiveState Six SixSummary) (set : QuerySetState Query) (summaries : List KindSummary) (kinds : KindsState) : Type 0 where
   pub limits : IsLegalInLimits live.history
   pub most : set.most ≡ 64

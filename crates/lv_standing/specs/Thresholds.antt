@@ -20,7 +20,7 @@ same_value (Affine a b) (Affine c d) = nat_eq a c && nat_eq b d
 same_value (Automaton a) (Automaton b) = bytes_eq a b
 same_value _ _ = false
 
--- the one number that an answer is, if it is one; a sum is signed here, by its 64 bits
+-- the number that an answer is, if it is one number; a sum is read as signed, by its 64 bits
 abbrev pub number_in : Shown → Option ℤ
 number_in (Sum n) = Some (cast_signed w64 n)
 number_in (Least x) = x
@@ -34,15 +34,15 @@ abbrev pub is_within : Bound → ℤ → Bool
 is_within (AtLeast least) x = int_le least x
 is_within (AtMost most) x = int_le x most
 
--- whether an answer is within a bound: none is not
+-- whether an answer is within a bound; an answer that is no number isn't
 abbrev pub holds : Bound → Shown → Bool
 holds bound answer = option_map_or (is_within bound) (number_in answer) false
 
--- whether it begins or ceases to be, from one answer to the next
+-- whether the answer begins or ceases to be within a bound, from one answer to the next
 abbrev pub crosses : Bound → Shown → Shown → Bool
 crosses bound before now = not (beq (holds bound before) (holds bound now))
 
--- whether a note is due: the answer is another than before; or if there is a bound, it begins or ceases to be within that
+-- whether a note is due: without a bound, if the answer differs from the one before; with a bound, if it begins or ceases to be within it
 abbrev pub is_due : Option Bound → Shown → Shown → Bool
 is_due None before now = not (same_value now before)
 is_due (Some bound) before now = crosses bound before now

@@ -1,4 +1,4 @@
-//! Who can be asked by kind: a vector, a series, samples.
+//! What can be asked for the value of an aggregate (*kind*): a vector, a series, samples.
 ghost use Rattle.std.specs.Prelude.{◌≡◌, ◌≤◌};
 ghost use Rattle.lv_standing.specs.Askable.{AskableState, end_of, value_between, value_in_span};
 
@@ -7,12 +7,12 @@ use crate::values::folded;
 use lv_bodies::{Kind, Shown, Six};
 use lv_live::Live;
 
-/// Who can be asked for the value of a kind over a range of indices. That changes nothing that shows.
+/// A type that can be asked for the value of a kind over a range of indices. Asking changes no later answer.
 pub trait Askable {
-    // What it has.
+    // The state that answers are about.
     ghost state: { Self → AskableState };
 
-    /// The index behind its last element.
+    /// The index after that of its last element.
     fn size(&self) -> u64
         ensures { result ≡ end_of (state self.now) };
 
@@ -37,7 +37,7 @@ pub fn value_in_span<A: Askable>(asked: &mut A, kind: Kind, span: Span) -> Shown
     asked.value(kind, lo, hi)
 }
 
-// It has no trees: so what of the range exists is folded where it lies.
+// A live vector stores no trees by kind, so the elements of the range are folded one by one.
 impl Askable for Live<Six> {
     ghost use Rattle.lv_bodies.specs.Plain.{program_table};
     ghost use Rattle.lv_standing.specs.Askable.{vector_after};

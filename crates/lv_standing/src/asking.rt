@@ -1,4 +1,4 @@
-//! Questions by one kind about a live vector.
+//! Questions by one kind about a live vector. Each returns the aggregate (*summary*) of that kind.
 ghost use Rattle.std.specs.Prelude.{◌≡◌, ◌⊎◌, Some, IfOk, IfErr};
 ghost use Rattle.lv_bodies.specs.Plain.{program_table};
 ghost use Rattle.lv_edits.specs.History.{list_of};
@@ -14,8 +14,9 @@ use lv_geometry::Refusal;
 use lv_live::Live;
 use lv_tree::{KindAnswer, KindSummary, Kinds};
 
-/// The summary by a kind of the elements from index `lo` up to `hi`, which that kind has followed up to the last edit then, unless the
-/// range is short. Refused with `BadRange`, then `OutOfRange`. Takes no memory.
+/// The summary, by a kind, of the elements from index `lo` up to `hi`. Afterwards that kind has followed all edits, unless the range
+/// was answered without its tree because it is short or is that of the last sum. Refused with `BadRange`, then `OutOfRange`. Takes no
+/// memory.
 #[inline(always)]
 pub fn ask_by_kind<B: Body>(
     live: &Live<B>,
@@ -34,7 +35,7 @@ pub fn ask_by_kind<B: Body>(
     kinds.ask(live.view().cells, kind, lo, hi)
 }
 
-/// The same of the elements in a span. Takes no memory.
+/// The summary, by a kind, of the elements in a span. Takes no memory.
 pub fn ask_span<B: Body>(live: &Live<B>, kinds: &mut Kinds, kind: Kind, span: Span) -> KindSummary
     requires { AreReady program_table live.now.history.journal kinds.old }
     ensures value { result ≡ summary_of kind (span_of span (list_of live.now.history.journal)) }

@@ -1,4 +1,4 @@
-//! Edits of a live vector, and of what is kept beside it by kind.
+//! Edits of a live vector that also bring the data up to date that is stored for it by kind.
 ghost use Rattle.std.specs.Prelude.{◌≡◌, ◌≤◌, ℕ, ℤ, None, List, [], ◌∷◌, ◌++◌, length, IfErr, OnOk};
 ghost use Rattle.lv_edits.specs.declared.edit.Edit.{Edit as AnEdit};
 ghost use Rattle.lv_edits.specs.declared.receipt.Receipt.TheVariants.{Written};
@@ -17,8 +17,8 @@ use lv_geometry::Refusal;
 use lv_live::Live;
 use lv_tree::Kinds;
 
-/// Makes an edit, a write at once, and tells what is kept by kind of it; where many edits have waited the kinds follow them. Refused as the
-/// vector's verdict says, else with `NoMemory`, and nothing has changed then.
+/// Makes an edit, and reports it to the kinds. A write is completed at once. If many edits have waited, the kinds follow them now.
+/// Refused with the error of the vector's verdict, else with `NoMemory`. After an error nothing has changed.
 pub fn apply_beside<B: Body>(
     live: &mut Live<B>,
     kinds: &mut Kinds,
@@ -39,7 +39,8 @@ pub fn apply_beside<B: Body>(
     Ok(receipt)
 }
 
-/// Makes an edit that the vector's verdict allows, a write at once, and tells what is kept by kind of it. Refused as `make_beside` is.
+/// Makes an edit that the vector's verdict allows, and reports it to the kinds. A write is completed at once. Refused as `make_beside`
+/// is.
 #[inline(always)]
 pub fn edit_beside<B: Body>(
     live: &mut Live<B>,
@@ -60,9 +61,9 @@ pub fn edit_beside<B: Body>(
     }
 }
 
-/// Makes an edit that a vector's verdict allows, and tells what is kept by kind of it. Refused with `NoMemory` alone, and nothing has
-/// changed then: the room for what may be kept is made before the edit.
-// Inlined with all that it calls: who knows the edit's kind is left with what that kind needs.
+/// Makes an edit that a vector's verdict allows, and reports it to the kinds. Its only error is `NoMemory`, after which nothing has
+/// changed: the room for what may be stored is made before the edit.
+// Inlined with all that it calls, so that only what the edit needs is left if the caller knows which sort of edit it is.
 #[inline(always)]
 pub fn make_beside<B: Body>(
     live: &mut Live<B>,
@@ -87,7 +88,7 @@ pub fn make_beside<B: Body>(
     Ok(receipt)
 }
 
-// Tells what is kept by kind of the last edit of a vector. The cells only say what it is beside.
+// Reports the last edit of a vector to the kinds. The cells are only needed by the proof: they name the vector that the kinds follow.
 #[inline(always)]
 fn follow_last(_cells: &Edits, kinds: &mut Kinds, edit: &Edit, receipt: &Receipt)
     ghost before: { History }
@@ -99,7 +100,7 @@ fn follow_last(_cells: &Edits, kinds: &mut Kinds, edit: &Edit, receipt: &Receipt
     kinds.follow_made(edit, receipt);
 }
 
-// Makes memory for all that can be asked of so many elements, where there are more of them than before.
+// Makes room for all that can be asked of `after` elements, if there are more of them than before.
 #[inline(always)]
 fn make_room(kinds: &mut Kinds, size: u32, after: u32) -> Result<(), Refusal>
     requires room { HaveRoomFor kinds.old size }
@@ -114,8 +115,8 @@ fn make_room(kinds: &mut Kinds, size: u32, after: u32) -> Result<(), Refusal>
     kinds.make_room(after)
 }
 
-/// Overwrites the element at an index, completed at once, and tells what is kept by kind of it. Refused as the vector's verdict says, else
-/// with `NoMemory`, and nothing has changed then. Only the journal may need room.
+/// Overwrites the element at an index, completes the write at once, and reports it to the kinds. Refused with the error of the vector's
+/// verdict, else with `NoMemory`. After an error nothing has changed. Only the journal may need room.
 #[inline(always)]
 pub fn write_beside<B: Body>(
     live: &mut Live<B>,
@@ -141,7 +142,7 @@ pub fn write_beside<B: Body>(
     }
 }
 
-// The elements that an index has before a write, and after it.
+// The element at an index before a write, and the one after it.
 struct Overwritten {
     before: i64,
     after: i64,
@@ -159,7 +160,7 @@ fn change_of(receipt: &Receipt, value: i64) -> Overwritten
     }
 }
 
-// The element that a write took the place of, as its receipt tells.
+// The element that a write replaced, by its receipt.
 #[inline(always)]
 fn element_before(receipt: &Receipt) -> i64
     ensures { (edit : ℕ) (x : ℤ) → receipt.now ≡ Written edit x → result ≡ x }
@@ -170,8 +171,8 @@ fn element_before(receipt: &Receipt) -> i64
     }
 }
 
-/// Pushes values, all of them or none, and tells what is kept by kind of them. Refused as the first push that would be refused, else with
-/// `NoMemory`, and nothing has changed then: the room for what may be kept is made before the pushes.
+/// Pushes values, all of them or none; what is stored by kind stays right. Refused with the error of the first push that would be
+/// rejected, else with `NoMemory`. After an error nothing has changed: the room for what the kinds may store is made before the pushes.
 pub fn push_all_beside<B: Body>(
     live: &mut Live<B>,
     kinds: &mut Kinds,
@@ -202,8 +203,8 @@ pub fn push_all_beside<B: Body>(
     }
 }
 
-/// Writes values at indices, all of them or none, and tells what is kept by kind of them. Refused as the first write that would be
-/// refused, else with `NoMemory`, and nothing has changed then.
+/// Writes values at indices, all of them or none; what is stored by kind stays right. Refused with the error of the first write that
+/// would be rejected, else with `NoMemory`. After an error nothing has changed.
 pub fn write_all_beside<B: Body>(
     live: &mut Live<B>,
     kinds: &mut Kinds,

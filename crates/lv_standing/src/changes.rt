@@ -1,4 +1,4 @@
-//! Which elements an edit changes, and how many there are after it.
+//! Which elements an edit changes, and the size after it.
 ghost use Rattle.std.specs.Prelude.{◌≡◌, ◌≤◌, ℤ, List, length};
 ghost use Rattle.lv_edits.specs.Touch.{indices_written};
 ghost use Rattle.lv_live.specs.Follows.{indices_in};
@@ -7,8 +7,8 @@ ghost use Rattle.lv_standing.specs.Inner.{IsChangedBy, pushed_by, size_after};
 use lv_edits::Edit;
 use lv_live::{Touched, touched_indices};
 
-/// What an edit changes: the indices at which it writes; how many elements there are after it, and before; the element that it brings at
-/// the end, if it brings one. What it drops are the indices from the size after it up to the size before it.
+/// What an edit changes: the indices at which it writes (`written`), the size after it (`from`) and before it (`to`), and the element
+/// that it appends, if it appends one. The indices that it drops are those from the size after it up to the size before it.
 #[derive(Clone, Copy)]
 pub struct Changed {
     pub written: Touched,
@@ -45,7 +45,7 @@ pub fn size_after(edit: &Edit, size: u32) -> u32
     }
 }
 
-// The element that an edit brings at the end, if it brings one.
+// The element that an edit appends, if it appends one.
 #[inline(always)]
 fn pushed_by(edit: &Edit) -> Option<i64>
     ensures { result ≡ pushed_by edit.now }

@@ -1,4 +1,4 @@
-//! Edits of a live vector with standing queries, and what each tells.
+//! Edits of a live vector with standing queries, and the notifications (*notes*) of each edit.
 ghost use Rattle.std.specs.Prelude.{◌≡◌};
 ghost use Rattle.lv_edits.specs.declared.edit.Edit.{Edit as AnEdit};
 ghost use Rattle.lv_edits.specs.History.{History};
@@ -17,8 +17,8 @@ use lv_geometry::Refusal;
 use lv_live::Live;
 use lv_tree::{KindSummary, Kinds};
 
-/// Makes an edit, and puts the notes that are due behind those that there are. A write goes a way of its own; so does a push, on which the
-/// code for other kinds falls away.
+/// Makes an edit, and appends the notes that are due to a list. Writes and pushes have functions of their own, so that the code for
+/// other edits falls away there.
 #[inline(always)]
 pub fn edit_noted(
     live: &mut Live<Six>,
@@ -40,7 +40,7 @@ pub fn edit_noted(
     }
 }
 
-// Overwrites an element. If no query has it nothing is told, and no room for notes is made.
+// Overwrites an element. If no query has it, no note is due and no room for notes is made.
 #[inline(always)]
 fn write_noted(
     live: &mut Live<Six>,
@@ -78,7 +78,7 @@ fn push_noted(
     make_noted(live, kinds, set, summaries, Edit::Push(value), notes)
 }
 
-// Makes an edit of another kind, or a write that has to be told.
+// Makes an edit that is neither a push nor a write, or a write of an element that a query has.
 #[inline(never)]
 fn other_noted(
     live: &mut Live<Six>,
@@ -94,8 +94,8 @@ fn other_noted(
     make_noted(live, kinds, set, summaries, edit, notes)
 }
 
-// The same, with the room for the notes made before the edit.
-// Inlined with all that it calls: who knows the edit's kind is left with what that kind needs.
+// Makes an edit of any sort, and appends its notes. The room for them is made before the edit.
+// Inlined with all that it calls, so that only what the edit needs is left if the caller knows which sort of edit it is.
 #[inline(always)]
 fn make_noted(
     live: &mut Live<Six>,

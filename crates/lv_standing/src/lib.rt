@@ -1,13 +1,13 @@
-//! Standing queries: names for questions about a live vector, and notes of the edits that change an answer.
+//! Continuous (*standing*) queries: named questions about a live vector, and notifications (*notes*) of the edits that change an answer.
 //!
-//! The model is the live vector's state and the list of the queries, in the order of their registration. Each answer is the
-//! plain value of the elements that the query's span has at the last edit. An edit's notes are those of the queries, in order, whose
-//! answer it changed, or if a query has a bound, whose answer begins or ceases to be within it. The summary of each query's elements is
-//! kept by the query's own kind, so that a push costs a range that ends with it one join.
-//! What is kept by kind follows the edits at questions: an edit costs a kind something only where a query of that kind is asked after it.
-//! Who keeps kinds beside a live vector makes its edits by `apply_beside` and its like, and asks by `value_beside`. A set of queries may be
-//! asked of whatever is `Askable`.
-//! It parses no text and starts no thread.
+//! The model is the live vector's state and the list of the queries, in the order of their registration. Each answer is the plain value
+//! of the elements that the query's span has at the last edit. An edit sends one note for each query, in order, whose answer it changed.
+//! If a query has a bound, a note is sent when its answer begins or ceases to be within the bound. For each query the aggregate
+//! (*summary*) of its elements is stored, by the query's own kind, so that a push costs one join for a range that ends with it.
+//! What is stored by kind follows the edits when a question is asked: an edit costs a kind something only if that kind is asked after it.
+//! A caller that keeps kinds with a live vector makes edits by `apply_beside` and the similar functions, and asks by `value_beside`. A
+//! set of queries can be asked of anything that is `Askable`.
+//! This crate parses no text and starts no thread.
 #![tactic(auto)]
 
 mod askable;

@@ -1,7 +1,7 @@
-//! What standing queries tell: notes and answers.
+//! What standing queries report: notes and answers.
 use lv_bodies::{Name, Shown};
 
-/// That an edit changed the answer of a standing query: its name, and its new answer.
+/// A notification that a standing query sends after an edit: the query's name, and its new answer.
 #[derive(Clone, Copy, PartialEq, Eq)]
 pub struct Note {
     pub name: Name,

@@ -1,4 +1,4 @@
-//! Queries by name, and why one is refused.
+//! Queries with a name, a kind, a span and an optional bound.
 ghost use Rattle.std.specs.Prelude.{◌≡◌, []};
 ghost use Rattle.lv_standing.specs.Queries.{between, untold, watch_answer};
 
@@ -8,7 +8,8 @@ use crate::spans::Span;
 use lv_bodies::{Body, Kind, Name, Shown, Six, face};
 use lv_tree::Bound;
 
-/// A query by a name: the value of a kind over the elements of a span, and the bound by which it is told of, if it has one.
+/// A named query: the value of a kind over the elements of a span. Without a bound its answer is reported each time it changes; with a
+/// bound, each time it begins or ceases to be within the bound.
 #[derive(Clone, Copy)]
 pub struct Query {
     pub name: Name,
@@ -42,7 +43,7 @@ impl<A: Askable> Asks<A> for Query {
 }
 
 impl Query {
-    /// The query of a range, from index `lo` up to `hi`, that is told of at each change of its answer.
+    /// The query of a range, from index `lo` up to `hi`, whose answer is reported each time it changes.
     pub fn between(name: Name, kind: Kind, lo: u32, hi: u32) -> Query
         ensures { result ≡ between name kind lo hi }
     {
@@ -57,7 +58,7 @@ impl Query {
         }
     }
 
-    /// What it counts as told before its first note: its answer of no elements.
+    /// The answer that counts as reported before its first note: its answer for no elements.
     pub fn untold(&self) -> Shown
         ensures value { result ≡ untold self.now }
         ensures none { result ≡ watch_answer [] self.now }

@@ -1,4 +1,4 @@
-//! A set of queries by name, whatever they ask.
+//! A set of named queries, whatever they ask.
 ghost use Rattle.std.specs.Prelude.{◌≡◌, ◌+◌, ◌<◌, ◌≤◌, ◌∷◌, [], None, IfErr, OnErr, OnOk, get_or, length, map, vec_capacity, vec_len};
 ghost use Rattle.lv_bodies.specs.declared.kinds.Shown.{Shown as Told};
 ghost use Rattle.lv_edits.specs.Verdict.{IsRefusal};
@@ -14,15 +14,15 @@ use std::alloc::{AllocError, Global};
 use std::marker::Model;
 use std::mem;
 
-/// Queries by name, in the order of their registration, and what each was told last. Asking is one step and telling another, so that all
-/// answers are of one edit and a lock need be held for the first only.
+/// Named queries in the order of their registration, and the answer of each that was reported last. Asking and reporting are separate
+/// steps, so that all answers are of one edit and a lock need be held only while asking.
 #[derive(Drop)]
 pub struct QuerySet<Q: Question> {
     queries: Vec<Q>,
-    // The names of the queries, in the same order: the index by which one is found. Asking and telling don't look into it.
+    // The names of the queries, in the same order: the index by which a query is found. Asking and reporting don't use it.
     names: IndexSet<Name>,
     told: Vec<Shown>,
-    // What they were answered last, and room for the answers of all.
+    // The answers that were computed last, with room for the answers of all queries.
     answers: Vec<Shown>,
     most: usize,
 }
@@ -39,7 +39,7 @@ impl<Q: Question> Model for QuerySet<Q> {
 }
 
 impl<Q: Question> QuerySet<Q> {
-    /// A set without queries, which may have at most so many. Takes no memory.
+    /// A set without queries, which may have at most `most`. Takes no memory.
     pub fn new(alloc: Global, most: usize) -> QuerySet<Q>
         ensures { result ≡ record { queries = []; told = []; answers = []; most = most } }
     {
@@ -52,8 +52,8 @@ impl<Q: Question> QuerySet<Q> {
         }
     }
 
-    /// Registers a query behind the others, which counts as told this answer. Refused as `refusal` says, then with `NoMemory`; nothing has
-    /// changed then. What was answered before is forgotten.
+    /// Registers a query behind the others; `told` counts as its last reported answer. Refused with the error of `refusal`, then with
+    /// `NoMemory`. After an error nothing has changed. On success the answers that were computed before are forgotten.
     pub fn watch(&mut self, query: &Q, told: Shown) -> Result<(), Refusal>
         ensures ok { OnOk result ((refusal_of Q.terms_of self.old.most self.old.queries query.now ≡ None) × (self.new ≡ with_query self.old query.now told)) }
         ensures err { IfErr result (λ refusal. IsRefusal (refusal_of Q.terms_of self.old.most self.old.queries query.now) refusal) }
@@ -65,7 +65,7 @@ impl<Q: Question> QuerySet<Q> {
         }
     }
 
-    /// Why a query is refused, out of memory apart, if it is.
+    /// Why a query would be rejected if memory sufficed, or none.
     pub fn refusal(&self, query: &Q) -> Option<Refusal>
         ensures why { result ≡ refusal_of Q.terms_of self.now.most self.now.queries query.now }
         ensures free { result ≡ None → place_of Q.terms_of self.now.queries (name_of Q.terms_of query.now) ≡ None }
@@ -80,7 +80,7 @@ impl<Q: Question> QuerySet<Q> {
         refusal_by(is_backwards, place.is_some(), self.queries.len(), self.most)
     }
 
-    // Registers a query that only a lack of memory refuses.
+    // Registers a query whose only possible error is `NoMemory`.
     fn add(&mut self, query: &Q, told: Shown) -> Result<(), Refusal>
         requires free { place_of Q.terms_of self.old.queries (name_of Q.terms_of query.now) ≡ None }
         requires few { length self.old.queries < self.old.most }
@@ -100,14 +100,14 @@ impl<Q: Question> QuerySet<Q> {
         Ok(())
     }
 
-    /// Where the query of a name is, if there is one.
+    /// The place of the query with a name, if there is one.
     pub fn place(&self, name: &Name) -> Option<usize>
         ensures { result ≡ place_of Q.terms_of self.now.queries name.now }
     {
         self.names.get_index_of(name)
     }
 
-    /// Forgets the query at a place; the others keep their order, and what they were told.
+    /// Removes the query at a place. The others keep their order and their reported answers. The computed answers are forgotten.
     pub fn forget(&mut self, place: usize)
         requires { place < length self.old.queries }
         ensures { self.new ≡ without_place self.old place }
@@ -126,7 +126,7 @@ impl<Q: Question> QuerySet<Q> {
         &self.queries
     }
 
-    /// The queries, in that order, without the set.
+    /// Takes the set apart into its queries, in that order.
     pub fn into_queries(self) -> Vec<Q>
         ensures { result.items ≡ self.queries }
     {
@@ -134,7 +134,7 @@ impl<Q: Question> QuerySet<Q> {
         queries
     }
 
-    /// What each was told last.
+    /// The answer of each query that was reported last.
     pub fn told(&self) -> &[Shown]
         ensures told { result.now ≡ self.now.told }
         ensures each { length result.now ≡ length self.now.queries }
@@ -142,14 +142,14 @@ impl<Q: Question> QuerySet<Q> {
         &self.told
     }
 
-    /// What they were answered last.
+    /// The answers that were computed last.
     pub fn answers(&self) -> &[Shown]
         ensures { result.now ≡ self.now.answers }
     {
         &self.answers
     }
 
-    /// Asks all of them at once, and gives the number of the edit at which they answer so. Takes no memory, and nothing counts as told by it.
+    /// Computes the answers of all queries at one edit, and returns its number. Takes no memory. No answer counts as reported by it.
     pub fn ask<A: Askable>(&mut self, asked: &mut A) -> u64
     where
         Q: Asks<A>,
@@ -161,7 +161,7 @@ impl<Q: Question> QuerySet<Q> {
         asked.edit()
     }
 
-    /// Puts a note of each query, in order, whose last answer is due behind the notes that a list has.
+    /// Appends to a list a note of each query, in order, whose last computed answer is due.
     pub fn put_due(&self, notes: &mut Vec<Note>)
         requires asked { length self.now.answers ≡ length self.now.queries }
         requires room { vec_len notes.old + length self.now.queries ≤ vec_capacity notes.old }
@@ -171,7 +171,7 @@ impl<Q: Question> QuerySet<Q> {
         note_each(&self.queries, &self.told, &self.answers, notes);
     }
 
-    /// The query at a place answers so now: a note of that, if it is due, is put behind those that a list has, and the query counts as told it.
+    /// Records the answer that the query at a place has now: it counts as reported, and a note of it, if one is due, is appended to a list.
     pub fn tell_at(&mut self, place: usize, answer: Shown, notes: &mut Vec<Note>)
         requires within { place < length self.old.queries }
         requires room { vec_len notes.old + 1 ≤ vec_capacity notes.old }
@@ -185,7 +185,7 @@ impl<Q: Question> QuerySet<Q> {
         self.told[place] = answer;
     }
 
-    /// Each counts as told what it was answered last.
+    /// The answers that were computed last now count as reported.
     pub fn mark_told(&mut self)
         requires { length self.old.answers ≡ length self.old.queries }
         ensures { self.new ≡ with_told self.old }
@@ -195,7 +195,7 @@ impl<Q: Question> QuerySet<Q> {
     }
 }
 
-// Makes room for one query more, for what it was told, and for the answers of all.
+// Makes room for one more query, for its reported answer, and for the computed answers of all.
 fn make_room<Q>(
     queries: &mut Vec<Q>,
     told: &mut Vec<Shown>,
@@ -216,7 +216,7 @@ fn make_room<Q>(
     queries.reserve(1)
 }
 
-// What each query is answered, in place of what they were answered. The room was made before.
+// Computes the answers of the queries, which take the place of those there were. The room was made before.
 fn ask_each<A, Q: Asks<A>>(queries: &[Q], asked: &mut A, answers: &mut Vec<Shown>)
     requires { length queries.now ≤ vec_capacity answers.old }
     ensures answers { answers.new.items ≡ map (Q.answer_of asked.old) queries.now }
@@ -230,7 +230,7 @@ fn ask_each<A, Q: Asks<A>>(queries: &[Q], asked: &mut A, answers: &mut Vec<Shown
     }
 }
 
-// Puts a note of each query, in order, whose answer is due behind the notes that a list has.
+// Appends to a list a note of each query, in order, whose answer is due.
 fn note_each<Q: Question>(queries: &[Q], told: &[Shown], answers: &[Shown], notes: &mut Vec<Note>)
     requires told { length told.now ≡ length queries.now }
     requires answers { length answers.now ≡ length queries.now }
@@ -243,7 +243,7 @@ fn note_each<Q: Question>(queries: &[Q], told: &[Shown], answers: &[Shown], note
     }
 }
 
-// Puts a note of a query, if its answer is due.
+// Appends a note of a query to a list, if its answer is due.
 fn note_one<Q: Question>(query: &Q, before: &Shown, answer: &Shown, notes: &mut Vec<Note>)
     requires { vec_len notes.old + 1 ≤ vec_capacity notes.old }
     ensures noted { AddsDue Q.terms_of (query.now ∷ []) (before.now ∷ []) (answer.now ∷ []) notes.old.items notes.new.items }

@@ -1,4 +1,4 @@
-//! What a query asks by a name.
+//! Traits of named queries: what a set needs to know of one, and how it is answered.
 ghost use Rattle.std.specs.Prelude.{◌≡◌, ◌<◌, None, false};
 ghost use Rattle.lv_bodies.specs.declared.kinds.Shown.{Shown as Value};
 ghost use Rattle.lv_standing.specs.declared.questions.Terms.{Terms as Seen};
@@ -10,8 +10,8 @@ use lv_bodies::{Name, Shown};
 use lv_geometry::Refusal;
 use lv_tree::Bound;
 
-/// What a set sees of a query: its name, the bound by which it is told of, if it has one, and whether it is of a range whose end is before
-/// its start.
+/// What a set needs to know of a query: its name, the bound that decides when it is reported, if it has one, and whether it is of a range
+/// whose end is before its start.
 #[derive(Clone, Copy)]
 pub struct Terms {
     pub name: Name,
@@ -19,16 +19,16 @@ pub struct Terms {
     pub is_backwards: bool,
 }
 
-/// A query by a name.
+/// A named query.
 pub trait Question: Copy {
-    // What a set sees of it.
+    // What a set needs to know of it.
     ghost terms_of: { Self → Seen };
 
-    /// What a set sees of it: by that alone the set refuses it, finds it, and tells of its answer.
+    /// What a set needs to know of the query: whether a set rejects it, finds it, or reports its answer depends on these terms only.
     fn terms(&self) -> Terms
         ensures { result ≡ terms_of self.now };
 
-    /// Whether an answer is to be told where it was told another.
+    /// Whether a note of the answer `now` is due if `before` was reported last.
     final fn is_due(&self, before: &Shown, now: &Shown) -> bool
         ensures { result ≡ is_due (terms_of self.now).bound before.now now.now }
     {
@@ -36,9 +36,9 @@ pub trait Question: Copy {
     }
 }
 
-/// A question that can be asked of those of one sort.
+/// A question that can be asked of values of one type.
 pub trait Asks<A>: Question {
-    // What it is answered.
+    // The answer to it.
     ghost answer_of: { A → Self → Value };
 
     /// The answer to it. Takes no memory.
@@ -47,7 +47,7 @@ pub trait Asks<A>: Question {
         ensures same { asked.new ≡ asked.old };
 }
 
-/// Why a query is refused, out of memory apart, if it is: with `BadRange`, `NameTaken`, then `TooMany`.
+/// Why a query would be rejected if memory sufficed, or none: `BadRange`, then `NameTaken`, then `TooMany`.
 pub fn refusal_by(is_backwards: bool, is_taken: bool, count: usize, most: usize) -> Option<Refusal>
     ensures why { result ≡ refusal_by is_backwards is_taken count most }
     ensures free { result ≡ None → is_taken ≡ false }

@@ -11,9 +11,9 @@ use lv_live::Touched;
 /// Which elements a query is about.
 #[derive(Clone, Copy, PartialEq, Eq)]
 pub enum Span {
-    /// Those from index `lo` up to `hi`, `hi` excluded. It may reach past the end: it has the elements that there are.
+    /// The elements from index `lo` up to `hi`, `hi` excluded. The range may reach past the end: only existing elements count.
     Between { lo: u64, hi: u64 },
-    /// The last so many, or all where there are fewer.
+    /// The last so many elements, or all if there are fewer.
     Last(u64),
 }
 
@@ -25,7 +25,7 @@ pub struct Indices {
 }
 
 impl Span {
-    /// The indices of its elements where the last one is before index `size`. Whichever index the first one has, those are the span's.
+    /// The indices of its elements, if the index after the last element is `size`. They are right whatever index the first element has.
     #[inline(always)]
     pub fn indices_in(&self, size: u64) -> Indices
         ensures order { result.lo ≤ result.hi }
@@ -54,7 +54,7 @@ impl Span {
         }
     }
 
-    /// Whether it has an element that changed. The last so many also change with each edit that changes how many there are.
+    /// Whether it has an element that changed. The last so many elements also change with each edit that changes the size.
     #[inline(always)]
     pub fn has_changed(&self, changed: Changed) -> bool
         ensures { result ≡ has_changed self.now changed }
@@ -77,7 +77,7 @@ impl Span {
     }
 }
 
-// Whether a range has one of the indices at which an edit wrote. An element that is swapped with itself stays.
+// Whether a range contains an index at which an edit wrote. An element that is swapped with itself doesn't count.
 #[inline(always)]
 fn has_written(lo: u64, hi: u64, written: Touched) -> bool
     ensures { result ≡ has_written lo hi written }
@@ -89,7 +89,7 @@ fn has_written(lo: u64, hi: u64, written: Touched) -> bool
     }
 }
 
-// Whether a range has an index.
+// Whether a range contains an index.
 #[inline(always)]
 fn has_index(lo: u64, hi: u64, i: u32) -> bool
     ensures { result ≡ has_index lo hi i }

@@ -35,16 +35,16 @@ use lv_tree::{KindSummary, Kinds};
 use std::alloc::Global;
 use std::marker::Model;
 
-// How many queries there are at most.
+// The greatest number of queries.
 const MOST: usize = 64;
 
-/// A live vector of all six bodies, with standing queries by name. What it is asked by a kind is kept by that kind.
+/// A live vector of all six aggregates (*kinds*), with named standing queries. Each kind that is asked stores what answers it quickly.
 #[derive(Drop)]
 pub struct Standing {
     live: Live<Six>,
-    // The queries, each of which counts as told what it answers at the last edit.
+    // The queries. The reported answer of each is the one at the last edit.
     set: QuerySet<Query>,
-    // The summary of each query's elements by the query's kind, in the same order.
+    // The aggregate (*summary*) of each query's elements by the query's kind, in the order of the queries.
     summaries: Vec<KindSummary>,
     kinds: Kinds,
 }
@@ -88,8 +88,8 @@ impl Standing {
         self.watch_query(&Query::between(name, kind, lo, hi))
     }
 
-    /// Registers a query. Refused with `BadRange`, `NameTaken`, `TooMany`, then `NoMemory`. Its span may reach past the end: what of it
-    /// exists is asked, by the query's kind, and no other kind follows more edits for it.
+    /// Registers a query. Refused with `BadRange`, `NameTaken`, `TooMany`, then `NoMemory`. Its span may reach past the end: its answer is
+    /// about the elements that exist. Only the query's kind is asked, and no other kind follows more edits for it.
     pub fn watch_query(&mut self, query: &Query) -> Result<(), Refusal>
         ensures ok { OnOk result ((query_refusal 64 self.old.queries query.now ≡ None) × (self.new.queries ≡ self.old.queries ++ query.now ∷ [])) }
         ensures err { IfErr result (λ refusal. IsRefusal (query_refusal 64 self.old.queries query.now) refusal) }
@@ -113,7 +113,7 @@ impl Standing {
         }
     }
 
-    /// Forgets a query; the others keep their order. Refused with `NoSuchName`.
+    /// Removes a query. The others keep their order. Refused with `NoSuchName`.
     pub fn unwatch(&mut self, name: Name) -> Result<(), Refusal>
         ensures ok { OnOk result (IsSome (query_of self.old.queries name) × (self.new.queries ≡ without_query self.old.queries name)) }
         ensures err { IfErr result (λ refusal. (query_of self.old.queries name ≡ None) × (refusal ≡ Refusal.NoSuchName)) }
@@ -129,7 +129,7 @@ impl Standing {
         Ok(())
     }
 
-    /// What a query answers at the last edit. Refused with `NoSuchName`.
+    /// The answer of a query at the last edit. Refused with `NoSuchName`.
     pub fn answer(&self, name: Name) -> Result<Answered, Refusal>
         ensures ok { IfOk result (λ answered. (q : Asked) × (query_of self.now.queries name ≡ Some q)
             × (answered.edit ≡ length self.now.live.history.journal) × (answered.value ≡ watch_answer self.now.live.history.journal q)) }
@@ -144,9 +144,9 @@ impl Standing {
         }
     }
 
-    /// Makes an edit, and tells of each query of which a note is due, in order of registration, with the answer after. Refused
-    /// as the vector's verdict says, then with `NoMemory`: the room for the notes, and for what may be kept by kind, is made before
-    /// the edit. A kind follows it at once only where a query of that kind has to be asked, or many edits have waited.
+    /// Makes an edit, and returns its notes: one for each query whose note is due, in the order of registration, with the answer after the
+    /// edit. Refused with the error of the vector's verdict, then with `NoMemory`: the room for the notes, and for what may be stored by
+    /// kind, is made before the edit. A kind follows the edit at once only if a query of that kind has to be asked or many edits have waited.
     pub fn edit(&mut self, alloc: Global, edit: Edit) -> Result<(Receipt, Vec<Note>), Refusal>
         ensures ok { IfOk result (λ told. Accepts self.old.live.history edit told.0 self.new.live.history) }
         ensures err { IfErr result (λ refusal. Refuses self.old.live.history edit refusal self.new.live.history) }
@@ -164,8 +164,8 @@ impl Standing {
         }
     }
 
-    /// Makes an edit as `edit` does, and puts its notes behind those that a list has. Where the list has room for them they take no memory.
-    /// Refused as `edit` is, and then nothing is told.
+    /// Makes an edit as `edit` does, and appends its notes to a list. If the list has room for them, they take no memory. Refused as `edit`
+    /// is. After an error no note is added.
     pub fn edit_into(&mut self, edit: Edit, notes: &mut Vec<Note>) -> Result<Receipt, Refusal>
         ensures ok { IfOk result (λ receipt. Accepts self.old.live.history edit receipt self.new.live.history) }
         ensures err { IfErr result (λ refusal. Refuses self.old.live.history edit refusal self.new.live.history) }
@@ -188,9 +188,9 @@ impl Standing {
         Ok(receipt)
     }
 
-    /// The value of a kind over the elements from index `lo` up to `hi`. A short range is folded by that kind alone, where its
-    /// elements lie; for a longer one the kind follows all edits that it hasn't followed yet, and what it keeps is asked. Refused with
-    /// `BadRange`, then `OutOfRange`. Takes no memory.
+    /// The value of a kind over the elements from index `lo` up to `hi`. If the range is short, its elements are folded one by one. For a
+    /// longer range the kind first follows all edits that it hasn't followed yet, unless the range is the one whose sum was asked for last,
+    /// and what the kind stores is asked. Refused with `BadRange`, then `OutOfRange`. Takes no memory.
     pub fn value(&mut self, kind: Kind, lo: u32, hi: u32) -> Result<Answered, Refusal>
         ensures ok { IfOk result (λ answered. IsValue self.old.live.history.journal kind lo hi answered) }
         ensures err { IfErr result (λ refusal. range_refusal self.old.live.history.journal lo hi ≡ Some refusal) }
@@ -212,7 +212,7 @@ impl Standing {
         &self.live
     }
 
-    /// Completes what is pending. Changes no answer.
+    /// Completes the pending write, if there is one. Changes no answer.
     pub fn settle(&mut self)
         ensures live { SameLive self.old.live self.new.live }
         ensures queries { self.new.queries ≡ self.old.queries }
@@ -221,7 +221,7 @@ impl Standing {
         self.live.settle();
     }
 
-    /// A job for the least node that wants one, or none. Takes no memory.
+    /// A task (*job*) for the least node that needs one, or none. Takes no memory.
     pub fn claim(&mut self) -> Option<Job<Six>>
         ensures next { IsNextJob (recorded self.old.live) (option_map node_and_version result) }
         ensures claimed { HasClaim self.old.live self.new.live (option_map node_and_version result) }
@@ -234,8 +234,8 @@ impl Standing {
         self.live.claim()
     }
 
-    /// Claims a job for the least node that wants one, and keeps it under its number: that number, the node and the version, or none
-    /// where no node wants a job. Room was made before. Takes no memory.
+    /// Claims a job for the least node that needs one, and keeps it under a number. Returns that number, the node and the version, or none
+    /// if no node needs a job. Room was made before. Takes no memory.
     pub fn claim_numbered(&mut self, issued: &mut Issued<Six>) -> Option<(u64, Node, u32)>
         requires room { 0 < issued.old.room }
         ensures step { Step six_operations self.old.live.history.limits (with_issued self.old.live issued.old.jobs) event.Claim (numbered_reply result) (with_issued self.new.live issued.new.jobs) }
@@ -249,7 +249,7 @@ impl Standing {
         lv_live::claim(&mut self.live, issued)
     }
 
-    /// Forgets all claims. Jobs that were handed out stay good. Takes no memory.
+    /// Forgets all claims. Results of jobs that were handed out can still be delivered. Takes no memory.
     pub fn forget_claims(&mut self)
         ensures live { HasNoClaims self.old.live self.new.live }
         ensures queries { self.new.queries ≡ self.old.queries }
@@ -258,7 +258,7 @@ impl Standing {
         self.live.forget_claims();
     }
 
-    /// Whether an outcome may be accepted. Yes for each outcome of a job that this vector handed out. Takes no memory.
+    /// Whether a result (*outcome*) may be accepted. It is true for each outcome of a job that this vector handed out. Takes no memory.
     pub fn vet(&self, outcome: &Outcome<Six>) -> bool
         ensures { IsTrue result ↔ Vouched six_operations (recorded self.now.live)
             (⟦<Six as Body>⟧.meaning self.now.live.body ≡ ⟦<Six as Body>⟧.meaning outcome.now.body) outcome.now.node outcome.now.version outcome.now.contents }
@@ -266,7 +266,7 @@ impl Standing {
         self.live.vet(outcome)
     }
 
-    /// Delivers an outcome: it is stale, or held already, or its summary is installed. Takes no memory.
+    /// Delivers an outcome: it is outdated (*stale*), or already present (*held*), or its summary is stored (*installed*). Takes no memory.
     pub fn accept(&mut self, outcome: Outcome<Six>) -> Accepted
         requires { Vouched six_operations (recorded self.old.live)
             (⟦<Six as Body>⟧.meaning self.old.live.body ≡ ⟦<Six as Body>⟧.meaning outcome.body) outcome.node outcome.version outcome.contents }
@@ -278,7 +278,7 @@ impl Standing {
         self.live.accept(outcome)
     }
 
-    /// Delivers what the job of a number gave, however late, and however often. Refused with `NoJob` where no such job was handed out.
+    /// Delivers the result of the job with a number, however late and however often. Refused with `NoJob` if no such job was handed out.
     /// Takes no memory.
     pub fn deliver(&mut self, issued: &Issued<Six>, k: u64) -> Result<Accepted, Refusal>
         requires world { IsWorld six_operations self.old.live issued.now.jobs }

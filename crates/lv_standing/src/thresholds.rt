@@ -5,7 +5,8 @@ ghost use Rattle.lv_standing.specs.Thresholds.{crosses, holds, is_due, is_within
 use lv_bodies::Shown;
 use lv_tree::Bound;
 
-/// Whether a note is due: an answer is another than before; or if there is a bound, it begins or ceases to be within that.
+/// Whether a note is due. Without a bound one is due if the answer differs from the one before. With a bound one is due if the answer
+/// begins or ceases to be within it.
 pub fn is_due(bound: Option<Bound>, before: Shown, now: Shown) -> bool
     ensures { result ≡ is_due bound before now }
 {
@@ -22,7 +23,7 @@ fn crosses(bound: Bound, before: Shown, now: Shown) -> bool
     holds(bound, before) != holds(bound, now)
 }
 
-// Whether an answer is within a bound: none is not.
+// Whether an answer is within a bound. An answer that is no number isn't.
 fn holds(bound: Bound, answer: Shown) -> bool
     ensures { result ≡ holds bound answer }
 {
@@ -42,7 +43,7 @@ fn is_within(bound: Bound, x: i128) -> bool
     }
 }
 
-// The one number that an answer is, if it is one. A sum is signed here, by its 64 bits.
+// The number that an answer is, if it is one number. A sum is read as signed, by its 64 bits.
 fn number_in(answer: Shown) -> Option<i128>
     ensures { result ≡ number_in answer }
 {

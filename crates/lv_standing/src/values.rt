@@ -1,4 +1,4 @@
-//! The value of one kind over a range of a vector beside which kinds are kept.
+//! The value of one kind over a range of a vector, from its elements or from what is stored by kind.
 ghost use Rattle.std.specs.Prelude.{◌≡◌, ◌⊎◌, Some, IfOk, IfErr};
 ghost use Rattle.lv_bodies.specs.Plain.{program_table};
 ghost use Rattle.lv_edits.specs.Kept.{IsLegalInLimits};
@@ -14,10 +14,10 @@ use lv_geometry::Refusal;
 use lv_live::Live;
 use lv_tree::Kinds;
 
-// A range of at most so many elements is folded by the one kind, where they lie. That takes no longer than to look its summaries up.
+// A range of at most so many elements is folded one by one. That takes no longer than to look up its aggregates.
 const SHORT: u32 = 64;
 
-/// The value of a kind over a range, folded where the elements lie.
+/// The value of a kind over a range, folded from its elements.
 pub fn folded<B: Body>(live: &Live<B>, kind: Kind, lo: u32, hi: u32) -> Result<Answered, Refusal>
     requires { IsLegalInLimits live.now.history }
     ensures ok { IfOk result (λ answered. IsValue live.now.history.journal kind lo hi answered) }
@@ -33,7 +33,7 @@ pub fn folded<B: Body>(live: &Live<B>, kind: Kind, lo: u32, hi: u32) -> Result<A
     }
 }
 
-// What the body of a kind shows of the fold.
+// The fold of a range by one kind's monoid, as its output function shows it.
 fn folded_by<B: Body, K: Single>(
     live: &Live<B>,
     body: &K,
@@ -53,9 +53,9 @@ fn folded_by<B: Body, K: Single>(
     }
 }
 
-/// The value of a kind over the elements from index `lo` up to `hi`, at the last edit. A short range is folded by that kind alone, where
-/// its elements lie; for a longer one the kind follows all edits that it hasn't followed yet, and what it keeps is asked. Refused with
-/// `BadRange`, then `OutOfRange`. Takes no memory.
+/// The value of a kind over the elements from index `lo` up to `hi`, at the last edit. If the range is short, its elements are folded
+/// one by one. For a longer range the kind first follows all edits that it hasn't followed yet, unless the range is the one whose sum
+/// was asked for last, and what the kind stores is asked. Refused with `BadRange`, then `OutOfRange`. Takes no memory.
 #[inline(always)]
 pub fn value_beside<B: Body>(
     live: &Live<B>,
@@ -78,7 +78,7 @@ pub fn value_beside<B: Body>(
     asked(live, kinds, kind, lo, hi)
 }
 
-// The same by what the kind keeps.
+// The value of a kind over a range, from what the kind stores.
 #[inline(always)]
 fn asked<B: Body>(
     live: &Live<B>,
@@ -97,7 +97,8 @@ fn asked<B: Body>(
     }
 }
 
-// The same. It stands apart, so that a sum that was told last pays for none of the other kinds' room on the stack.
+// The value of any kind over a range, from what the kind stores. It is a function of its own and never inlined, so that a sum that was
+// asked for last doesn't pay for the stack space of the other kinds.
 #[inline(never)]
 fn asked_apart<B: Body>(
     live: &Live<B>,
@@ -120,7 +121,8 @@ fn asked_apart<B: Body>(
     }
 }
 
-// The same, made anew for each kind, so that no summary of another kind is moved.
+// The value of a kind over a range, from what the kind stores. It is compiled once for each kind, so that no summary of another kind is
+// moved.
 #[inline(always)]
 fn asked_by<B: Body>(
     live: &Live<B>,

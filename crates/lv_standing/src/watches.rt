@@ -1,4 +1,4 @@
-//! Standing queries of a live vector, each with the summary of its elements, and how an edit is told.
+//! Standing queries of a live vector, each with the aggregate (*summary*) of its elements, and how an edit is reported to them.
 ghost use Rattle.std.specs.Prelude.{◌≡◌, ◌↔◌, ℤ, IsTrue, IfSome, true, map, slice_index_or, take, ◌+◌, ◌<◌, ◌≤◌, List, [], ◌++◌, ◌∷◌, drop, length, vec_capacity, vec_len};
 ghost use Rattle.lv_bodies.specs.Body.{CanFold};
 ghost use Rattle.lv_bodies.specs.Plain.{program_table};
@@ -37,9 +37,9 @@ pub fn count_asked(queries: &[Query], changed: Changed) -> usize
     count
 }
 
-/// Brings each query up to an edit that changed an element of it, in order of registration, and puts the notes that are due behind those
-/// that there are. A push costs a range that it ends one join. Any other edit costs a question by the query's kind, which queries of
-/// one span and kind share if at most five others stand between them.
+/// Brings each query that has a changed element up to an edit, in the order of registration, and appends the notes that are due to a
+/// list. A push costs one join for a range that ends with it. Any other edit costs a question by the query's kind. Queries with equal
+/// span and kind share it if at most five other queries are between them.
 pub fn tell(
     live: &Live<Six>,
     kinds: &mut Kinds,
@@ -104,7 +104,7 @@ fn tell_one(
     summaries[i] = summary;
 }
 
-// The summary after the edit of the query at a place, of which an element changed.
+// The summary, after the edit, of the query at a place, which has a changed element.
 fn summary_after(
     live: &Live<Six>,
     kinds: &mut Kinds,
@@ -133,7 +133,7 @@ fn summary_after(
     }
 }
 
-// The summary of a query's elements and of one more at their end. The query only says what the summary is of.
+// The summary of a query's elements with one more at the end. The query is only needed by the proof.
 #[inline(always)]
 fn joined(_query: &Query, summary: KindSummary, x: i64) -> KindSummary
     ghost before: { List ℤ }
@@ -144,7 +144,7 @@ fn joined(_query: &Query, summary: KindSummary, x: i64) -> KindSummary
     summary.with_last(x)
 }
 
-// The element that a push brings at the end of a span, if it does.
+// The element that a push appends to a span, if it appends one: it does so to a range, but not to the last so many.
 #[inline(always)]
 fn joined_to(span: Span, pushed: Option<i64>) -> Option<i64>
     ensures { result ≡ joined_to span pushed }
@@ -155,7 +155,7 @@ fn joined_to(span: Span, pushed: Option<i64>) -> Option<i64>
     }
 }
 
-// The summary of a query's elements at the last edit: that of a query before it, or else the vector is asked by the query's kind.
+// The summary of a query's elements at the last edit: that of an equal query before it, or else the vector is asked by the query's kind.
 fn told_or_asked(
     live: &Live<Six>,
     kinds: &mut Kinds,
@@ -178,8 +178,8 @@ fn told_or_asked(
     }
 }
 
-// The summary of one of the six queries before a place, if one of them has a query's span and kind: queries of all six kinds come by
-// turns. The vector only says what the summaries are of.
+// The summary of one of the six queries before a place, if one of them has the span and kind of a query. Six suffice if queries of all
+// six kinds take turns. The vector is only needed by the proof.
 fn told_before(
     _live: &Live<Six>,
     queries: &[Query],
@@ -200,7 +200,7 @@ fn told_before(
     None
 }
 
-// Whether two queries have one span and one kind.
+// Whether two queries have equal spans and kinds.
 #[inline(always)]
 fn is_alike(a: &Query, b: &Query) -> bool
     ensures { IsTrue result ↔ ((a.now.span ≡ b.now.span) × (a.now.kind ≡ b.now.kind)) }

@@ -40,12 +40,12 @@ put_among f a n j k x d inside at =
           ∙ sym (get_or-map-range_with_len g a n m (a + m) d small refl ∙ cond-false _ _ _ (ne_eqb k (a + m) (λ same. other (omega arith))))
     ])
 
--- what is put among the elements of a block where a write is in it
+-- the elements of a block after a write that is in the block
 pub written_among : (f : ℕ → ℤ) (w : ℕ × ℤ) (block : ℕ) → w.0 / 8 ≡ block → set (map f (indices_of block)) (w.0 % 8) w.1 ≡ map (λ i. written (Some w) i (f i)) (indices_of block)
 written_among f w block there =
     put_among f (8 * block) 8 (w.0 % 8) w.0 w.1 (pos 0) (omega arith) (omega arith)
 
--- and that they stay where it is not
+-- the elements of a block stay if a write isn't in the block
 pub unwritten_among : (f : ℕ → ℤ) (w : ℕ × ℤ) (block : ℕ) → w.0 / 8 ≢ block → map f (indices_of block) ≡ map (λ i. written (Some w) i (f i)) (indices_of block)
 unwritten_among f w block elsewhere =
     same_at f (λ i. written (Some w) i (f i)) (8 * block) 8 (pos 0) (λ i from below. sym (cond-false _ _ _ (ne_eqb w.0 i (λ same. elsewhere (omega arith)))))

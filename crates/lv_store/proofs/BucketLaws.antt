@@ -1,4 +1,4 @@
--- The cells of buckets in a row: where an index lies in them, and what a change of one bucket makes of them.
+-- The cells of all buckets, one bucket after another: the place of an index in them, and how a change of one bucket changes them.
 use Rattle.std.proofs.Common.{◌≡◌, ℕ, zero, suc, ◌+◌, ◌-◌, ◌*◌, ◌<◌, ◌≤◌, List, [], ◌∷◌, ◌++◌, length, map, fold, take, drop, get_or, set, refl, sym, ap, ◌∙◌, add-one, append_assoc, max, replicate, append-nil, inl, inr, arith}
 use Rattle.std.specs.List.{flat_map, range_with_len, sum_by}
 use Rattle.std.proofs.Math.Seq.{take-append_seam}
@@ -105,7 +105,7 @@ cells_take f vs k inside h =
     sym (take_at (flat_map f (take k vs)) (flat_map f (drop k vs)) (capacity_of k) (cells_before f vs k inside h))
     ∙ ap (take (capacity_of k)) (sym (flat_map-append f (take k vs) (drop k vs)) ∙ ap (flat_map f) (take-append-drop k vs))
 
--- an index whose cell is open lies in a bucket that is open
+-- an index whose cell is open is in a bucket that is open
 pub bucket_open : {V T : Type 0} (f : V → List T) (vs : List V) (p : Place) → index_of p < length (flat_map f vs) → AreBuckets (map f vs) → p.bucket < length vs
 bucket_open f vs p inside h =
     elim (cases_lt p.bucket (length vs)) [
@@ -223,7 +223,7 @@ with_buckets_same c i blank within =
     let none : capacity_of i - capacity_of c.buckets ≡ 0 = omega (arith, capacity_of_mono i c.buckets within) in
     same_cells _ _ _ _ most (sym (ap (λ n. c.cells ++ replicate n blank) none ∙ append-nil c.cells))
 
--- where buckets were opened and are closed again, there is what there was
+-- buckets that are opened and closed again leave the cells as they were
 pub closed_again : {T : Type 0} (c d : Cells T) (before k : ℕ) (blank : T) → before ≡ c.buckets → length c.cells ≡ capacity_of c.buckets → d ≡ with_buckets c k blank → first_buckets d before ≡ c
 closed_again c d before k blank here full is =
     let more = replicate (capacity_of k - capacity_of c.buckets) blank in

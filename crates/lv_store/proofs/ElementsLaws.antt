@@ -27,7 +27,7 @@ part_of_elements s from n inside =
 pub block_of_elements : (s : StoreState) (block : ℕ) → 8 * block + 8 ≤ s.descriptor.size → map (value_in s) (indices_of block) ≡ take 8 (drop (8 * block) (elements_of s))
 block_of_elements s block inside = part_of_elements s (8 * block) 8 inside
 
--- and those of a range, which is told by its ends
+-- the elements at `n` indices from `from` on are those of the range with these two ends
 pub range_of_elements : (s : StoreState) (from n : ℕ) → from + n ≤ s.descriptor.size → map (value_in s) (range_with_len from n) ≡ slice_range (elements_of s) from (from + n)
 range_of_elements s from n inside =
     let count : n ≡ from + n - from = omega arith in
@@ -43,7 +43,7 @@ completed_alike : (s : StoreState) (writes : Option Writes) → s.descriptor.pen
 completed_alike s None is sound = (record { limits = refl; edit = refl; size = refl; values = λ i. refl }, refl, is)
 completed_alike s (Some w) is sound = (record { limits = refl; edit = refl; size = refl; values = value_in-completed s (Some w) is sound }, refl, refl)
 
--- and so does a store that is settled
+-- a settled store reads the same, has as many buckets, and has nothing pending
 pub settled_alike : (s : StoreState) → IsStore s → AreAlike s (settled s) × ((settled s).buckets ≡ s.buckets) × ((settled s).descriptor.pending ≡ None)
 settled_alike s sound = completed_alike s s.descriptor.pending refl sound
 
@@ -116,14 +116,14 @@ unwritten_once : (write : Option (ℕ × ℤ)) (i : ℕ) (x : ℤ) → is_at i w
 unwritten_once None i x free = refl
 unwritten_once (Some w) i x free = cond-false (nat_eq w.0 i) w.1 x free
 
--- and so do all of an edit's
+-- an edit's writes, if it has any, leave the element at an index if none of them is at that index
 unwritten_at : (writes : Option Writes) (i : ℕ) (x : ℤ) → are_at i writes ≡ false → written_by writes i x ≡ x
 unwritten_at None i x free = refl
 unwritten_at (Some w) i x free =
     let parts = or_parts (is_at i w.second) (is_at i (Some w.first)) free in
     unwritten_once w.second i (written (Some w.first) i x) parts.0 ∙ unwritten_once (Some w.first) i x parts.1
 
--- neighbours in the cells are the elements there, where no write is pending at any of them
+-- contiguous cells have the elements at their indices, if no write is pending at any of them
 pub free_of_writes : (s : StoreState) (from n : ℕ) → from + n ≤ length s.values → ((i : ℕ) → from ≤ i → i < from + n → are_at i s.descriptor.pending ≡ false) → take n (drop from s.values) ≡ map (value_in s) (range_with_len from n)
 free_of_writes s from n inside free =
     part_is s.values from n (pos 0) inside

@@ -11,7 +11,7 @@ use Rattle.lv_store.specs.Inner.{IsStore}
 use Rattle.lv_store.specs.State.{Opens, StoreState, blocks_of}
 use Rattle.lv_geometry.proofs.Capacities.{capacity_of_mono}
 
--- the store with so many buckets, where it had fewer
+-- the store with so many buckets, if it had fewer
 abbrev pub opened : StoreState → ℕ → StoreState
 opened s n =
     record s {

@@ -26,7 +26,7 @@ with_run-push cells i (y ∷ xs) x =
     let same : i + 1 + length xs ≡ i + length (y ∷ xs) = omega arith in
     with_run-push (slice_set cells i y) (i + 1) xs x ∙ ap (λ j. slice_set (with_run (slice_set cells i y) (i + 1) xs) j x) same
 
--- the same of versions
+-- pushes keep the number of versions
 pub length-with_versions : (versions : List ℕ) (i edit : ℕ) (xs : List ℤ) → length (with_versions versions i edit xs) ≡ length versions
 length-with_versions versions i edit [] = refl
 length-with_versions versions i edit (x ∷ xs) =
@@ -54,7 +54,7 @@ with_all s xs =
       versions = with_versions s.versions s.descriptor.size s.descriptor.edit xs;
     }
 
--- a descriptor is told by its fields
+-- two stores are equal if all their fields are
 same_store : (s t : StoreState) → t.limits ≡ s.limits → t.descriptor.edit ≡ s.descriptor.edit → t.descriptor.size ≡ s.descriptor.size → t.descriptor.pending ≡ s.descriptor.pending → t.buckets ≡ s.buckets → t.values ≡ s.values → t.versions ≡ s.versions → t ≡ s
 same_store s t limits edit size pending buckets values versions = rw (limits, edit, size, pending, buckets, values, versions) refl
 

@@ -174,13 +174,13 @@ last_value-snoc : (all : Announcements) (writes : Option Writes) (i : ℕ) → l
 unfolding last_value
 last_value-snoc all writes i = fold_push (λ x w. written_by w i x) (pos 0) all writes
 
--- the edits before the last one wrote where they did without it
+-- the edits before the last one wrote in the same blocks as without it
 writes_at_before : (all : Announcements) (writes : Option Writes) (block j : ℕ) → j < length all → writes_at (all ++ writes ∷ []) block j ≡ writes_at all block j
 writes_at_before all writes block j before =
     let edit : slice_get (all ++ writes ∷ []) j ≡ slice_get all j = slice_get-get_or (all ++ writes ∷ []) j writes (omega (arith, length_push all writes)) ∙ ap Some (get_or_append_left all (writes ∷ []) writes j before) ∙ sym (slice_get-get_or all j writes before) in
     rw edit refl
 
--- the last edit wrote where it announced
+-- the last edit wrote in the blocks of its announced writes
 writes_at_last : (all : Announcements) (writes : Option Writes) (block : ℕ) → writes_at (all ++ writes ∷ []) block (length all) ≡ are_in block writes
 writes_at_last all writes block =
     let edit : slice_get (all ++ writes ∷ []) (length all) ≡ Some writes = slice_get-get_or (all ++ writes ∷ []) (length all) writes (omega (arith, length_push all writes)) ∙ ap Some (get_or_push all writes writes (length all) refl) in
@@ -191,7 +191,7 @@ last_version_is : (all : Announcements) (block : ℕ) → last_version all block
 unfolding last_version last_pass
 last_version_is all block = refl
 
--- one more edit is the last that wrote in a block where a write of it is in it, and else leaves the one before
+-- one more edit is the last that wrote in a block if one of its writes is in the block; otherwise that is the one before
 last_version-snoc : (all : Announcements) (writes : Option Writes) (block : ℕ) → last_version (all ++ writes ∷ []) block ≡ if are_in block writes then length all + 1 else last_version all block
 last_version-snoc all writes block =
     let before = last_pass_same (writes_at (all ++ writes ∷ []) block) (writes_at all block) (length all) (writes_at_before all writes block) in
@@ -200,12 +200,12 @@ last_version-snoc all writes block =
     ∙ last_pass-next (writes_at (all ++ writes ∷ []) block) (length all)
     ∙ rw (writes_at_last all writes block, before, ← last_version_is all block) refl
 
--- the version of a block is the next edit's number where it announced a write there, and else what it was
+-- the version of a block is the next edit's number if that edit announced a write there; otherwise it stays
 block_version-announced : (s : StoreState) (first second : Option (ℕ × ℤ)) (size block : ℕ) → s.descriptor.pending ≡ None → block_version (announced s first second size) block ≡ if are_in block (writes_of first second) then s.descriptor.edit + 1 else block_version s block
 block_version-announced s first second size block settled =
     ap (λ n. if are_in block (writes_of first second) then s.descriptor.edit + 1 else n) (sym (ap (λ p. if are_in block p then s.descriptor.edit else get_or s.versions block 0) settled))
 
--- a store that announces writes, or none, shows them after what it showed
+-- a store that announces writes, or none, shows this announcement after the earlier ones
 pub Shows-announced : (s : StoreState) (first second : Option (ℕ × ℤ)) (size : ℕ) → s.descriptor.pending ≡ None → (all : Announcements) → Shows s all → Shows (announced s first second size) (all ++ writes_of first second ∷ [])
 Shows-announced s first second size settled all shown =
     let writes = writes_of first second in

@@ -7,11 +7,11 @@ pub record Cells (T : Type 0) : Type 0 where
   pub buckets : ℕ
   pub cells : List T
 
--- one bucket more, with the same in each of its cells
+-- one more bucket, with a given value in each of its cells
 abbrev pub with_bucket : {T : Type 0} → Cells T → T → Cells T
 with_bucket c blank = record { buckets = c.buckets + 1; cells = c.cells ++ replicate (8 * 2 ^ c.buckets) blank }
 
--- as many buckets more as make so many in all, if there are fewer, with the same in each of their cells
+-- buckets are added until there are so many in all, if there are fewer, with a given value in each of their cells
 abbrev pub with_buckets : {T : Type 0} → Cells T → ℕ → T → Cells T
 with_buckets c buckets blank =
     record {
@@ -19,7 +19,7 @@ with_buckets c buckets blank =
       cells = c.cells ++ replicate (capacity_of buckets - capacity_of c.buckets) blank;
     }
 
--- the first so many buckets alone
+-- only the first so many buckets
 abbrev pub first_buckets : {T : Type 0} → Cells T → ℕ → Cells T
 first_buckets c buckets = record { buckets = buckets; cells = take (capacity_of buckets) c.cells }
 

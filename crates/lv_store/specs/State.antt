@@ -1,4 +1,4 @@
--- What a store holds, and what it answers, by index and by block.
+-- The state of a store, and what it returns for an index and for a block.
 use Rattle.std.specs.Prelude.{◌≡◌, ℕ, ℤ, pos, ◌+◌, ◌*◌, ◌/◌, ◌^◌, Option, Some, None, Bool, false, ◌||◌, List, [], ◌∷◌, ◌++◌, ◌-◌, map, max, replicate, slice_index, slice_set, nat_eq, if◌then◌else◌}
 use Rattle.std.specs.List.{range_with_len, slice_index_or}
 use Rattle.std.specs.Option.{option_map_or}
@@ -7,8 +7,8 @@ use Rattle.lv_geometry.specs.Cells.{AreFewest, capacity_of}
 use Rattle.lv_store.specs.declared.descriptors.Descriptor.{Descriptor}
 use Rattle.lv_store.specs.declared.descriptors.Writes.{Writes}
 
--- its limits, its descriptor, how many buckets are open, of each open cell the element, and of each open block the number of the
--- last edit whose write was completed there, 0 where none was
+-- its limits, its descriptor, how many buckets are open, the element in each open cell, and for each open block the number of the
+-- last edit whose write was completed there, or 0 if there was none
 pub record StoreState : Type 0 where
   pub limits : Bounds
   pub descriptor : Descriptor
@@ -16,7 +16,7 @@ pub record StoreState : Type 0 where
   pub values : List ℤ
   pub versions : List ℕ
 
--- how many blocks lie in k open buckets: one in the first, in each further one twice as many as in the one before
+-- how many blocks k open buckets have: the first has one, and each later bucket has twice as many as the one before it
 abbrev pub blocks_of : ℕ → ℕ
 blocks_of k = 2 ^ k - 1
 
@@ -25,7 +25,7 @@ abbrev pub is_at : ℕ → Option (ℕ × ℤ) → Bool
 is_at i None = false
 is_at i (Some write) = nat_eq write.0 i
 
--- what a write, if there is one, makes of the element at an index
+-- the element at an index after a write, if there is one
 abbrev pub written : Option (ℕ × ℤ) → ℕ → ℤ → ℤ
 written None i x = x
 written (Some write) i x = if nat_eq write.0 i then write.1 else x
@@ -35,16 +35,16 @@ abbrev pub are_at : ℕ → Option Writes → Bool
 are_at i None = false
 are_at i (Some writes) = is_at i writes.second || is_at i (Some writes.first)
 
--- what an edit's writes, if it has any, make of the element at an index
+-- the element at an index after an edit's writes, if it has any
 abbrev pub written_by : Option Writes → ℕ → ℤ → ℤ
 written_by None i x = x
 written_by (Some writes) i x = written writes.second i (written (Some writes.first) i x)
 
--- the element at an index: that of a pending write, where it is there, else that in its cell; 0 where nothing was written
+-- the element at an index: that of a pending write at the index, if there is one, or else the one in its cell; 0 if it has no open cell
 abbrev pub value_in : StoreState → ℕ → ℤ
 value_in s i = written_by s.descriptor.pending i (slice_index_or s.values i (pos 0))
 
--- the elements: those at the indices below the size
+-- the elements at all indices below the size
 abbrev pub elements_of : StoreState → List ℤ
 elements_of s = map (value_in s) (range_with_len 0 s.descriptor.size)
 
@@ -61,7 +61,7 @@ abbrev pub are_in : ℕ → Option Writes → Bool
 are_in block None = false
 are_in block (Some writes) = is_in block writes.second || is_in block (Some writes.first)
 
--- the number of the last edit that wrote in a block, its write pending or not; 0 where none did, as in a block that is not open
+-- the number of the last edit that wrote in a block, whether its write is pending or not; 0 if none did, as in a block that isn't open
 abbrev pub block_version : StoreState → ℕ → ℕ
 block_version s block = if are_in block s.descriptor.pending then s.descriptor.edit else slice_index s.versions block
 
@@ -79,22 +79,22 @@ abbrev pub announced : StoreState → Option (ℕ × ℤ) → Option (ℕ × ℤ
 announced s first second size =
     record s { descriptor = record { edit = s.descriptor.edit + 1; size = size; pending = writes_of first second } }
 
--- elements with a write, if there is one, in its cell
+-- the cells after a write, if there is one, is put into its cell
 abbrev pub with_element : Option (ℕ × ℤ) → List ℤ → List ℤ
 with_element None values = values
 with_element (Some write) values = slice_set values write.0 write.1
 
--- versions with the number of an edit for the block of its write, if there is one
+-- the versions after an edit's number is put at the block of its write, if there is one
 abbrev pub with_version : Option (ℕ × ℤ) → ℕ → List ℕ → List ℕ
 with_version None edit versions = versions
 with_version (Some write) edit versions = slice_set versions (write.0 / 8) edit
 
--- versions after so many edits and then one more for each of some values, the first at this index
+-- the versions after `edit` edits and one more for each of some values, which are put at the indices from `i` on
 abbrev pub with_versions : List ℕ → ℕ → ℕ → List ℤ → List ℕ
 with_versions versions i edit [] = versions
 with_versions versions i edit (x ∷ xs) = with_versions (slice_set versions (i / 8) (edit + 1)) (i + 1) (edit + 1) xs
 
--- the store with the writes, if there are any, of the last edit in their cells, its number for their blocks, and none pending
+-- the store after the given writes of its last edit, if any, are put into their cells and its number at their blocks; none is pending then
 abbrev pub completed : StoreState → Option Writes → StoreState
 completed s None = s
 completed s (Some writes) =
@@ -104,7 +104,7 @@ completed s (Some writes) =
       versions = with_version writes.second s.descriptor.edit (with_version (Some writes.first) s.descriptor.edit s.versions);
     }
 
--- the store with what is pending in its cells
+-- the store after its pending writes are completed
 abbrev pub settled : StoreState → StoreState
 settled s = completed s s.descriptor.pending
 
@@ -121,7 +121,7 @@ abbrev pub pushed_all : StoreState → List ℤ → StoreState
 pushed_all s [] = s
 pushed_all s (x ∷ xs) = pushed_all (pushed s x) xs
 
--- buckets were opened until so many cells are open, if they weren't; what they hold was never written, and nothing else has changed
+-- buckets were opened until so many cells are open, if they weren't yet; the new cells are 0, and nothing else has changed
 pub record Opens (old new : StoreState) (cells : ℕ) : Type 0 where
   pub buckets : (k : ℕ) → AreFewest cells k → new.buckets ≡ max old.buckets k
   pub values : new.values ≡ old.values ++ replicate (capacity_of new.buckets - capacity_of old.buckets) (pos 0)
@@ -129,7 +129,7 @@ pub record Opens (old new : StoreState) (cells : ℕ) : Type 0 where
   pub descriptor : new.descriptor ≡ old.descriptor
   pub limits : new.limits ≡ old.limits
 
--- two stores of the same limits, edit and size, which read the same at each index
+-- two stores have the same limits, edit number and size, and the same element at each index
 pub record AreAlike (s t : StoreState) : Type 0 where
   pub limits : t.limits ≡ s.limits
   pub edit : t.descriptor.edit ≡ s.descriptor.edit

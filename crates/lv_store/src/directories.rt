@@ -1,4 +1,4 @@
-//! Buckets of cells, which are opened in order and never move.
+//! Buckets of cells, which are opened in order and never move in memory.
 ghost use Rattle.std.specs.Prelude.{◌≡◌, ◌+◌, ◌-◌, ◌*◌, ◌^◌, ◌<◌, ◌≤◌, [], length, min, replicate, take, drop, OnOk, OnErr, IfOk, IfErr};
 ghost use Rattle.std.specs.List.{slice_index_or};
 ghost use Rattle.lv_geometry.specs.Cells.{capacity_of};
@@ -8,8 +8,8 @@ use lv_geometry::{Refusal, place};
 use std::alloc::Global;
 use std::marker::Model;
 
-/// A two-level array: a directory of buckets, of which the first has 8 cells and each further one twice as many as the one
-/// before. Buckets never move once they are open.
+/// A two-level array: a directory of buckets. The first bucket has 8 cells, and each later one has twice as many as the one
+/// before it. Buckets never move once they are open.
 #[derive(Drop)]
 pub struct Directory<T> {
     buckets: Vec<Vec<T>>,
@@ -102,7 +102,7 @@ impl<T: Copy> Directory<T> {
         buckets[place.bucket as usize][place.cell as usize]
     }
 
-    /// What is in the cells of a block, all of which are open. They are neighbours, since a block never crosses a bucket.
+    /// The contents of the eight cells of a block, all open. They are contiguous, since a block never crosses a bucket.
     #[inline(always)]
     pub fn block(&self, block: u32) -> [T; 8]
         requires inside { 8 * block + 8 ≤ length self.now.cells }
@@ -113,7 +113,7 @@ impl<T: Copy> Directory<T> {
         eight_from(&buckets[place.bucket as usize], place.cell as usize)
     }
 
-    /// The cells from an index up to the end of its bucket, at most so many, where they lie.
+    /// A slice of the cells from an index to the end of its bucket, but at most `most` of them. Nothing is copied.
     pub fn slice_from(&self, i: u32, most: u32) -> &[T]
         requires open { i < length self.now.cells }
         requires inside { i + most ≤ length self.now.cells }

@@ -1,4 +1,4 @@
-//! The writes of one edit, one or two, that are pending: where they are put, and which indices and blocks they are at.
+//! The pending writes of one edit, one or two: how they are put into their cells, and at which indices and blocks they are.
 ghost use Rattle.std.specs.Prelude.{◌≡◌, ℕ, ℤ, ◌/◌, ◌<◌, ◌≤◌, None, length, map, IfSome};
 ghost use Rattle.lv_store.specs.Inner.{EndsBefore};
 ghost use Rattle.lv_store.specs.State.{are_at, are_in, indices_of, is_at, is_in, with_element, with_version, writes_of, written};
@@ -36,7 +36,7 @@ pub fn put(
     }
 }
 
-/// Puts a write, if there is one, among the cells of its block, where it is this one.
+/// Puts a write, if there is one, into a copy of a block's cells, if it is a write in that block.
 #[inline(always)]
 pub fn put_among(cells: &mut [i64; 8], block: u32, write: Option<(u32, i64)>)
     ensures { (f : ℕ → ℤ) → cells.old ≡ map f (indices_of block) → cells.new ≡ map (λ i. written write i (f i)) (indices_of block) }
@@ -48,7 +48,7 @@ pub fn put_among(cells: &mut [i64; 8], block: u32, write: Option<(u32, i64)>)
     }
 }
 
-/// Where a range ends that goes on, from one index up to another, until the first of an edit's writes, if it has any.
+/// The end of the range from `from` up to `to` when it is cut before the first of an edit's writes that is in it, if one is.
 pub fn end_before_writes(writes: Option<Writes>, from: u32, to: u32) -> u32
     requires { from ≤ to }
     ensures { EndsBefore (λ i. are_at i writes) from to result }
@@ -62,7 +62,7 @@ pub fn end_before_writes(writes: Option<Writes>, from: u32, to: u32) -> u32
     }
 }
 
-// The same for one write, if there is one.
+// The end of the range from `from` up to `to` when it is cut before one write, if there is a write and it is in the range.
 fn end_before(write: Option<(u32, i64)>, from: u32, to: u32) -> u32
     requires { from ≤ to }
     ensures { EndsBefore (λ i. is_at i write) from to result }

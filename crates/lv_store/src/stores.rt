@@ -1,4 +1,4 @@
-//! The store: its cells, a version for each block, and what the last edit made of them.
+//! The store: its cells, a version for each block, and the descriptor of the last edit.
 ghost use Rattle.std.specs.Prelude.{All, ◌≡◌, ◌≢◌, ◌+◌, ◌*◌, ◌/◌, ◌<◌, ◌≤◌, None, Some, [], ◌∷◌, ◌++◌, length, map, replicate, true, is_some, OnOk, OnErr, IfErr, IfSome, IsSomeAnd, vec_capacity, vec_len};
 ghost use Rattle.std.specs.List.{range_with_len};
 ghost use Rattle.lv_geometry.specs.Cells.{capacity_of};
@@ -15,11 +15,11 @@ use lv_geometry::{Limits, Refusal, buckets_for, capacity};
 use std::alloc::Global;
 use std::marker::Model;
 
-/// The cells of a vector, and what its last edit made of them.
+/// The cells of a vector, a version for each block, and the descriptor of its last edit.
 #[derive(Drop)]
 pub struct Store {
     values: Directory<i64>,
-    // One for each block, in one list that moves where it grows: it is 512 KB at most, and nothing in it is lent.
+    // One version for each block, in one list that moves when it grows: it has at most 512 KB, and no part of it is ever lent out.
     versions: Vec<u32>,
     descriptor: Descriptor,
     limits: Limits,
@@ -43,7 +43,7 @@ impl Store {
         ensures shows { Shows result [] }
         ensures sound { IsStore result }
     {
-        // The limits tell of themselves that they are allowed ones.
+        // This call tells the proof that the limits are allowed ones.
         let _allowed = limits.buckets();
         Store {
             values: Directory::new(alloc),
@@ -99,7 +99,7 @@ impl Store {
         };
     }
 
-    /// As many edits as there are values, each of which announces the next of them at the end and is completed at once.
+    /// Makes one edit for each value, in order: it appends the value at the end and is completed at once.
     pub fn push_all(&mut self, values: &[i64])
         requires settled { self.old.descriptor.pending ≡ None }
         requires edits { self.old.descriptor.edit + length values.now ≤ self.old.limits.edits }
@@ -139,7 +139,7 @@ impl Store {
         self.descriptor.pending = None;
     }
 
-    /// One more edit, which announces a write at an index and is completed at once; tells the element that was there.
+    /// Makes one more edit, which writes at an index and is completed at once. Returns the element that was there.
     #[inline(always)]
     pub fn write_through(&mut self, i: u32, x: i64) -> i64
         requires settled { self.old.descriptor.pending ≡ None }
@@ -165,7 +165,7 @@ impl Store {
         self.descriptor.pending.is_some()
     }
 
-    /// The element that was written last at an index, its write pending or not; 0 where none was.
+    /// The element that was written last at an index, whether its write is pending or not, or 0 if none was written.
     #[inline(always)]
     pub fn read(&self, i: u32) -> i64
         requires inside { i < capacity_of self.now.buckets }
@@ -199,8 +199,8 @@ impl Store {
         cells
     }
 
-    /// The elements from index `from` on, before `to`, up to the end of the bucket or the first index at which a write is pending. They
-    /// are lent where they lie. There are none only where a write is pending at `from` itself.
+    /// A slice of the elements from index `from` to the end of the bucket, to the first index at which a write is pending, or to `to`,
+    /// whichever comes first. Nothing is copied. It is empty only if a write is pending at `from` itself.
     pub fn stretch(&self, from: u32, to: u32) -> &[i64]
         requires order { from < to }
         requires inside { to ≤ capacity_of self.now.buckets }
@@ -212,7 +212,7 @@ impl Store {
         self.values.slice_from(from, end - from)
     }
 
-    /// The number of the last edit that wrote in a block, its write pending or not; 0 where none did.
+    /// The number of the last edit that wrote in a block, whether its write is pending or not, or 0 if none did.
     #[inline(always)]
     pub fn version(&self, block: u32) -> u32
         ensures { result ≡ block_version self.now block }
@@ -267,7 +267,7 @@ impl Store {
     }
 }
 
-// Adds so many versions of blocks where nothing was written, for which there is room.
+// Adds `more` versions, each 0, for blocks without a write. There is room for them.
 fn add_blanks(versions: &mut Vec<u32>, more: usize)
     requires { vec_len versions.old + more ≤ vec_capacity versions.old }
     ensures { versions.new.items ≡ versions.old.items ++ replicate more 0 }

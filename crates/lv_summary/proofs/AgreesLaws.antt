@@ -25,7 +25,7 @@ record IsStep {S : Type 0} (es : List Edit) (e : Edit) (ys : List ℤ) (old new 
   touched : (n : Node) → is_node n ≡ true → touched_in new n ≡ (if touches (list_of es) e n then length es + 1 else touched_in old n)
   kept : (n : Node) → kept_in new n ≡ kept_in old n
 
--- where no index was touched nothing has changed
+-- if no index was touched nothing has changed
 pub TouchesEach-none : {S : Type 0} (t : Table S) (edit : ℕ) → TouchesEach t t [] edit
 TouchesEach-none t edit = record {
   size = refl;

@@ -1,4 +1,4 @@
--- Lists of so many items, each told by its number, where what is past the count is blank.
+-- Lists of so many items, each given by its number, with blanks past the count.
 use Rattle.std.proofs.Common.{◌≡◌, ℕ, ◌<◌, ◌≤◌, max, if◌then◌else◌, Some, List, length, map, replicate, get_or, set, slice_get, nat_eq, sym, ap, ◌∙◌, inl, inr, arith}
 use Rattle.std.proofs.lemmas.Bool.{cases_eq, cases_lt, cond-false, cond-true, eq-eqb, ne_eqb}
 use Rattle.std.proofs.lemmas.List.{get_or-replicate, get_or-set_other, get_or-set_same, get_or_past, length-replicate, length-set}
@@ -8,7 +8,7 @@ use Rattle.std.specs.List.{range_with_len}
 use Rattle.lv_summary.specs.Inner.{lengthened}
 use Rattle.lv_summary.proofs.LevelLaws.{get_or-lengthened, length-lengthened}
 
--- so many items, each told by its number
+-- so many items, each given by its number
 abbrev by_number : {A : Type 0} → (ℕ → A) → ℕ → List A
 by_number item count = map item (range_with_len 0 count)
 
@@ -26,12 +26,12 @@ read_number item count k inside =
     slice_get-get_or (by_number item count) k (item k) (omega (arith, length-by_number item count))
     ∙ ap Some (get_or-by_number item (item k) count k inside)
 
--- where the same is at each number, the lists are the same
+-- if the same is at each number, the lists are the same
 pub by_number-same : {A : Type 0} (item other : ℕ → A) (blank : A) (count : ℕ) → ((k : ℕ) → other k ≡ item k) → by_number other count ≡ by_number item count
 by_number-same item other blank count is =
     sym (fill_by_all other (by_number item count) count blank (length-by_number item count) (λ k below. get_or-by_number item blank count k below ∙ sym (is k)))
 
--- blanks alone are copies of the blank
+-- a list whose items are all blank is copies of the blank
 pub by_number-blank : {A : Type 0} (item : ℕ → A) (blank : A) (count : ℕ) → ((k : ℕ) → item k ≡ blank) → by_number item count ≡ replicate count blank
 by_number-blank item blank count none =
     sym (fill_by_all item (replicate count blank) count blank (length-replicate count blank) (λ k inside. get_or-replicate count k blank blank inside ∙ sym (none k)))
@@ -48,7 +48,7 @@ by_number-longer item blank count items none =
       | inr past ↦ get_or_past (by_number item count) k blank (omega (arith, long)) ∙ sym (none k past)
     ]))
 
--- where another item is at one number alone, the list is one with that item
+-- if only the item at one number is another, the list is the old one with that item set
 pub by_number-set : {A : Type 0} (item other : ℕ → A) (blank : A) (count number : ℕ) (s : A) → number < count → ((k : ℕ) → other k ≡ (if nat_eq k number then s else item k)) → by_number other count ≡ set (by_number item count) number s
 by_number-set item other blank count number s inside is =
     let long = length-by_number item count in
@@ -65,7 +65,7 @@ by_number-set item other blank count number s inside is =
           ∙ sym (is k ∙ cond-false _ _ _ (ne_eqb k number apart))
     ]))
 
--- where that number is below the count, what is past the count is blank as before
+-- if that number is below the count, what is past the count is blank as before
 pub still_blank : {A : Type 0} (item other : ℕ → A) (blank : A) (count number : ℕ) (s : A) → number < count → ((k : ℕ) → other k ≡ (if nat_eq k number then s else item k)) → ((k : ℕ) → count ≤ k → item k ≡ blank) → (k : ℕ) → count ≤ k → other k ≡ blank
 still_blank item other blank count number s inside is none k past =
     is k ∙ cond-false _ _ _ (ne_eqb k number (λ same. omega arith)) ∙ none k past

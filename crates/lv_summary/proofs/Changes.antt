@@ -76,7 +76,7 @@ HasRowsChanged old new k change =
 abbrev pub HasRowsKept : {S : Type 0} → Table S → Table S → Node → ℕ → ℕ → S → Type 0
 HasRowsKept old new n k version s = HasRowsChanged old new k (λ rows. with_kept rows n.number version s)
 
--- a table of six levels, of which one has other rows
+-- a table of six levels, with other rows at one of these
 pub HasRowsChanged-one : {S : Type 0} (size : ℕ) (of : Levels (LevelState S)) (k : ℕ) (changed : LevelState S) (change : Rows S → Rows S) → 1 ≤ k → k ≤ 6 → changed.rows ≡ change (thing_at of k).rows → HasRowsChanged (table_of size of) (table_of size (with_thing of k changed)) k change
 HasRowsChanged-one size of k changed change low high is =
     at_each_level (λ k. changed.rows ≡ change (thing_at of k).rows → HasRowsChanged (table_of size of) (table_of size (with_thing of k changed)) k change)
@@ -109,7 +109,7 @@ module _ {S : Type 0} (change : Rows S → Rows S) (same_edits : (rows : Rows S)
       (λ other. refl)
       ∙ sym (blocks_in-rows old)
 
-  -- keeps a sound table so, where it keeps each level as it must be
+  -- keeps a sound table so, if it keeps each level as it must be
   IsSound-changed : ((blocks level : ℕ) (rows : Rows S) → IsLevel blocks level rows → IsLevel blocks level (change rows)) → (old new : Table S) → IsSound old → new.size ≡ old.size → (k : ℕ) → HasRowsChanged old new k change → IsSound new
   IsSound-changed keeps old new sound size k rows =
       IsSound-by_rows new (blocks_in old) (blocks_in-changed old new k rows) sound.few (omega (arith, sound.size))
@@ -128,7 +128,7 @@ module _ {S : Type 0} (change : Rows S → Rows S) (same_edits : (rows : Rows S)
         | inr stranger ↦ touched_in-outside new m stranger ∙ sym (touched_in-outside old m stranger)
       ]
 
--- what rows say of a number, where a change of one level changes that for one node alone
+-- what rows say of a number, if a change of one level changes that for one node only
 read-changed : {S A : Type 0} (read : Rows S → ℕ → A) (change : Rows S → Rows S) (other : A → A) (old : Table S) (n m : Node)
     → ((k : ℕ) → read (change (rows_for old n)) k ≡ if nat_eq k n.number then other (read (rows_for old n) k) else read (rows_for old n) k)
     → read (if nat_eq m.level n.level then change (rows_for old n) else rows_for old m) m.number ≡ if same_node m n then other (read (rows_for old m) m.number) else read (rows_for old m) m.number
@@ -144,7 +144,7 @@ read-changed read change other old n m is =
 stranger_is_other : (n m : Node) → is_node n ≡ true → is_node m ≡ false → nat_eq m.level n.level ≡ false
 stranger_is_other n m member stranger = ne_eqb m.level n.level (λ same. true≢false (sym member ∙ sym (same_membership m n same) ∙ stranger))
 
--- what is kept for each node, where a change of the rows of a node's level changes that in its row alone
+-- what is kept for each node, if a change of the rows of a node's level changes that in its row only
 kept_in-changed : {S : Type 0} (old new : Table S) (n : Node) (change : Rows S → Rows S) (other : Option (ℕ × S) → Option (ℕ × S)) → is_node n ≡ true → HasRowsChanged old new n.level change
     → ((k : ℕ) → kept_at (change (rows_for old n)) k ≡ if nat_eq k n.number then other (kept_at (rows_for old n) k) else kept_at (rows_for old n) k)
     → (m : Node) → kept_in new m ≡ if same_node m n then other (kept_in old m) else kept_in old m
@@ -165,7 +165,7 @@ pub IsSound-kept : {S : Type 0} {old new : Table S} → IsSound old → new.size
 IsSound-kept {S} {old} {new} sound size n k version s rows =
     IsSound-changed (λ rows. with_kept rows n.number version s) (λ rows. refl) (λ blocks level rows is. IsLevel-with_kept blocks level rows n.number version s is) old new sound size k rows
 
--- and putting one into its row keeps it for that node alone
+-- putting a summary into a node's row keeps it for that node only
 pub Keeps-at : {S : Type 0} {old new : Table S} → IsSound old → new.size ≡ old.size → (n : Node) (k version : ℕ) (s : S) → whole_in old n ≡ true → n.level ≡ k → HasRowsKept old new n k version s → Keeps old new n version s
 Keeps-at {S} {old} {new} sound size n k version s whole at changed =
     let row = IsRowOf-whole old n sound whole in

@@ -46,7 +46,7 @@ module _ {S : Type 0} (t : Table S) (n : Node) (rows : Rows S) (row : IsRowOf t 
   due_some (Some edit) is =
       (row.whole, fresh_in-rows t n rows row ∙ is.1, is.0 ∙ ap (λ r. get_or r.touched n.number 0) row.level ∙ sym (touched_in-inside t n (node_of_whole t n row.whole)))
 
-  -- and where nothing is, the node is fresh
+  -- and if nothing is, the node is fresh
   pub due_none : (result : Option ℕ) → IfNone result (nat_eq (get_or rows.stamps n.number 0) (get_or rows.touched n.number 0 + 1) ≡ true) → IfNone result ((whole_in t n && not (fresh_in t n)) ≡ false)
   due_none None is = and_right (whole_in t n) _ (ap not (fresh_in-rows t n rows row ∙ is))
   due_none (Some edit) is = tt
@@ -74,13 +74,13 @@ module _ {S : Type 0} (t : Table S) (n : Node) (whole : whole_in t n ≡ true) (
     pub child_row : (k : ℕ) → k < 8 → IsRowOf t (child n k) (rows_for t (child n k))
     child_row k within = IsRowOf-whole t (child n k) sound (child_whole k within)
 
-    -- so the children are fresh where their stamps say so
+    -- so the children are fresh if their stamps say so
     pub children_fresh-rows : list_all (λ k. nat_eq (get_or (rows_for t (child n 0)).stamps (8 * n.number + k) 0) (get_or (rows_for t (child n 0)).touched (8 * n.number + k) 0 + 1)) (range_with_len 0 8) ≡ list_all (λ k. fresh_in t (child n k)) (range_with_len 0 8)
     children_fresh-rows =
         all_alike (λ k. nat_eq (get_or (rows_for t (child n 0)).stamps (8 * n.number + k) 0) (get_or (rows_for t (child n 0)).touched (8 * n.number + k) 0 + 1)) (λ k. fresh_in t (child n k)) 8
         (λ k within. sym (fresh_in-by_row t (child n k) (child_row k within)))
 
--- what lies in the row of a fresh child of a whole node is its summary
+-- the summary in the row of a fresh child of a whole node is the child's summary
 pub child_entry : {S : Type 0} (t : Table S) (n : Node) (whole : whole_in t n ≡ true) (above : 1 < n.level) (sound : IsSound t) (k : ℕ) → k < 8 → fresh_in t (child n k) ≡ true → slice_get (rows_for t (child n k)).kept (8 * n.number + k) ≡ entry_in t (child n k)
 child_entry t n whole above sound k within fresh =
     let row = child_row t n whole above sound k within in

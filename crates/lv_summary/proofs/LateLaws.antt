@@ -1,4 +1,4 @@
--- A list that lies in pieces, and is blank past what was written of them.
+-- A list that is stored in pieces, and is blank past what was written of them.
 use Rattle.std.proofs.Common.{◌≡◌, ℕ, zero, suc, ◌+◌, ◌-◌, ◌*◌, ◌/◌, ◌%◌, ◌<◌, ◌≤◌, if◌then◌else◌, Some, List, [], ◌∷◌, ◌++◌, length, get_or, set, slice_get, nat_eq, refl, sym, ap, ◌∙◌, inl, inr, arith}
 use Rattle.std.proofs.lemmas.Bool.{cases_eq, cases_lt, cases_order, cond-false, cond-true, eq-eqb, le-ltb, lt-ltb, ne_eqb}
 use Rattle.std.proofs.lemmas.List.{get_or-append_right, get_or-drop, get_or-set_other, get_or-set_same, get_or-take, get_or_append_left, get_or_past, get_or_push, get_or_read, length-append, length-drop, length-take}
@@ -12,7 +12,7 @@ use Rattle.lv_summary.proofs.LevelLaws.{get_or-lengthened, length-lengthened}
 pub length-in_pieces : {A : Type 0} (front : List A) (later : List (List A)) (blank : A) (count : ℕ) → length (in_pieces front later blank count) ≡ count
 length-in_pieces front later blank count = length-by_number (item_at front later blank) count
 
--- what stands at a number below the count is there
+-- the item at a number below the count is in the list
 pub read_pieces : {A : Type 0} (front : List A) (later : List (List A)) (blank : A) (count k : ℕ) → k < count → slice_get (in_pieces front later blank count) k ≡ Some (item_at front later blank k)
 read_pieces front later blank count k inside = read_number (item_at front later blank) count k inside
 
@@ -24,15 +24,15 @@ item_at-early front later blank k early = cond-true _ _ _ (lt-ltb k 512 early)
 pub item_at-late : {A : Type 0} (front : List A) (later : List (List A)) (blank : A) (k : ℕ) → 512 ≤ k → item_at front later blank k ≡ later_item later k blank
 item_at-late front later blank k late = cond-false _ _ _ (le-ltb k 512 late)
 
--- no item behind the first piece stands at a number of it
+-- at a number of the first piece, no item is read of the pieces behind it
 later_item-early : {A : Type 0} (later : List (List A)) (number : ℕ) (blank : A) → number < 512 → later_item later number blank ≡ blank
 later_item-early later number blank early = cond-true _ _ _ (lt-ltb number 512 early)
 
--- what stands at another is in its piece
+-- the item at any other number is in its piece
 pub later_item-late : {A : Type 0} (later : List (List A)) (number : ℕ) (blank : A) → 512 ≤ number → later_item later number blank ≡ get_or (get_or later (number / 512 - 1) []) (number % 512) blank
 later_item-late later number blank late = cond-false _ _ _ (le-ltb number 512 late)
 
--- what stands at a number past what was written of the first piece is what is read of those behind it
+-- the item at a number past what was written of the first piece is what is read of those behind it
 pub item_at-past : {A : Type 0} (front : List A) (later : List (List A)) (blank : A) (number : ℕ) → length front ≤ number → item_at front later blank number ≡ later_item later number blank
 item_at-past front later blank number past =
     elim (cases_lt number 512) [
@@ -57,7 +57,7 @@ eight_early front eight later blank count first short written is inside =
           ∙ sym (read_pieces front later blank count (first + k) (omega arith)),
     )
 
--- and so are eight behind it
+-- eight neighbours of a piece behind the first are eight neighbours of the list
 pub eight_late : {A : Type 0} (front eight : List A) (later : List (List A)) (blank : A) (count first : ℕ) → AreLaterEight eight later first → first + 8 ≤ count → AreEight eight (in_pieces front later blank count) first
 eight_late front eight later blank count first are inside = (
   are.1,

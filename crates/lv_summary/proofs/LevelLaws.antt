@@ -8,7 +8,7 @@ use Rattle.lv_geometry.proofs.NodeLaws.{covers_more}
 use Rattle.lv_summary.specs.Inner.{IsLevel, filled, lengthened, with_kept, with_touch}
 use Rattle.lv_summary.specs.Table.{Rows, no_rows}
 
--- the edit that the row of a number says, 0 where there is no such row
+-- the edit that the row of a number says, 0 if there is no such row
 abbrev pub touched_at : {S : Type 0} → Rows S → ℕ → ℕ
 touched_at rows k = get_or rows.touched k 0
 
@@ -60,11 +60,11 @@ slice_get-set_other xs k j x other =
       | inr past ↦ slice_get_past (set xs k x) j (omega (arith, length-set xs k x)) ∙ sym (slice_get_past xs j past)
     ]
 
--- nothing is kept where the stamp is 0
+-- nothing is kept if the stamp is 0
 pub kept_by-none : {S : Type 0} (stamp : ℕ) (s : Option S) → stamp ≡ 0 → kept_by stamp s ≡ None
 kept_by-none stamp s none = cond-false (nat_lt 0 stamp) _ _ (le-ltb 0 stamp (omega arith))
 
--- a summary is kept where the stamp is another
+-- a summary is kept if the stamp is another
 pub kept_by-some : {S : Type 0} (stamp : ℕ) (s : S) → 0 < stamp → kept_by stamp (Some s) ≡ Some (stamp - 1, s)
 kept_by-some stamp s some = cond-true (nat_lt 0 stamp) _ _ (lt-ltb 0 stamp some)
 

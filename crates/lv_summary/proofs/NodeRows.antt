@@ -18,11 +18,11 @@ use Rattle.lv_summary.proofs.LevelLaws.{kept_at, kept_by, kept_by-none, kept_by-
 abbrev pub rows_at : {S : Type 0} → Table S → ℕ → Rows S
 rows_at t level = slice_index_or t.levels (level - 1) no_rows
 
--- a choice by two tests, of which the first passes, is by the second
+-- a choice by two tests, if the first passes, is by the second
 pub cond-and_true : {A : Type 0} (a b : Bool) (x y : A) → a ≡ true → cond (a && b) x y ≡ cond b x y
 cond-and_true a b x y passes = rw passes
 
--- a choice by two tests, of which the first fails
+-- a choice by two tests, if the first fails
 pub cond-and_false : {A : Type 0} (a b : Bool) (x y : A) → a ≡ false → cond (a && b) x y ≡ y
 cond-and_false a b x y fails = rw fails
 
@@ -86,7 +86,7 @@ inside_by_stamp rows k some even =
       | inr past ↦ absurd (omega (arith, get_or_past rows.stamps k 0 (omega arith)))
     ]
 
--- two stamps are equal where the versions are
+-- two stamps are equal if the versions are
 same_stamp : (stamp version : ℕ) → 0 < stamp → nat_eq (stamp - 1) version ≡ nat_eq stamp (version + 1)
 same_stamp stamp version some =
     elim (cases_eq stamp (version + 1)) [
@@ -94,7 +94,7 @@ same_stamp stamp version some =
       | inr other ↦ ne_eqb (stamp - 1) version (λ same. other (omega arith)) ∙ sym (ne_eqb stamp (version + 1) other)
     ]
 
--- what is kept has a version where its stamp is one more
+-- what is kept has a version if its stamp is one more
 has_version-kept_by : {S : Type 0} (version stamp : ℕ) (s : S) → has_version version (kept_by stamp (Some s)) ≡ nat_eq stamp (version + 1)
 has_version-kept_by version stamp s =
     elim (cases_lt 0 stamp) [
@@ -107,7 +107,7 @@ kept_in-by_row : {S : Type 0} (t : Table S) (n : Node) → IsRowOf t n (rows_for
 kept_in-by_row t n row s is =
     kept_in-inside t n (node_of_whole t n row.whole) ∙ ap (kept_by (get_or (rows_for t n).stamps n.number 0)) is
 
--- a node that is whole is fresh where the stamp of its row is one more than the edit that touched it
+-- a node that is whole is fresh if the stamp of its row is one more than the edit that touched it
 pub fresh_in-by_row : {S : Type 0} (t : Table S) (n : Node) → IsRowOf t n (rows_for t n) → fresh_in t n ≡ nat_eq (get_or (rows_for t n).stamps n.number 0) (get_or (rows_for t n).touched n.number 0 + 1)
 fresh_in-by_row t n row =
     let kept = there_is (rows_for t n).kept n.number row.kept in
@@ -132,7 +132,7 @@ entry_in-stale t n stale = cond-false (fresh_in t n) _ _ stale
 pub rows_fit : {S : Type 0} {t : Table S} → IsSound t → length (rows_at t 1).touched ≤ 131071
 rows_fit {S} {t} sound = omega (arith, blocks_in-rows t, sound.few)
 
--- the same by rows that are known to be those of its level
+-- whether a node is fresh, by rows that are known to be those of its level
 pub fresh_in-rows : {S : Type 0} (t : Table S) (n : Node) (rows : Rows S) → IsRowOf t n rows → fresh_in t n ≡ nat_eq (get_or rows.stamps n.number 0) (get_or rows.touched n.number 0 + 1)
 fresh_in-rows t n rows row =
     fresh_in-by_row t n (rw row.level at row) ∙ ap (λ r. nat_eq (get_or r.stamps n.number 0) (get_or r.touched n.number 0 + 1)) (sym row.level)
@@ -146,7 +146,7 @@ pub version-none : {S : Type 0} (t : Table S) (n : Node) (rows : Rows S) → IsL
 version-none t n rows of none =
     ap (option_map (λ kept. kept.0)) (kept_in-inside t n of.member ∙ kept_by-none _ _ (ap (λ r. get_or r.stamps n.number 0) (sym of.level) ∙ none))
 
--- another stamp tells the version of what is kept
+-- another stamp gives the version of what is kept
 pub version-some : {S : Type 0} (t : Table S) (n : Node) (rows : Rows S) → IsLevelOf t n rows → 0 < get_or rows.stamps n.number 0 → option_map (λ kept. kept.0) (kept_in t n) ≡ Some (get_or rows.stamps n.number 0 - 1)
 version-some t n rows of some =
     let level = level_of_node n of.member in

@@ -13,7 +13,7 @@ number_at-longer old new n items blank k =
     ∙ ap (λ b. get_or (get_or (lengthened old.items n old.blank) (k / 8) b) (k % 8) 0) blank
     ∙ ap (λ eight. get_or eight (k % 8) 0) (get_or-lengthened old.items n old.blank (k / 8))
 
--- blank items alone have zeros alone
+-- if all items are blank, all numbers are 0
 pub number_at-none : (old new : LateRowsState (List ℕ)) (n : ℕ) → new.items ≡ replicate n old.blank → new.blank ≡ old.blank → ((k : ℕ) → slice_index old.blank k ≡ 0) → (k : ℕ) → number_at new k ≡ 0
 number_at-none old new n items blank zeros k =
     ap (λ xs. get_or (get_or xs (k / 8) new.blank) (k % 8) 0) items

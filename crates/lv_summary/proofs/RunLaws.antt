@@ -89,7 +89,7 @@ part_early front part later blank count first whole aligned fits early =
     let late : 512 ≤ k = elim apart [ inl before ↦ absurd (omega arith) | inr behind ↦ omega arith ] in
     item_at-late part later blank k late ∙ sym (item_at-late front later blank k late))
 
--- what stands past the count is blank as before
+-- past the count all is blank as before
 pub blank_early : {A : Type 0} (front part : List A) (later : List (List A)) (blank : A) (count first : ℕ) → first + 512 ≤ count → ((k : ℕ) → count ≤ k → item_at front later blank k ≡ blank) → (k : ℕ) → count ≤ k → item_at part later blank k ≡ blank
 blank_early front part later blank count first fits none k past =
     item_at-late part later blank k (omega arith) ∙ sym (item_at-late front later blank k (omega arith)) ∙ none k past
@@ -107,7 +107,7 @@ room_early count capacity other later first fits long whole =
           omega arith
     ]
 
--- one piece behind the first gives way to a part: what stands elsewhere is as before
+-- one piece behind the first gives way to a part: items elsewhere are as before
 part_late-outside : {A : Type 0} (front part : List A) (later : List (List A)) (blank : A) (first : ℕ) → first % 512 ≡ 0 → 512 ≤ first → (k : ℕ) → (k < first) ⊎ (first + 512 ≤ k) → item_at front (set later (first / 512 - 1) part) blank k ≡ item_at front later blank k
 part_late-outside front part later blank first aligned late k apart =
     elim (cases_lt k 512) [
@@ -120,7 +120,7 @@ part_late-outside front part later blank first aligned late k apart =
           ∙ sym (item_at-late front later blank k high ∙ later_item-late later k blank high)
     ]
 
--- and the part stands in its place
+-- one piece behind the first gives way to a part: the list has the part in its place
 pub part_late : {A : Type 0} (front part : List A) (later : List (List A)) (blank : A) (count first : ℕ) → length part ≡ 512 → first % 512 ≡ 0 → first + 512 ≤ count → 512 ≤ first → first / 512 - 1 < length later → HasPart (in_pieces front later blank count) (in_pieces front (set later (first / 512 - 1) part) blank count) first part
 part_late front part later blank count first whole aligned fits late there =
     part_of_pieces front front later (set later (first / 512 - 1) part) blank count first part whole fits
@@ -134,7 +134,7 @@ part_late front part later blank count first whole aligned fits late there =
     ∙ ap (λ j. get_or part j blank) rest)
     (part_late-outside front part later blank first aligned late)
 
--- what stands past the count is blank as before
+-- past the count all is blank as before
 pub blank_late : {A : Type 0} (front part : List A) (later : List (List A)) (blank : A) (count first : ℕ) → first % 512 ≡ 0 → first + 512 ≤ count → 512 ≤ first → ((k : ℕ) → count ≤ k → item_at front later blank k ≡ blank) → (k : ℕ) → count ≤ k → item_at front (set later (first / 512 - 1) part) blank k ≡ blank
 blank_late front part later blank count first aligned fits late none k past =
     part_late-outside front part later blank first aligned late k (inr (omega arith)) ∙ none k past

@@ -18,7 +18,7 @@ same_node-eq n m same =
     let parts = and_parts (nat_eq n.level m.level) (nat_eq n.number m.number) same in
     ap (λ l. record n { level = l }) (eqb-true n.level m.level parts.0) ∙ ap (λ i. record m { number = i }) (eqb-true n.number m.number parts.1)
 
--- a node that is another is of the table where the other is
+-- a node that is another is of the table if the other is
 pub node_of_same : (n m : Node) → same_node n m ≡ true → is_node m ≡ true → is_node n ≡ true
 node_of_same n m same member = ap is_node (same_node-eq n m same) ∙ member
 
@@ -27,7 +27,7 @@ module _ {S : Type 0} where
   pub whole_in-size : (old new : Table S) → new.size ≡ old.size → (n : Node) → whole_in new n ≡ whole_in old n
   whole_in-size old new size n = ap (λ size. is_node n && is_below n size) size
 
-  -- a node is fresh in both of two tables, or in neither, where they say the same of it
+  -- a node is fresh in both of two tables, or in neither, if they say the same of it
   pub fresh_in-same : (old new : Table S) (n : Node) → whole_in new n ≡ whole_in old n → touched_in new n ≡ touched_in old n → kept_in new n ≡ kept_in old n → fresh_in new n ≡ fresh_in old n
   fresh_in-same old new n whole touched kept =
       ap (λ w. w && has_version (touched_in new n) (kept_in new n)) whole
@@ -40,13 +40,13 @@ module _ {S : Type 0} where
       ap (λ f. cond f (option_map (λ kept. kept.1) (kept_in new n)) None) fresh
       ∙ ap (λ k. cond (fresh_in old n) (option_map (λ kept. kept.1) k) None) kept
 
-  -- a node of which two tables say the same is as fresh in both, and has the same summary
+  -- a node that is alike in two tables is as fresh in both, and has the same summary
   pub entry_stays : (old new : Table S) (n : Node) → whole_in new n ≡ whole_in old n → touched_in new n ≡ touched_in old n → kept_in new n ≡ kept_in old n → (fresh_in new n ≡ fresh_in old n) × (entry_in new n ≡ entry_in old n)
   entry_stays old new n whole touched kept =
       let fresh = fresh_in-same old new n whole touched kept in
       (fresh, entry_in-same old new n fresh kept)
 
-  -- a summary that is delivered for a whole node, of the version that it was touched by last, is held where the node is fresh, and else installed
+  -- a summary that is delivered for a whole node, of the version that it was touched by last, is held if the node is fresh, and else installed
   pub delivery_in-current : (t : Table S) (n : Node) (v : ℕ) → whole_in t n ≡ true → touched_in t n ≡ v → delivery_in t n v ≡ cond (fresh_in t n) Held Installed
   delivery_in-current t n v whole current =
       cond-true (whole_in t n && nat_eq (touched_in t n) v) _ _ (and_from _ _ whole (eq-eqb (touched_in t n) v current))
@@ -110,7 +110,7 @@ module _ {S : Type 0} where
   entry_in-untouched old new i edit touch n apart =
       entry_in-same old new n (fresh_in-untouched old new i edit touch n apart) (touch.kept n)
 
-  -- a node that has the index is fresh only where what is kept for it has the edit's number already
+  -- a node that has the index is fresh only if what is kept for it has the edit's number already
   pub fresh_in-touched : (old new : Table S) (i edit : ℕ) → Touches old new i edit → (n : Node) → is_node n ≡ true → covers n i ≡ true → fresh_in new n ≡ whole_in old n && has_version edit (kept_in old n)
   fresh_in-touched old new i edit touch n inside has =
       ap (λ w. w && has_version (touched_in new n) (kept_in new n)) (whole_in-size old new touch.size n)
@@ -129,7 +129,7 @@ module _ {S : Type 0} where
       option_map_cond true new old = refl
       option_map_cond false new old = refl
 
-  -- the node of a summary that was put in place is fresh where it is whole and was touched last by the edit of that number
+  -- the node of a summary that was put in place is fresh if it is whole and was touched last by the edit of that number
   pub fresh_in-kept : (old new : Table S) (n : Node) (version : ℕ) (s : S) → Keeps old new n version s → fresh_in new n ≡ whole_in old n && nat_eq version (touched_in old n)
   fresh_in-kept old new n version s keeps =
       ap (λ w. w && has_version (touched_in new n) (kept_in new n)) (whole_in-size old new keeps.size n)
@@ -171,7 +171,7 @@ module _ {S : Type 0} where
         | inr stale ↦ absurd (none-some s (sym (cond-false _ _ _ stale) ∙ is))
       ]
 
-  -- a node is fresh only where it is whole
+  -- a node is fresh only if it is whole
   pub whole_of_fresh : (t : Table S) (n : Node) → fresh_in t n ≡ true → whole_in t n ≡ true
   whole_of_fresh t n fresh = (and_parts (whole_in t n) (has_version (touched_in t n) (kept_in t n)) fresh).0
 
@@ -186,7 +186,7 @@ module _ {S : Type 0} where
   pub node_of_whole : (t : Table S) (n : Node) → whole_in t n ≡ true → is_node n ≡ true
   node_of_whole t n whole = (and_parts (is_node n) (is_below n t.size) whole).0
 
-  -- where the test of a delivery passes, the node is whole, and was touched last by the edit of that number
+  -- if the test of a delivery passes, the node is whole, and was touched last by the edit of that number
   current_by_test : (t : Table S) (n : Node) (v : ℕ) → whole_in t n && nat_eq (touched_in t n) v ≡ true → (whole_in t n ≡ true) × (touched_in t n ≡ v)
   current_by_test t n v test =
       let parts = and_parts (whole_in t n) (nat_eq (touched_in t n) v) test in

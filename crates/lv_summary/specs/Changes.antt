@@ -55,7 +55,7 @@ pub record KeepsRun {S : Type 0} (old new : Table S) (level first : ℕ) (summar
       kept_in new (record { level = level; number = first + k }) ≡ Some (touched_in old (record { level = level; number = first + k }), s)
   pub others_kept : (n : Node) → is_in_run level first (length summaries) n ≡ false → kept_in new n ≡ kept_in old n
 
--- an outcome changes the table only where it is installed
+-- an outcome changes the table only if it is installed
 abbrev pub AfterDelivery : {S : Type 0} → Table S → Table S → Node → ℕ → S → Accepted → Type 0
 AfterDelivery old new n v s Installed = Keeps old new n v s
 AfterDelivery old new n v s Held = new ≡ old

@@ -19,7 +19,7 @@ pub record LateRowsState (S : Type 0) : Type 0 where
   pub capacity : ℕ
   pub blank : S
 
--- a list that is made n long with copies of x, where it is shorter
+-- a list, made n long with copies of x if it is shorter
 abbrev pub lengthened : {A : Type 0} → List A → ℕ → A → List A
 lengthened xs n x = xs ++ replicate (n - length xs) x
 
@@ -28,11 +28,11 @@ pub record LateNumbersState : Type 0 where
   pub items : List ℕ
   pub capacity : ℕ
 
--- the number at a place, where each item of a list has eight
+-- the number at a place, if each item of a list has eight numbers
 abbrev pub number_at : LateRowsState (List ℕ) → ℕ → ℕ
 number_at eights k = slice_index (slice_index_or eights.items (k / 8) eights.blank) (k % 8)
 
--- so many numbers, eight to an item
+-- the first so many numbers, eight to an item
 abbrev pub numbers_in : LateRowsState (List ℕ) → ℕ → List ℕ
 numbers_in eights count = map (number_at eights) (range_with_len 0 count)
 
@@ -40,16 +40,16 @@ numbers_in eights count = map (number_at eights) (range_with_len 0 count)
 abbrev pub AreEight : {A : Type 0} → List A → List A → ℕ → Type 0
 AreEight eight xs first = (length eight ≡ 8) × ((k : ℕ) → k < 8 → slice_get eight k ≡ slice_get xs (first + k))
 
--- what stands at a number in the pieces behind the first; the blank where nothing was written
+-- the item at a number in the pieces behind the first; the blank if nothing was written there
 abbrev pub later_item : {S : Type 0} → List (List S) → ℕ → S → S
 later_item later number blank =
     if nat_lt number 512 then blank else slice_index_or (slice_index_or later (number / 512 - 1) []) (number % 512) blank
 
--- what stands at a number: in the first piece, or behind it
+-- the item at a number: in the first piece, or behind it
 abbrev pub item_at : {S : Type 0} → List S → List (List S) → S → ℕ → S
 item_at front later blank k = if nat_lt k 512 then slice_index_or front k blank else later_item later k blank
 
--- so many items in pieces
+-- the first so many items of a list in pieces
 abbrev pub in_pieces : {S : Type 0} → List S → List (List S) → S → ℕ → List S
 in_pieces front later blank count = map (item_at front later blank) (range_with_len 0 count)
 
@@ -62,18 +62,18 @@ abbrev pub AreLaterEight : {S : Type 0} → List S → List (List S) → ℕ →
 AreLaterEight {S} eight later first =
     (512 ≤ first) × (length eight ≡ 8) × ((k : ℕ) → k < 8 → (blank : S) → slice_get eight k ≡ Some (later_item later (first + k) blank))
 
--- a piece with an item at a place, and with blanks before it where nothing was written
+-- a piece with an item at a place, and with blanks before it if nothing was written there
 abbrev pub put_late : {S : Type 0} → List S → ℕ → S → S → List S
 put_late written place s blank =
     if nat_lt place (length written) then slice_set written place s else lengthened written place blank ++ s ∷ []
 
--- a list in which so many items stand from a number on, each told by its place among them; all else is as before
+-- a list with so many given items from a number on, each found by its place among them; all else is as before
 pub record HasItems {A : Type 0} (old new : List A) (first count : ℕ) (item : ℕ → Option A) : Type 0 where
   pub long : length new ≡ length old
   pub item_is : (k : ℕ) → k < count → slice_get new (first + k) ≡ item k
   pub others : (k : ℕ) → (nat_le first k && nat_lt k (first + count)) ≡ false → slice_get new k ≡ slice_get old k
 
--- a list in which a part stands from a number on; all else is as before
+-- a list with the items of another from a number on; all else is as before
 abbrev pub HasPart : {A : Type 0} → List A → List A → ℕ → List A → Type 0
 HasPart old new first part = HasItems old new first (length part) (slice_get part)
 

@@ -6,8 +6,8 @@ use Rattle.lv_geometry.specs.Nodes.{is_below, is_node}
 use Rattle.lv_summary.specs.declared.accepted.Accepted.{Accepted}
 use Rattle.lv_summary.specs.declared.accepted.Accepted.TheVariants.{Installed, Held, Stale}
 
--- the rows of one level, by the node's number: the edit that touched it last, one more than the version of the
--- summary that was delivered for it (0 where none was), and the summary that lies there
+-- the rows of one level, by the node's number: the edit that touched it last, one more than the version of the summary that was delivered for it
+-- (0 if none was), and the summary that is stored there
 pub record Rows (S : Type 0) : Type 0 where
   pub touched : List ℕ
   pub stamps : List ℕ
@@ -26,11 +26,11 @@ no_rows = record { touched = []; stamps = []; kept = [] }
 abbrev pub rows_for : {S : Type 0} → Table S → Node → Rows S
 rows_for t n = slice_index_or t.levels (n.level - 1) no_rows
 
--- the number of the last edit that touched a node; 0 where none did, and outside the table
+-- the number of the last edit that touched a node; 0 if none did, and outside the table
 unfoldable pub touched_in : {S : Type 0} → Table S → Node → ℕ
 touched_in t n = if is_node n then slice_index (rows_for t n).touched n.number else 0
 
--- the version that was delivered for a node, if one was, with the summary that lies in its row
+-- the version that was delivered for a node, if one was, with the summary that is stored in its row
 unfoldable pub kept_in : {S : Type 0} → Table S → Node → Option (ℕ × S)
 kept_in t n =
     let stamp = slice_index (rows_for t n).stamps n.number in
@@ -57,8 +57,8 @@ entry_in t n = if fresh_in t n then option_map (λ kept. kept.1) (kept_in t n) e
 unfoldable pub blocks_in : {S : Type 0} → Table S → ℕ
 blocks_in t = length (slice_index_or t.levels 0 no_rows).touched
 
--- what becomes of a summary that is delivered for a node: stale where the node isn't whole, or was touched by another
--- edit last; held where what is kept has its version; else installed
+-- what becomes of a summary that is delivered for a node: stale if the node isn't whole, or was touched by another edit last; else held if what
+-- is kept has its version; else installed
 abbrev pub delivery_in : {S : Type 0} → Table S → Node → ℕ → Accepted
 delivery_in t n v =
     if whole_in t n && nat_eq (touched_in t n) v then (if has_version v (kept_in t n) then Held else Installed) else Stale (touched_in t n)

@@ -9,8 +9,8 @@ use crate::accepted::Accepted;
 use crate::level::Level;
 use lv_geometry::{Levels, Node};
 
-/// What would become of a summary of a version that is delivered to the table of six levels and a size. It is installed where the
-/// node is whole, was touched last by the edit of that number, and has no summary of that version yet.
+/// What would become of a summary of a version that is delivered to the table of six levels and a size. It is installed if the node is whole, was
+/// touched last by the edit of that number, and has no summary of that version yet.
 pub fn delivery<S: Copy>(levels: &Levels<Level<S>>, size: u32, node: Node, version: u32) -> Accepted
     requires { IsSound (table_of size levels.now) }
     ensures { result ≡ delivery_in (table_of size levels.now) node version }
@@ -25,7 +25,7 @@ pub fn delivery<S: Copy>(levels: &Levels<Level<S>>, size: u32, node: Node, versi
     Accepted::Installed
 }
 
-/// Delivers a summary of a version, and tells what became of it.
+/// Delivers a summary of a version, and returns what became of it.
 pub fn deliver<S: Copy>(
     levels: &mut Levels<Level<S>>,
     size: u32,
@@ -45,7 +45,7 @@ pub fn deliver<S: Copy>(
     accepted
 }
 
-// Keeps a summary of a version for a whole node. The size only tells which nodes are whole.
+// Keeps a summary of a version for a whole node. The size only says which nodes are whole.
 fn keep<S: Copy>(levels: &mut Levels<Level<S>>, size: u32, node: Node, version: u32, s: S)
     requires sound { IsSound (table_of size levels.old) }
     requires whole { whole_in (table_of size levels.old) node ≡ true }
@@ -56,7 +56,7 @@ fn keep<S: Copy>(levels: &mut Levels<Level<S>>, size: u32, node: Node, version: 
     levels.at_mut(node.level).keep(node.number, version, s);
 }
 
-/// The number of the last edit that touched a node; 0 where none did, and outside the table.
+/// The number of the last edit that touched a node; 0 if none did, and outside the table.
 #[inline(always)]
 pub fn last_touch<S: Copy>(levels: &Levels<Level<S>>, size: u32, node: Node) -> u32
     requires { IsSound (table_of size levels.now) }
@@ -81,7 +81,7 @@ pub fn is_fresh<S: Copy>(levels: &Levels<Level<S>>, size: u32, node: Node) -> bo
     }
 }
 
-/// The level of a node that is whole, in which it has a row; none where the node is not whole.
+/// The level of a node that is whole. The node has a row in it. None if the node is not whole.
 #[inline(always)]
 pub fn whole_level<S: Copy>(levels: &Levels<Level<S>>, size: u32, node: Node) -> Option<&Level<S>>
     requires { IsSound (table_of size levels.now) }
@@ -95,7 +95,7 @@ pub fn whole_level<S: Copy>(levels: &Levels<Level<S>>, size: u32, node: Node) ->
     }
 }
 
-/// The level of a node; none where there is no such level.
+/// The level of a node; none if there is no such level.
 #[inline(always)]
 pub fn level_of<S: Copy>(levels: &Levels<Level<S>>, size: u32, node: Node) -> Option<&Level<S>>
     requires { IsSound (table_of size levels.now) }

@@ -1,4 +1,4 @@
-//! Numbers that cost addresses alone until they are written.
+//! Numbers that cost only addresses until they are written.
 ghost use Rattle.std.specs.Prelude.{◌≡◌, ◌<◌, ◌≤◌, [], length, replicate, true, slice_get, slice_set, Some};
 ghost use Rattle.lv_summary.specs.Inner.{lengthened};
 
@@ -9,8 +9,8 @@ use std::marker::Model;
 /// How many numbers are side by side in one item.
 const SIDE: usize = 8;
 
-/// A list of numbers of which some were written; the rest of it is 0, and costs addresses alone until it is written. Eight numbers are
-/// one item of `LateRows`, so a piece has 4,096 of them: an allocator writes to each page in which a piece begins.
+/// A list of numbers that is written in part; the rest of it is 0, and costs only addresses until it is written. Eight numbers are one item of
+/// `LateRows`, so a piece has 4,096 of them: an allocator writes to each page in which a piece begins.
 #[derive(Drop)]
 pub struct LateNumbers {
     eights: LateRows<[u32; 8]>,
@@ -49,7 +49,7 @@ impl LateNumbers {
         self.eights.reserve(items.div_ceil(SIDE))
     }
 
-    /// Adds zeros, so that there are so many numbers in all, where there are fewer. Writes none of them.
+    /// Adds zeros, so that there are so many numbers in all, if there are fewer. Writes none of them.
     pub fn fill(&mut self, items: usize)
         requires { items ≤ self.old.capacity }
         ensures { self.new.items ≡ lengthened self.old.items items 0 }

@@ -1,4 +1,4 @@
-//! Rows that cost addresses alone until they are written.
+//! Rows that cost only addresses until they are written.
 ghost use Rattle.std.specs.Prelude.{◌≡◌, ℕ, ◌+◌, ◌*◌, ◌%◌, ◌<◌, ◌≤◌, ◌++◌, [], ◌∷◌, length, min, replicate, nat_eq, true, false, slice_get, slice_set, Some, IfSome, vec_capacity, if◌then◌else◌};
 ghost use Rattle.std.specs.List.{slice_index_or};
 ghost use Rattle.lv_summary.specs.Inner.{AreEight, AreLaterEight, HasPart, item_at, later_item, lengthened};
@@ -8,8 +8,8 @@ use std::alloc::{AllocError, Global};
 use std::marker::Model;
 use std::mem;
 
-/// A list of which some was written; the rest of it is blank, and costs addresses alone until it is written. It lies in pieces of 512
-/// items, so that little is written to reach one far behind.
+/// A list that is written in part; the rest of it is blank, and costs only addresses until it is written. It is stored in pieces of 512 items, so
+/// that little is written to reach one far behind.
 #[derive(Drop)]
 pub struct LateRows<S> {
     alloc: Global,
@@ -58,7 +58,7 @@ impl<S: Copy> LateRows<S> {
         reserve_front(&mut self.front, more) && reserve_later(self.alloc, &mut self.later, items)
     }
 
-    /// Adds blanks, so that there are so many items in all, where there are fewer. Writes none of them.
+    /// Adds blanks, so that there are so many items in all, if there are fewer. Writes none of them.
     pub fn fill(&mut self, items: usize)
         requires { items ≤ self.old.capacity }
         ensures items { self.new.items ≡ lengthened self.old.items items self.old.blank }
@@ -92,7 +92,7 @@ impl<S: Copy> LateRows<S> {
         *self.get(number)
     }
 
-    /// The same item where it lies, of which no more is copied than is read.
+    /// The item at a number, by reference, so that no more of it is copied than is read.
     #[inline(always)]
     pub fn get(&self, number: usize) -> &S
         requires { number < length self.now.items }
@@ -101,7 +101,7 @@ impl<S: Copy> LateRows<S> {
         item_of(&self.front, &self.later, number, &self.blank)
     }
 
-    /// Eight items, from one on, where they lie side by side; none where one of them was never written.
+    /// Eight items, from one on, as a slice, if they are stored side by side; none if one of them was never written.
     #[inline(always)]
     pub fn eight(&self, first: usize) -> Option<&[S]>
         requires { first + 8 ≤ length self.now.items }
@@ -144,7 +144,7 @@ impl<S: Copy> LateRows<S> {
     }
 }
 
-// The item at a number, where it lies: so it is copied once.
+// The item at a number, by reference, so that it is copied once.
 #[inline(always)]
 fn item_of<'a, S: Copy>(front: &'a [S], later: &'a [Piece<S>], number: usize, blank: &'a S) -> &'a S
     requires { length front.now ≤ 512 }
@@ -170,7 +170,7 @@ fn later_at<'a, S: Copy>(later: &'a [Piece<S>], number: usize, blank: &'a S) -> 
     }
 }
 
-// Eight items behind the first piece, where they were written and lie in one.
+// Eight items behind the first piece, if they were written and are in one piece.
 #[inline(always)]
 fn later_eight<S: Copy>(later: &[Piece<S>], first: usize) -> Option<&[S]>
     ensures { IfSome result (λ eight. AreLaterEight eight.now later.now first) }

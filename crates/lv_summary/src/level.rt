@@ -9,7 +9,7 @@ use lv_geometry::Refusal;
 use std::alloc::Global;
 use std::marker::Model;
 
-/// The rows of one level, apart for speed: a reduction looks at two numbers before it reads a summary.
+/// The rows of one level, in separate lists for speed: a reduction looks at two numbers before it reads a summary.
 #[derive(Drop)]
 pub struct Level<S> {
     touched: Vec<u32>,
@@ -64,7 +64,7 @@ impl<S: Copy> Level<S> {
         }
     }
 
-    /// Adds blank rows, so that there are so many in all, where there are fewer.
+    /// Adds blank rows, so that there are so many in all, if there are fewer.
     pub fn fill(&mut self, rows: u32)
         requires { rows ≤ self.old.capacity }
         ensures { self.new.rows ≡ filled self.old.rows rows self.old.blank }
@@ -83,7 +83,7 @@ impl<S: Copy> Level<S> {
         self.touched[number as usize] = edit;
     }
 
-    /// The number of the last edit that touched a node; 0 where it has no row.
+    /// The number of the last edit that touched a node; 0 if it has no row.
     #[inline(always)]
     pub fn touched(&self, number: u32) -> u32
         ensures { result ≡ slice_index self.now.rows.touched number }
@@ -91,7 +91,7 @@ impl<S: Copy> Level<S> {
         self.touched.get(number as usize).copied().unwrap_or(0)
     }
 
-    /// One more than the version of the summary that was delivered for a node; 0 where none was.
+    /// One more than the version of the summary that was delivered for a node; 0 if none was.
     #[inline(always)]
     pub fn stamp(&self, number: u32) -> u32
         ensures { result ≡ slice_index self.now.rows.stamps number }
@@ -120,7 +120,7 @@ impl<S: Copy> Level<S> {
         self.kept.at(number as usize)
     }
 
-    /// The summaries in the rows of eight neighbours, from one on, where they lie; none where one of them was never written.
+    /// The summaries in the rows of eight neighbours, from one on, as a slice; none if one of them was never written.
     #[inline(always)]
     pub fn eight(&self, first: u32) -> Option<&[S]>
         requires { first + 8 ≤ length self.now.rows.kept }
@@ -154,7 +154,7 @@ impl<S: Copy> Level<S> {
         put_run(&mut self.kept, first, summaries);
     }
 
-    /// The same of a whole piece of rows, whose memory takes the place of the rows' own.
+    /// Puts summaries of their nodes' touched numbers in a whole piece of rows. Their memory takes the place of the rows' own.
     pub fn adopt(&mut self, first: u32, summaries: &mut Vec<S>)
         requires whole { length summaries.old.items ≡ 512 }
         requires aligned { first % 512 ≡ 0 }
@@ -169,7 +169,7 @@ impl<S: Copy> Level<S> {
         self.kept.adopt(first, summaries);
     }
 
-    /// The number of the last edit that touched a node; none where what was delivered for the node has it.
+    /// The number of the last edit that touched a node; none if the summary that was delivered for the node is of that number.
     #[inline(always)]
     pub fn due(&self, number: u32) -> Option<u32>
         requires touched { number < length self.now.rows.touched }
@@ -215,7 +215,7 @@ fn make_room<T>(list: &mut Vec<T>, items: usize) -> bool
     list.reserve(more).is_ok()
 }
 
-// Adds copies of an item, so that there are so many in all, where there are fewer.
+// Adds copies of an item, so that there are so many in all, if there are fewer.
 fn lengthen<T: Copy>(list: &mut Vec<T>, items: usize, item: T)
     requires { items ≤ vec_capacity list.old }
     ensures { list.new.items ≡ list.old.items ++ replicate (items - vec_len list.old) item }

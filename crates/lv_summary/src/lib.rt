@@ -1,9 +1,8 @@
-//! The table of summaries: for each node of six levels, by which edit it was touched last, and the summary
-//! that is kept for it with its version.
+//! The table of summaries: for each node of six levels, by which edit it was touched last, and the summary that is kept for it with its version.
 //!
-//! Its model is a map from nodes, stated node by node (`touched_in`, `kept_in`, `fresh_in`), and a size. How the
-//! rows lie is the crate's own affair. It does not compute summaries, and its calls know nothing of elements. When a table agrees with
-//! a journal of edits is `Agrees`, and laws say that it goes on to do so: through growth, each edit, and each summary that is delivered.
+//! Its model is a map from nodes, stated node by node (`touched_in`, `kept_in`, `fresh_in`), and a size. How rows are stored is private to the
+//! crate. It does not compute summaries, and its calls know nothing of elements. `Agrees` says when a table agrees with a journal of edits, and
+//! laws say that it goes on to do so: through growth, each edit, and each summary that is delivered.
 #![tactic(auto)]
 
 mod accepted;

@@ -1,4 +1,4 @@
-//! Pieces of rows: memory for 512 rows each, of which a front was written.
+//! Pieces of rows: memory for 512 rows each. The first few of these rows are written.
 ghost use Rattle.std.specs.Prelude.{◌≡◌, [], ◌+◌, ◌<◌, ◌≤◌, ◌++◌, ◌∷◌, IfOk, IfSome, length, vec_capacity};
 ghost use Rattle.std.specs.List.{slice_index_or};
 ghost use Rattle.lv_summary.specs.Inner.{AreEight, lengthened, put_late};
@@ -11,7 +11,7 @@ use std::mem;
 /// How many rows a piece has.
 pub const PIECE: usize = 512;
 
-/// Memory for the rows of a piece, of which a front was written.
+/// Memory for the rows of a piece. The first few of these rows are written.
 #[derive(Drop)]
 pub struct Piece<S> {
     written: Vec<S>,
@@ -28,7 +28,7 @@ impl<S> Model for Piece<S> {
 }
 
 impl<S: Copy> Piece<S> {
-    /// Memory for a piece, of which nothing was written.
+    /// Memory for a piece. Nothing is written in it yet.
     pub fn new(alloc: Global) -> Result<Piece<S>, AllocError>
         ensures { IfOk result (λ piece. piece ≡ []) }
     {
@@ -36,7 +36,7 @@ impl<S: Copy> Piece<S> {
         Ok(Piece { written })
     }
 
-    /// The row at a place; a blank where it wasn't written.
+    /// The row at a place; a blank if it wasn't written.
     #[inline(always)]
     pub fn at<'a>(&'a self, place: usize, blank: &'a S) -> &'a S
         ensures { result.now ≡ slice_index_or self.now place blank.now }
@@ -44,7 +44,7 @@ impl<S: Copy> Piece<S> {
         self.written.get(place).unwrap_or(blank)
     }
 
-    /// Eight rows, from a place on; none where one of them wasn't written.
+    /// Eight rows, from a place on; none if one of them wasn't written.
     #[inline(always)]
     pub fn eight(&self, first: usize) -> Option<&[S]>
         requires { first + 8 ≤ 512 }

@@ -109,7 +109,7 @@ impl<S: Copy> Summaries<S> {
         self.levels.level_1.rows() as u32
     }
 
-    /// The number of the last edit that touched a node; 0 where none did, and outside the table.
+    /// The number of the last edit that touched a node; 0 if none did, and outside the table.
     #[inline(always)]
     pub fn touched(&self, node: Node) -> u32
         ensures value { result ≡ touched_in self.now node }
@@ -134,7 +134,7 @@ impl<S: Copy> Summaries<S> {
         is_fresh(&self.levels, self.size, node)
     }
 
-    /// The summary of a node, where it is fresh.
+    /// The summary of a node, if it is fresh.
     #[inline(always)]
     pub fn entry(&self, node: Node) -> Option<S>
         ensures { result ≡ entry_in self.now node }
@@ -147,7 +147,7 @@ impl<S: Copy> Summaries<S> {
         }
     }
 
-    /// The number of the edit that touched a whole node last, where what is kept for the node is of another; none where it isn't.
+    /// The number of the edit that touched a node last, if the node is whole and not fresh; else none.
     #[inline(always)]
     pub fn due(&self, node: Node) -> Option<u32>
         ensures some { IfSome result (λ edit. (whole_in self.now node ≡ true) × (fresh_in self.now node ≡ false) × (edit ≡ touched_in self.now node)) }
@@ -179,8 +179,8 @@ impl<S: Copy> Summaries<S> {
         self.levels.at(node.level).kept(node.number)
     }
 
-    /// The summaries of the eight children of a whole node, in order, where they lie; none where one of them was never written.
-    /// Each is that of its child where the child is fresh.
+    /// The summaries of the eight children of a whole node, in order, as a slice; none if one of them was never written. Each is that of its
+    /// child if the child is fresh.
     #[inline(always)]
     pub fn children(&self, node: Node) -> Option<&[S]>
         requires whole { whole_in self.now node ≡ true }
@@ -194,7 +194,7 @@ impl<S: Copy> Summaries<S> {
         }
     }
 
-    /// The version of the summary that was delivered for a node, fresh or not; none where none was.
+    /// The version of the summary that was delivered for a node, fresh or not; none if none was.
     pub fn kept_version(&self, node: Node) -> Option<u32>
         ensures { result ≡ option_map (λ kept. kept.0) (kept_in self.now node) }
     {
@@ -202,15 +202,15 @@ impl<S: Copy> Summaries<S> {
         if stamp == 0 { None } else { Some(stamp - 1) }
     }
 
-    /// What would become of a summary of a version that is delivered to a node. It is installed where the node is whole, was touched
-    /// last by the edit of that number, and has no summary of that version yet.
+    /// What would become of a summary of a version that is delivered to a node. It is installed if the node is whole, was touched last by the
+    /// edit of that number, and has no summary of that version yet.
     pub fn delivery(&self, node: Node, version: u32) -> Accepted
         ensures { result ≡ delivery_in self.now node version }
     {
         delivery(&self.levels, self.size, node, version)
     }
 
-    /// Delivers a summary of a version to a node, and tells what became of it.
+    /// Delivers a summary of a version to a node, and returns what became of it.
     pub fn install(&mut self, node: Node, version: u32, s: S) -> Accepted
         ensures answer { result ≡ delivery_in self.old node version }
         ensures after { AfterDelivery self.old self.new node version s result }
@@ -237,8 +237,8 @@ impl<S: Copy> Summaries<S> {
         self.levels.at_mut(level).keep_run(first, summaries);
     }
 
-    /// The same of 512 blocks, from a multiple of 512 on, by taking the memory of their summaries: none is copied. The memory of what was
-    /// kept goes to who gave them, with whatever lay there. Takes no memory.
+    /// Keeps summaries of their nodes' touched numbers for 512 blocks, from a multiple of 512 on, by taking the memory of these summaries: none
+    /// is copied. The memory of the rows that they replace goes to the caller, with whatever was in it. Takes no memory.
     pub fn adopt_blocks(&mut self, first: u32, summaries: &mut Vec<S>)
         requires whole { length summaries.old.items ≡ 512 }
         requires aligned { first % 512 ≡ 0 }
@@ -261,7 +261,7 @@ fn reserve_levels<S: Copy>(levels: &mut Levels<Level<S>>, rows: &Levels<u32>) ->
     Ok(())
 }
 
-// Adds blank rows on each level, so that there are so many in all, where there are fewer.
+// Adds blank rows on each level, so that there are so many in all, if there are fewer.
 fn fill_levels<S: Copy>(levels: &mut Levels<Level<S>>, rows: &Levels<u32>)
     requires { HaveRoom levels.old rows.now }
     ensures { AreFilled levels.old levels.new rows.now }

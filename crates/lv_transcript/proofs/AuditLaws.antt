@@ -1,4 +1,4 @@
--- An audit says yes exactly to sound transcripts, and tells exactly the fronts, with what they count.
+-- An audit says yes to sound transcripts and to nothing else, and recognises the prefixes and nothing else, with their counts.
 use Rattle.std.proofs.Common.{◌≡◌, ◌≢◌, ◌↔◌, ℕ, ◌+◌, ◌-◌, ◌^◌, ◌<◌, ◌≤◌, Bool, true, false, List, [], ◌∷◌, ◌++◌, length, take, map, All, Option, None, Result, Ok, Err, MatchResult, refl, sym, ap, ◌∙◌, subst, inl, inr, arith, append-nil, true≢false}
 use Rattle.std.specs.Io.KnownBytes.{Appends, IsAtEnd}
 use Rattle.std.proofs.KnownBytes.{Appends-nil}
@@ -60,7 +60,7 @@ yes_at_end stages.AnswersFollow lines verdict told = (λ is. absurd (cc is), (λ
 yes_at_end NoMemory lines verdict told = absurd told
 
 module _ (seen text : List ℕ) (new : CountedState) (a : Answered CountedStep (counted_start false) 1 (map (take 121) (lines_of seen)) text new) where
-  -- what an audit saw, where it comes to the end, is a sound transcript
+  -- what an audit saw, if it comes to the end, is a sound transcript
   sound_at_end : new.audit.stage ≡ End → IsSoundTranscript seen
   sound_at_end end =
       let lines = map (take 121) (lines_of seen) in
@@ -94,7 +94,7 @@ module _ (seen text : List ℕ) (new : CountedState) (a : Answered CountedStep (
         | inr none ↦ absurd (memory none)
       ]
 
-  -- a fault of a whole transcript is told without a heading
+  -- a fault of a whole transcript does not depend on a heading
   false_without_heading : (n : ℕ) → IsFalseAt false new.audit.heading (lines_of seen) n new.audit.journal → IsFalseAt false None (lines_of seen) n new.audit.journal
   false_without_heading n at = subst (λ (h : Option LogHeading). IsFalseAt false h (lines_of seen) n new.audit.journal) (no_heading new.audit.heading at.sound.begins) at
 
@@ -105,7 +105,7 @@ module _ (seen text : List ℕ) (new : CountedState) (a : Answered CountedStep (
   found_at : (stage : Stage) → new.audit.stage ≡ stage → is_fault stage ≡ true → IsFound (start_state false) 1 (map (take 121) (lines_of seen)) new.audit
   found_at stage at fault = fault_found (counted_start false) 1 (map (take 121) (lines_of seen)) text new a refl (ap is_fault at ∙ fault)
 
-  -- the line that is missing where it has come to no end
+  -- the line that is missing if it has come to no end
   missing : (stage : Stage) (verdict : Verdict) → new.audit.stage ≡ stage → is_stopped stage ≡ false → stage ≢ End → IsNotTooLong seen
       → (n : ℕ) × (verdict ≡ Bad n) × (new.lines + 1 < 2 ^ 32 → n ≡ new.lines + 1) → NamesRight seen verdict
   missing stage verdict at goes_on other few told =
@@ -129,9 +129,9 @@ module _ (seen text : List ℕ) (new : CountedState) (a : Answered CountedStep (
       let yes = yes_at_end new.audit.stage new.lines verdict told in
       ((λ is. sound_at_end (yes.1.0 is), λ sound. yes.1.1 (ends_on_sound yes.0 sound)), names_right new.audit.stage verdict refl few told)
 
--- ---- fronts
+-- ---- prefixes
 
--- a front with so many edits and answers is told of these entries
+-- a verdict says that a prefix has so many updates and answers, and these entries have as many
 record IsTold (entries : List Entry) (verdict : FrontVerdict) : Type 0 where
   edits : ℕ
   answers : ℕ
@@ -139,12 +139,12 @@ record IsTold (entries : List Entry) (verdict : FrontVerdict) : Type 0 where
   edits_are : edits ≡ length (edits_in entries)
   answers_are : answers ≡ length (answers_in entries)
 
--- what is told where more may come
+-- the verdict at a stage that more lines may follow
 counts_at : (stage : Stage) (elements n edits : ℕ) (verdict : FrontVerdict) → MayEnd stage → IsFoundAt stage elements n edits verdict → IsToldOf elements n edits (n - 1) verdict
 counts_at stage elements n edits verdict (inl at) told = subst (λ (s : Stage). IsFoundAt s elements n edits verdict) at told
 counts_at stage elements n edits verdict (inr at) told = subst (λ (s : Stage). IsFoundAt s elements n edits verdict) at told
 
--- where no line was taken, nothing is told
+-- if no line was taken, the verdict counts no entries
 told_of_none : (new : AuditState) (n : ℕ) (verdict : FrontVerdict) → new.stage ≡ stages.Start → IsFoundAt new.stage (elements_of new.heading) n (length new.journal) verdict → IsTold [] verdict
 told_of_none new n verdict at told = record {
   edits = 0;
@@ -154,7 +154,7 @@ told_of_none new n verdict at told = record {
   answers_are = refl;
 }
 
--- of lines behind which others may come the edits and the answers are told
+-- the verdict on lines that others may follow counts their updates and answers
 told_of_some : (entries : List Entry) (lines : List (List ℕ)) (heading : Option LogHeading) (journal : List Edit) (n : ℕ) (verdict : FrontVerdict) → lines ≡ heading_line heading ∷ map entry_line entries → journal ≡ edits_in entries
     → n ≡ length lines → verdict ≡ verdicts.Front (length journal) (n - 1 - length journal) → IsTold entries verdict
 told_of_some entries lines heading journal n verdict are journal_is count is =
@@ -162,7 +162,7 @@ told_of_some entries lines heading journal n verdict are journal_is count is =
     let long : length lines ≡ 1 + length entries = omega (arith, ap length are, length-map entries entry_line) in
     record { edits = length journal; answers = n - 1 - length journal; is = is; edits_are = all; answers_are = omega (arith, count, long, all, entries_counted entries) }
 
--- and so they are behind the last
+-- and so they are after the last
 told_of_all : (entries : List Entry) (lines : List (List ℕ)) (journal : List Edit) (n : ℕ) (verdict : FrontVerdict) → lines ≡ all_lines None entries → journal ≡ edits_in entries
     → n ≡ length lines → verdict ≡ verdicts.Front (length journal) (n - 2 - length journal) → IsTold entries verdict
 told_of_all entries lines journal n verdict are journal_is count is =
@@ -181,7 +181,7 @@ told_of_all entries lines journal n verdict are journal_is count is =
 abbrev pub Finds : Option LogHeading → List ℕ → List Edit → ℕ → FrontVerdict → Type 0
 Finds heading seen journal whole verdict = (r : IsRightOfFront heading seen journal verdict) × IsRightWhole heading seen journal whole verdict r
 
--- so the verdict on a front is right
+-- so the verdict on a prefix is right
 told_right : (heading : Option LogHeading) (seen : List ℕ) (journal : List Edit) (entries : List Entry) (whole : ℕ) (verdict : FrontVerdict) → IsTold entries verdict → IsToldBy (whole_lines_of seen) heading
     → IsWholeFront heading seen entries → journal ≡ edits_in entries → IsWholeUpTo heading seen entries whole → Finds heading seen journal whole verdict
 told_right heading seen journal entries whole verdict is told front journal_is bytes =
@@ -199,7 +199,7 @@ told_right heading seen journal entries whole verdict is told front journal_is b
     subst (Finds heading seen journal whole) (sym is.is) (found, bytes)
 
 module _ (seen text : List ℕ) (new : CountedState) (a : Answered CountedStep (counted_start true) 1 (map (take 121) (whole_lines_of seen)) text new) where
-  -- where a fault was found, the bytes are no front
+  -- if a fault was found, the bytes are no prefix
   no_front : is_fault new.audit.stage ≡ true → IsNoFront seen
   no_front faulty = λ heading entries front.
       let lines = whole_lines_of seen in
@@ -227,7 +227,7 @@ module _ (seen text : List ℕ) (new : CountedState) (a : Answered CountedStep (
     lines_counted : new.lines ≡ length (whole_lines_of seen)
     lines_counted = omega (arith, counted (counted_start true) 1 (whole_lines_of seen) text new answered_whole refl)
 
-    -- they are a front, where no element is missing
+    -- they are a prefix, if no element is missing
     found_whole : (t : AreTaken true new.audit (whole_lines_of seen)) → IsTold t.entries verdict → elements_of new.audit.heading ≤ length t.entries → IsWholeUpTo new.audit.heading seen t.entries new.whole
         → Finds new.audit.heading seen new.audit.journal new.whole verdict
     found_whole t is enough bytes =
@@ -243,7 +243,7 @@ module _ (seen text : List ℕ) (new : CountedState) (a : Answered CountedStep (
         subst (Finds new.audit.heading seen new.audit.journal new.whole) (sym is)
         (((λ heading others front. no_whole_front new.audit lines t at short heading others front.front.lines front.front.all_true front.elements), element_missing new.audit lines n t named short), tt)
 
-    -- where more may come
+    -- if more may come
     found_going : (t : AreTaken true new.audit (whole_lines_of seen)) → new.audit.stage ≡ stage_after stages.Edits t.entries → whole_lines_of seen ≡ heading_line new.audit.heading ∷ map entry_line t.entries
         → Finds new.audit.heading seen new.audit.journal new.whole verdict
     found_going t at are =
@@ -258,7 +258,7 @@ module _ (seen text : List ℕ) (new : CountedState) (a : Answered CountedStep (
           | inr missing ↦ found_short t missing.1.0 may missing.0 missing.1.1 missing.1.2
         ]
 
-    -- behind the last line
+    -- after the last line
     found_ended : (t : AreTaken true new.audit (whole_lines_of seen)) → new.audit.stage ≡ End → whole_lines_of seen ≡ all_lines new.audit.heading t.entries → new.audit.heading ≡ None
         → Finds new.audit.heading seen new.audit.journal new.whole verdict
     found_ended t at are none =
@@ -271,7 +271,7 @@ module _ (seen text : List ℕ) (new : CountedState) (a : Answered CountedStep (
         (subst (λ (h : Option LogHeading). IsWholeUpTo h seen t.entries new.whole) (sym none)
         (counted_whole (counted_start true) None seen text t.entries (end_line ∷ []) new refl whole answered_whole going at (omega (arith, few))))
 
-    -- where no line is there
+    -- if no line is there
     found_empty : (t : AreTaken true new.audit (whole_lines_of seen)) → new.audit.stage ≡ stages.Start → whole_lines_of seen ≡ [] → t.entries ≡ [] → new.audit.heading ≡ None
         → Finds new.audit.heading seen new.audit.journal new.whole verdict
     found_empty t at are entries none =
@@ -339,7 +339,7 @@ module _ {remaining rest before after : Option (List ℕ)} (old : CountedState) 
   }
   read_transcript x new (Err f) start c told = rw told record { seen = c.seen; read = c.read; few = c.few; ends = tt }
 
-  -- a front was
+  -- a prefix was
   pub read_front : (T : Type 0) (most : ℕ) (mixed : Bool) (heading : Option LogHeading) (stage : Stage) (edits : History) (last lines whole : ℕ) (result : Result FoundFront Fault) → old ≡ counted_start true
       → most ≤ 4294967293
       → LinesServedWithin CountedStep {T = T} most old (counted_at mixed heading stage edits last lines whole) remaining rest before after (Err fault.ReadFault) → IsAtEnd rest
@@ -351,7 +351,7 @@ module _ {remaining rest before after : Option (List ℕ)} (old : CountedState) 
   read_front T most mixed heading stage edits last lines whole (Err f) start fits c end told = rw told record { seen = c.seen; read = c.read; few = c.few; ends = tt }
 
 module _ (most : ℕ) {rest : Option (List ℕ)} (remaining known : Option (List ℕ)) (same : remaining ≡ text_of known) where
-  -- what was read of a front is the text of what is known of its reader
+  -- what was read of a prefix is the text of what is known of its reader
   pub as_front : (result : Result FoundFront Fault) → ReadsInput most IsRightFound remaining rest result → ReadsFront most known result
   as_front result r = (rest, subst (λ (k : Option (List ℕ)). ReadsInput most IsRightFound k rest result) same r)
 
@@ -378,12 +378,12 @@ module _ {V : Type 0} (Right : List ℕ → V → Type 0) (text : V → List ℕ
   pub audit_sent : Appends before last held → AuditsInput most Right text remaining rest before last (Ok verdict)
   audit_sent sent = record { seen = r.seen; read = r.read; few = r.few; ends = (r.ends.0, r.ends.1, rw put at sent) }
 
-  -- or no more than a front of it
+  -- or no more than a prefix of it was written
   pub audit_unsent : WritesFront before held last [] → AuditsInput most Right text remaining rest before last (Err fault.WriteFault)
   audit_unsent unsent =
       let put_after : Writes before [] before held (text verdict) = Writes-put before [] held (text verdict) put in
       record { seen = r.seen; read = r.read; few = r.few; ends = inr (verdict, r.ends.0, r.ends.1, rw (append-nil (text verdict)) at (WritesFront-after put_after unsent)) }
 
--- a verdict on a front, without its edits
+-- a verdict on a prefix, without its edits
 pub verdict_alone : {most : ℕ} {remaining rest : Option (List ℕ)} (found : FoundFront) → ReadsInput most IsRightFound remaining rest (Ok found) → ReadsInput most (IsRightVerdict found.heading) remaining rest (Ok found.verdict)
 verdict_alone found r = record { seen = r.seen; read = r.read; few = r.few; ends = (r.ends.0, (found.edits.journal, r.ends.1.right)) }

@@ -19,7 +19,7 @@ use Rattle.lv_transcript.specs.Fronts.{IsFirst, MayBegin, elements_of}
 use Rattle.lv_transcript.specs.Auditing.{AuditState, AnswerLineBecomes, EditBecomes, Becomes, HasLaterForm, IsAnswered, IsFaultOf, IsInPlace, IsLast, IsQuestion, MayCome, MayEdit, MayEnd, Takes, TakesAnswer, TakesEdit, TakesLater, question_of, text_of}
 use Rattle.lv_transcript.proofs.ReadTranscripts.{line_of-edit_line, question_in-text_of}
 
--- a fault is the same where the right forms are
+-- a fault is the same if the right forms are
 fault_same : (n : ℕ) (F G : Type 0) (stage : Stage) → (F → G) → (G → F) → IsFaultOf n F stage → IsFaultOf n G stage
 fault_same n F G (No k) to back fault = (fault.0, to fault.1)
 fault_same n F G (Bad k) to back fault = (fault.0, λ form. fault.1 (back form))
@@ -29,7 +29,7 @@ fault_same n F G Edits to back fault = fault
 fault_same n F G AnswersFollow to back fault = fault
 fault_same n F G End to back fault = fault
 
--- what follows where the right forms, and the lines that may be taken, are the same
+-- what follows if the right forms, and the lines that may be taken, are the same
 pub Becomes-same : (n : ℕ) (old : AuditState) (F G : Type 0) (P Q : AuditState → Type 0) (new : AuditState) → (F → G) → (G → F) → ((next : AuditState) → P next → Q next) → ((next : AuditState) → Q next → P next)
     → Becomes n old F P new → Becomes n old G Q new
 Becomes-same n old F G P Q new form form_back to back (inl taken) = inl (to new taken)
@@ -55,7 +55,7 @@ first_byte line = get_or line 0 0
 begins_with_j : (e : Edit) → first_byte (edit_line e) ≡ 106
 begins_with_j e = refl
 
--- so it is no line that comes after the edits
+-- it is therefore no line that comes after the edits
 pub no_edit_later : (old next : AuditState) (line : List ℕ) (e : Edit) → line ≡ edit_line e → TakesLater old line next → ⊥
 no_edit_later old next line e is (inl t) = eqb-false 106 97 refl (sym (begins_with_j e) ∙ ap first_byte (sym is ∙ t.text))
 no_edit_later old next line e is (inr t) = eqb-false 106 101 refl (sym (begins_with_j e) ∙ ap first_byte (sym is ∙ t.text.1))
@@ -99,7 +99,7 @@ pub same_question : (line first second : List ℕ) (p q : Question) → IsQuesti
 same_question line first second p q fits fits_too is is_too =
     same_Some p q (sym (question_in-text_of p line first fits is) ∙ question_in-text_of q line second fits_too is_too)
 
--- and has one value behind it
+-- and has one value after it
 same_value : (question first second : List ℕ) → question ++ first ≡ question ++ second → first ≡ second
 same_value question first second same =
     sym (drop-append_seam question first) ∙ ap (drop (length question)) same ∙ drop-append_seam question second
@@ -192,7 +192,7 @@ no_form_later old line other none (at, inr last) = other last
 
 -- ---- at their stages
 
--- where an edit may stand, answers and the last line may
+-- at a stage at which an update may come, answers and the last line may come too
 pub may_end_of_edit : (mixed : Bool) (stage : Stage) → MayEdit mixed stage → MayEnd stage
 may_end_of_edit mixed stage (inl at) = inl at
 may_end_of_edit mixed stage (inr at) = inr at.1
@@ -223,7 +223,7 @@ Becomes-unbegun n old line at none =
       ],
     ))
 
--- where edits may stand
+-- a line at a stage at which updates may come
 pub Becomes-at_edits : (n : ℕ) (old new : AuditState) (line : List ℕ) → MayEdit old.mixed old.stage → length line ≤ 120
     → Becomes n old (HasEditForm line ⊎ HasLaterForm old line) (λ next. TakesEdit old line next ⊎ TakesLater old line next) new → Becomes n old (MayCome old line) (Takes old line) new
 Becomes-at_edits n old new line at short =
@@ -234,7 +234,7 @@ Becomes-at_edits n old new line at short =
     (λ next taken. (short, inr taken))
     (λ next taken. elim taken.1 [ inl t ↦ absurd (never t.at) | inr t ↦ t ])
 
--- where answers follow, and no edits do
+-- if answers follow, and no edits do
 pub no_edit_behind : (mixed : Bool) (stage : Stage) → mixed ≡ false → stage ≡ AnswersFollow → MayEdit mixed stage → ⊥
 no_edit_behind mixed stage apart at (inl edits) = absurd (cc (at, edits))
 no_edit_behind mixed stage apart at (inr answers) = true≢false (sym answers.0 ∙ apart)

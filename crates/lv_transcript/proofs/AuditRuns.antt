@@ -81,7 +81,7 @@ runs_same old a b (line ∷ lines) p q =
     let same : q.0 ≡ p.0 = same_way old q.0 p.0 line q.1.1 p.1.1 in
     runs_same p.0 a b lines p.2 (subst (λ (s : AuditState). Runs s lines b) same q.2)
 
--- a run through some lines and others behind them: to the state between
+-- a run through some lines and others after them: to the state between
 pub record RunsBy (old new : AuditState) (front rest : List (List ℕ)) : Type 0 where
   pub mid : AuditState
   pub runs : Runs old front mid
@@ -107,7 +107,7 @@ no_replies old n [] text new a = a.0
 no_replies old n (line ∷ lines) text new a =
     a.5 ∙ ap (λ (xs : List ℕ). xs ++ a.1) a.3.0 ∙ no_replies a.2 (n + 1) lines a.1 new a.4
 
--- an audit that has stopped stays where it is
+-- an audit that has stopped does not change any more
 stays : (old : CountedState) (n : ℕ) (lines : List (List ℕ)) (text : List ℕ) (new : CountedState) → is_stopped old.audit.stage ≡ true → Answered CountedStep old n lines text new → new.audit ≡ old.audit
 unfolding CountedStep
 stays old n [] text new stopped a = ap (λ (s : CountedState). s.audit) a.1
@@ -137,7 +137,7 @@ fault_stops Edits fault = fault
 fault_stops AnswersFollow fault = fault
 fault_stops End fault = fault
 
--- where it has not stopped in the end, the first line was taken
+-- if it has not stopped in the end, the first line was taken
 pub taken_first : (old : CountedState) (n : ℕ) (line : List ℕ) (lines : List (List ℕ)) (text : List ℕ) (new : CountedState) (a : Answered CountedStep old n (line ∷ lines) text new) → is_stopped new.audit.stage ≡ false → Takes old.audit line a.2.audit
 unfolding CountedStep
 taken_first old n line lines text new a goes_on =
@@ -155,7 +155,7 @@ pub all_taken : (old : CountedState) (n : ℕ) (lines : List (List ℕ)) (text :
 all_taken old n [] text new a goes_on = ap (λ (s : CountedState). s.audit) a.1
 all_taken old n (line ∷ lines) text new a goes_on = (a.2.audit, taken_first old n line lines text new a goes_on, all_taken a.2 (n + 1) lines a.1 new a.4 goes_on)
 
--- where all lines can be taken, they are, or there is no memory
+-- if all lines can be taken, they are, or there is no memory
 pub taken_or_none : (old : CountedState) (n : ℕ) (lines : List (List ℕ)) (text : List ℕ) (new : CountedState) (end : AuditState) → Answered CountedStep old n lines text new
     → Runs old.audit lines end → (new.audit ≡ end) ⊎ (new.audit.stage ≡ NoMemory)
 unfolding CountedStep
@@ -199,7 +199,7 @@ found_later old mid n line lines new taken later = record {
   untaken = later.untaken;
 }
 
--- where an audit has come to a fault, it found a line
+-- if an audit has come to a fault, it found a line
 pub fault_found : (old : CountedState) (n : ℕ) (lines : List (List ℕ)) (text : List ℕ) (new : CountedState) → Answered CountedStep old n lines text new → is_fault old.audit.stage ≡ false
     → is_fault new.audit.stage ≡ true → IsFound old.audit n lines new.audit
 unfolding CountedStep

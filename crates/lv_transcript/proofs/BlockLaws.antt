@@ -1,4 +1,4 @@
--- Folds that are kept of a list's blocks stay right where the list changes elsewhere, and folds of parts make that of a range.
+-- Folds that are kept of a list's blocks stay right if the list changes elsewhere, and folds of parts make that of a range.
 use Rattle.std.proofs.Common.{◌≡◌, ◌≢◌, ◌⊎◌, ℕ, ℤ, ◌+◌, ◌*◌, ◌-◌, ◌/◌, ◌^◌, ◌<◌, ◌≤◌, Option, Some, None, List, [], ◌∷◌, ◌++◌, All, length, replicate, take, drop, slice_set, slice_range, slice_index_or, sym, ap, subst, ◌∙◌, refl, inl, inr, arith}
 use Rattle.std.proofs.lemmas.Bool.{cases_eq, cases_lt}
 use Rattle.std.proofs.lemmas.List.{drop-drop, get_or-append_right, get_or-replicate, get_or-set_other, get_or-set_same, get_or-take, get_or_append_left, get_or_past, length-append, length-replicate, length-set, length-take, length_push}
@@ -11,7 +11,7 @@ use Rattle.lv_bodies.specs.FoldLaws.{fold_of-append, fold_of-within}
 use Rattle.lv_edits.proofs.Slices.{length-slice_range, part_of_push, part_of_set, part_of_take}
 use Rattle.lv_transcript.specs.Blocks.{AreFolds, IsFold, block_elements, with_places}
 
--- what is known of a block stands in a place of the list
+-- what is known of a block is at a place of the list
 known_below : {S : Type 0} (folds : List (Option S)) (k : ℕ) (s : S) → slice_index_or folds k None ≡ Some s → k < length folds
 known_below folds k s known =
     elim (cases_lt k (length folds)) [
@@ -19,7 +19,7 @@ known_below folds k s known =
       | inr past ↦ let none = get_or_past folds k None past in absurd (cc)
     ]
 
--- where a place is emptied, nothing is known of its block
+-- if a place is emptied, nothing is known of its block
 known_elsewhere : {S : Type 0} (folds : List (Option S)) (j k : ℕ) (s : S) → slice_index_or (slice_set folds j None) k None ≡ Some s → k ≢ j
 known_elsewhere folds j k s known = λ same.
     let here : slice_index_or (slice_set folds j None) j None ≡ Some s = subst (λ i. slice_index_or (slice_set folds j None) i None ≡ Some s) same known in

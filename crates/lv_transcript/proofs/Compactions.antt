@@ -1,4 +1,4 @@
--- A log of elements has their list, and so it goes on from edits that it has no more.
+-- A log of elements has their list, and so it continues from edits that it has no more.
 use Rattle.std.proofs.Common.{◌≡◌, ℕ, ℤ, ◌+◌, ◌-◌, Some, Option, List, [], ◌∷◌, ◌++◌, length, map, refl, sym, ap, ◌∙◌, arith}
 use Rattle.std.proofs.lemmas.List.{append-nil, append_assoc, length-map}
 use Rattle.lv_edits.specs.declared.edit.Edit.{Edit}
@@ -15,7 +15,7 @@ edits_of_pushes : (elements : List ℤ) → edits_in (pushes_of_elements element
 edits_of_pushes [] = refl
 edits_of_pushes (x ∷ elements) = ap (λ edits. Push x ∷ edits) (edits_of_pushes elements)
 
--- behind legal edits they put their elements behind the list
+-- after legal edits they put their elements after the list
 pushed_behind : (before : List Edit) (elements : List ℤ) → replayed before ≡ Some (list_of before) → list_of (before ++ map Push elements) ≡ list_of before ++ elements
 pushed_behind before [] legal = ap list_of (append-nil before) ∙ sym (append-nil (list_of before))
 pushed_behind before (x ∷ elements) legal =
@@ -33,7 +33,7 @@ list_of_pushes elements =
 length_of_pushes : (elements : List ℤ) → length (edits_in (pushes_of_elements elements)) ≡ length elements
 length_of_pushes elements = ap length (edits_of_pushes elements) ∙ length-map elements Push
 
--- a log of the elements after some edits goes on from these
+-- a log of the elements after some edits continues from these
 pub goes_on : (heading : Option LogHeading) (journal : List Edit) → GoesOnFrom heading journal (compacted heading journal) (pushes_of_elements (list_of journal))
 goes_on heading journal = record {
   same_list = list_of_pushes (list_of journal);

@@ -6,7 +6,7 @@ use Rattle.lv_transcript.specs.declared.log_heading.LogHeading.{LogHeading}
 use Rattle.lv_transcript.specs.Fronts.{AreTrueAfter, Entry, IsPush, IsWholeFront, edits_in}
 use Rattle.lv_transcript.specs.Logs.{IsLogOfEdits, MayGoOn}
 
--- where none was there, a transcript is begun
+-- if none was there, a transcript is begun
 pub no_log_goes_on : MayGoOn None
 no_log_goes_on = record { all_true = tt; elements = omega arith }
 
@@ -20,7 +20,7 @@ edits_true before last [] holds = tt
 edits_true before last (inl e ∷ entries) holds = (holds.0, holds.1, edits_true (before ++ e ∷ []) last entries holds.2)
 edits_true before last (inr answer ∷ entries) holds = edits_true before answer.edit entries holds.2
 
--- the first of them are pushes, where the first entries are
+-- the first of them are pushes, if the first entries are
 record ArePushes (n : ℕ) (entries : List Entry) : Type 0 where
   all : All IsPush (take n entries)
   many : n ≤ length entries

@@ -26,7 +26,7 @@ goes_on_or_ends old new line taken =
       | inr (inr (inr t)) ↦ inr (ap (λ (s : AuditState). s.stage) t.next)
     ]
 
--- where others may follow, its bytes and its LF are counted
+-- if others may follow, its bytes and its LF are counted
 counted_line : (stage : Stage) (old new : ℕ) (line : List ℕ) → MayEnd stage → CountsBytes stage old line new → old + length line + 1 < 2 ^ 64 → new ≡ old + length line + 1
 counted_line stage old new line (inl at) counts = subst (λ (s : Stage). CountsBytes s old line new) at counts
 counted_line stage old new line (inr at) counts = subst (λ (s : Stage). CountsBytes s old line new) at counts
@@ -35,7 +35,7 @@ counted_line stage old new line (inr at) counts = subst (λ (s : Stage). CountsB
 uncounted_line : (stage : Stage) (old new : ℕ) (line : List ℕ) → stage ≡ End → CountsBytes stage old line new → new ≡ old
 uncounted_line stage old new line at counts = subst (λ (s : Stage). CountsBytes s old line new) at counts
 
--- lines end a text: none do behind others, or the last does
+-- lines end a text: none do after others, or the last does
 abbrev pub EndsText : List (List ℕ) → Stage → Type 0
 EndsText [] stage = stage ≢ End
 EndsText (line ∷ []) stage = stage ≡ End
@@ -60,7 +60,7 @@ counted_step : (old mid : CountedState) (n : ℕ) (line text : List ℕ) → Cou
 unfolding CountedStep
 counted_step old mid n line text step at few = counted_line mid.audit.stage old.whole mid.whole line at step.3 few
 
--- behind the last line no text ends
+-- after the last line no text ends
 not_ended_yet : (front tail : List (List ℕ)) (new : AuditState) → new.stage ≡ End → front ++ tail ≡ [] → EndsText tail new.stage → ⊥
 not_ended_yet [] [] new at none ends = ends at
 not_ended_yet [] (line ∷ lines) new at none ends = absurd (cc none)
@@ -104,7 +104,7 @@ whole_up_to heading seen entries tail whole are is some =
       ap (λ (n : ℕ). take n seen) is ∙ ap (take (length text)) all ∙ take_begin text rest,
     )
 
--- so many are counted where all lines were taken
+-- so many are counted if all lines were taken
 pub counted_whole : (old : CountedState) (heading : Option LogHeading) (seen text : List ℕ) (entries : List Entry) (tail : List (List ℕ)) (new : CountedState) → old.whole ≡ 0
     → whole_lines_of seen ≡ (heading_line heading ∷ map entry_line entries) ++ tail → Answered CountedStep old 1 (whole_lines_of seen) text new → is_stopped new.audit.stage ≡ false
     → EndsText tail new.audit.stage → length seen < 2 ^ 64 → IsWholeUpTo heading seen entries new.whole

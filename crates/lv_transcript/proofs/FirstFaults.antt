@@ -17,7 +17,7 @@ use Rattle.lv_transcript.proofs.TranscriptBytes.{IsShort, short_of_first}
 
 -- ---- no transcript goes on otherwise
 
--- behind lines that were taken a line that is not begins no transcript
+-- after lines that were taken a line that is not begins no transcript
 none_begins : (mixed : Bool) (front : List (List ℕ)) (line : List ℕ) (mid : AuditState) → Runs (start_state mixed) front mid → ((next : AuditState) → Takes mid line next → ⊥) → NoneBegins mixed (front ++ line ∷ [])
 none_begins mixed front line mid runs untaken heading entries rest sound is =
     let known = all_lines_taken mixed heading entries sound in
@@ -31,7 +31,7 @@ none_begins mixed front line mid runs untaken heading entries rest sound is =
 whole_line : (line : List ℕ) → length line ≤ 120 → take 121 line ≡ line
 whole_line line short = take_all 121 line (omega (arith, short))
 
--- and so is one of whose first 121 that is known
+-- a line is its first 121 bytes if these are at most 120
 whole_of_cut : (line : List ℕ) → length (take 121 line) ≤ 120 → take 121 line ≡ line
 whole_of_cut line short = take_all 121 line (omega (arith, short, length-take 121 line))
 
@@ -78,7 +78,7 @@ module _ (mixed : Bool) (front : List (List ℕ)) (s : AuditState) (line : List 
         | inr (inr some) ↦ absurd (not_ended s.heading t.entries some.2 (sym there ∙ some.1))
       ]
 
-  -- a line that may come next, and is not taken, has the form of an edit or of an answer behind the entries that were taken
+  -- a line that may come next, and is not taken, has the form of an edit or of an answer after the entries that were taken
   false_form : MayCome s line → ((next : AuditState) → Takes s line next → ⊥) → (front ≡ heading_line s.heading ∷ map entry_line t.entries) × HasEntryForm mixed t.entries line
   false_form (short, inl first) untaken =
       absurd (untaken record s { stage = Edits; heading = first.1.0 } (short, inl record { heading = first.1.0; at = first.0; begins = first.1.1; text = first.1.2; next = refl }))
@@ -91,9 +91,9 @@ module _ (mixed : Bool) (front : List (List ℕ)) (s : AuditState) (line : List 
   false_form (short, inr (inr (at, inr last))) untaken =
       absurd (untaken record s { stage = End } (short, inr (inr (inr record { at = at; text = last; next = refl }))))
 
--- ---- the lines of which a front was looked at
+-- ---- the lines whose first bytes were looked at
 
--- the parts of lines of which each was changed
+-- parts of some lines, where each line was changed
 record IsCutFrom (f : List ℕ → List ℕ) (lines front : List (List ℕ)) (line : List ℕ) : Type 0 where
   pub before : List (List ℕ)
   pub whole : List ℕ
@@ -117,7 +117,7 @@ cut_from f (l ∷ lines) (first ∷ front) line rest is =
       line_is = more.line_is;
     }
 
--- the first fault that an audit found among lines of which it looked at the first 121 bytes
+-- the first fault that an audit found among lines, when it looked at the first 121 bytes of each
 record IsFoundIn (mixed : Bool) (lines : List (List ℕ)) (new : AuditState) (found : IsFound (start_state mixed) 1 (map (take 121) lines) new) : Type 0 where
   line : List ℕ
   rest : List (List ℕ)
@@ -164,7 +164,7 @@ module _ (mixed : Bool) (lines : List (List ℕ)) (n : ℕ) (new : AuditState) (
         none_begins = subst (λ (ls : List (List ℕ)). NoneBegins mixed (ls ++ at.line ∷ [])) form.0 (none_begins mixed found.front at.line found.mid found.runs at.untaken);
       }
 
-  -- a line that is not of a form that may stand there
+  -- a line that is not of a form that may come there
   pub bad_at : new.stage ≡ Bad n → IsBadAt mixed new.heading lines n new.journal
   bad_at at_bad =
       let at = found_in mixed lines new found in
@@ -198,7 +198,7 @@ few_lines : (seen : List ℕ) → IsNotTooLong seen → length (lines_of seen) +
 few_lines seen few =
     omega (arith, few, ap length (lines_of-parts seen), length-append (whole_lines_of seen) (last_line (unended_of seen)), length-whole_lines_of seen, length-last_line (unended_of seen))
 
--- lines of which all were taken, but for the last line
+-- lines that were all taken, but without the last line
 not_all : (new : AuditState) (lines : List (List ℕ)) (t : AreTaken false new lines) → new.stage ≢ End → lines ≢ all_lines new.heading t.entries
 not_all new lines t other is =
     elim t.ends [
@@ -249,7 +249,7 @@ element_missing new lines n t number few = record {
   bad = inr (few_entries true new lines t few);
 }
 
--- and then the lines are those of no front that has all
+-- and then the lines are those of no prefix that has all
 length_of_entry_lines : (heading : Option LogHeading) (entries : List Entry) (lines : List (List ℕ)) → AreEntryLines heading entries lines → length entries ≤ length lines
 length_of_entry_lines heading entries lines (inl same) = omega (arith, ap length same, length-map entries entry_line)
 length_of_entry_lines heading entries lines (inr same) =

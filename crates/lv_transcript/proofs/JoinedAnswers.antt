@@ -30,7 +30,7 @@ by_edit_permutes (answer ∷ answers) = IsPermutation-trans _ _ _ (IsPermutation
 
 -- ---- in order
 
--- an answer before others that are in order, none of which is below it
+-- an answer before others that are in order, if none of them is below it
 order_cons : (answer : Claimed) (answers : List Claimed) → AreFrom answer.edit answers → AreInOrder answers → AreInOrder (answer ∷ answers)
 order_cons answer answers least order =
     IsNonDecreasingBy-insert (λ answer. answer.edit) answers 0 answer order (omega arith) (λ k d below. absurd (omega (arith, below)))
@@ -66,7 +66,7 @@ by_edit_order (answer ∷ answers) = put_order answer (by_edit answers) (by_edit
 
 -- ---- those at one edit
 
--- two answers at different edits, one before the other or behind it
+-- two answers at different edits, one before the other or after it
 swapped : (edit : ℕ) (first answer : Claimed) (others : List Claimed) → first.edit < answer.edit
     → cond (nat_eq first.edit edit) (first ∷ cond (nat_eq answer.edit edit) (answer ∷ others) others) (cond (nat_eq answer.edit edit) (answer ∷ others) others)
     ≡ cond (nat_eq answer.edit edit) (answer ∷ cond (nat_eq first.edit edit) (first ∷ others) others) (cond (nat_eq first.edit edit) (first ∷ others) others)
@@ -79,7 +79,7 @@ swapped edit first answer others less =
       | inr elsewhere ↦ rw elsewhere refl
     ]
 
--- where one is put among others, those at one edit stand as if it were before them all
+-- if one is put among others, those at one version are as if it were before them all
 put_ties : (edit : ℕ) (answer : Claimed) (answers : List Claimed)
     → filter (λ answer. nat_eq answer.edit edit) (put_before answer answers) ≡ filter (λ answer. nat_eq answer.edit edit) (answer ∷ answers)
 put_ties edit answer [] = refl
@@ -109,7 +109,7 @@ put_first answer [] least = refl
 put_first answer (first ∷ rest) least =
     cond-false _ _ _ (le-ltb first.edit answer.edit (All-head (λ (other : Claimed). answer.edit ≤ other.edit) first rest least))
 
--- so does one behind others that are above it
+-- an answer comes first if those before it are above it and those after it are not below it
 least_first : (front : List Claimed) (answer : Claimed) (rest : List Claimed) → AreAbove answer.edit front → AreFrom answer.edit rest
     → by_edit (front ++ answer ∷ rest) ≡ answer ∷ by_edit (front ++ rest)
 least_first [] answer rest above from =
@@ -183,7 +183,7 @@ least_taken index edit lists own new (Some answer) is at takes = least_joined in
 
 -- ---- a list that is taken from its front
 
--- what stands at the front of what is left of a list in order
+-- the first answer that is left of a list in order
 pub begins_there : (answers : List Claimed) (taken : ℕ) (answer : Claimed) → AreInOrder answers → taken < length answers → answer ≡ get_or answers taken answer → BeginsAt answer.edit (drop taken answers)
 begins_there answers taken answer order within at =
     let parts : drop taken answers ≡ answer ∷ drop (suc taken) answers = drop-cons answers taken answer within ∙ ap (λ (first : Claimed). first ∷ drop (suc taken) answers) (sym at) in
@@ -198,12 +198,12 @@ begins_there answers taken answer order within at =
 
 -- ---- one more list
 
--- one that is empty fits behind what was found
+-- one that is empty fits after what was found
 pub empty_fits : (answers : List Claimed) (found : Option (ℕ × ℕ)) → answers ≡ [] → MatchOption found (answers ≡ []) (λ found. AreFrom found.1 answers)
 empty_fits answers None empty = empty
 empty_fits answers (Some found) empty = All-same (λ other. found.1 ≤ other.edit) answers [] empty (All-nil (λ other. found.1 ≤ other.edit))
 
--- so does one that begins no sooner
+-- answers that begin at a version are all from a lower version on
 pub later_fits : (answers : List Claimed) (edit least : ℕ) → BeginsAt edit answers → least ≤ edit → AreFrom least answers
 later_fits answers edit least begins later =
     All-weaker (λ (other : Claimed). edit ≤ other.edit) (λ (other : Claimed). least ≤ other.edit) (λ other from. omega (arith, from, later)) answers begins.least

@@ -1,4 +1,4 @@
--- Folds that are kept by each kind, where one more element is put at the end of the list.
+-- Folds that are kept by each kind, if one more element is put at the end of the list.
 use Rattle.std.proofs.Common.{ℤ, List, [], ◌∷◌, ◌++◌}
 use Rattle.lv_bodies.specs.AffineMaps.{affine_operations}
 use Rattle.lv_bodies.specs.Extremes.{greatest_operations, least_operations}

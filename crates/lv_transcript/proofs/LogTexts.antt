@@ -27,12 +27,12 @@ are_pushes elements zero = All-nil IsPush
 are_pushes [] (suc n) = All-nil IsPush
 are_pushes (x ∷ elements) (suc n) = All-cons IsPush (pushed x) (take n (pushes_of_elements elements)) tt (are_pushes elements n)
 
--- behind pushes that are few a push is accepted
+-- after pushes that are few a push is accepted
 push_accepted : (before : List Edit) (x : ℤ) → length (list_of before) ≡ length before → length before < 1048568 → verdict_of greatest before (Push x) ≡ None
 push_accepted before x same few =
     cond-false _ _ _ (ne_eqb (length before) 16777215 (λ is. omega (arith, is, few))) ∙ cond-false _ _ _ (ne_eqb (length (list_of before)) 1048568 (λ is. omega (arith, is, few, same)))
 
--- so all are true, one behind the other
+-- so all are true, one after the other
 pushes_true : (before : List Edit) (elements : List ℤ) → replayed before ≡ Some (list_of before) → length (list_of before) ≡ length before → length before + length elements ≤ 1048568 → All IsElement elements
     → AreTrueAfter before 0 (pushes_of_elements elements)
 pushes_true before [] legal same few fits = tt

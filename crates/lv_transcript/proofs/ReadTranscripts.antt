@@ -22,7 +22,7 @@ use Rattle.lv_transcript.specs.Auditing.{text_of, bounds_before, heading_before,
 
 -- ---- edits
 
--- behind `j ` the line of an edit is read as the command of that edit
+-- after `j ` the line of an edit is read as the command of that edit
 pub line_of-edit_line : (line rest : List ℕ) (e : Edit) → IsEdit e → rest ≡ drop 2 line → line ≡ edit_line e → line_of rest ≡ Do (command.Edit e)
 line_of-edit_line line rest e fits behind is = ap line_of (behind ∙ ap (drop 2) is) ∙ line_of-printed (command.Edit e) fits
 
@@ -113,7 +113,7 @@ heading_line-injective mixed line (Some a) (Some b) p q first second =
 short_texts : (x y z w : List ℕ) → length x ≤ 10 → length y ≤ 20 → length z ≤ 1 → length w ≤ 20 → length (x ++ y ++ z ++ w) ≤ 120
 short_texts x y z w a b c d = omega (arith, a, b, c, d, length-append (x ++ y ++ z) w, length-append (x ++ y) z, length-append x y)
 
--- and so is the line
+-- the first line of a text is short
 pub heading_line_short : (mixed : Bool) (heading : Option LogHeading) → MayBegin mixed heading → length (heading_line heading) ≤ 120
 heading_line_short mixed None begins = lit≤ tt
 heading_line_short mixed (Some h) begins =

@@ -91,7 +91,7 @@ sealed-length hash count (x ∷ xs) none =
     let rest = sealed_behind (checksum_from hash first) (count + length first) xs in
     omega (arith, one, length-append first rest, sealed-length (checksum_from hash first) (count + length first) xs (tail_ends x xs none))
 
--- a seal has 17 bytes, the first of which is a space
+-- a seal has 17 bytes, and begins with a space
 pub seal-length : (hash : ℕ) → length (seal_by hash) ≡ 17
 unfolding seal_by
 seal-length hash = omega (arith, length-encode_with lower_digits (to_be_bytes w64 hash))
@@ -103,7 +103,7 @@ seal_parts hash = refl
 pub parts_of_seal : (seal : List ℕ) (hash : ℕ) → seal ≡ seal_by hash → seal ≡ 32 ∷ drop 1 seal
 parts_of_seal seal hash is = is ∙ seal_parts hash ∙ ap (λ (s : List ℕ). 32 ∷ drop 1 s) (sym is)
 
--- bytes of a line behind the first ones are as they are
+-- bytes of a line after the first ones are as they are
 pub sealed-piece : (hash count : ℕ) (xs : List ℕ) → has_end xs ≡ false → 8 < count → sealed_behind hash count xs ≡ xs
 unfolding sealed_behind
 sealed-piece hash count [] none behind = refl
@@ -113,7 +113,7 @@ sealed-piece hash count (x ∷ xs) none behind =
     ap (λ (bs : List ℕ). bs ++ sealed_behind (checksum_from hash bs) (count + length bs) xs) first
     ∙ ap (λ (bs : List ℕ). x ∷ bs) (sealed-piece (checksum_from hash (x ∷ [])) (count + 1) xs (tail_ends x xs none) (omega (arith, behind)))
 
--- a text was put, sealed, behind what was held: what is held then, and the checksum and the number of all bytes
+-- a text was put, sealed, after what was held: what is held then, and the checksum and the number of all bytes
 pub record AreSealed (start : List ℕ) (hash count : ℕ) (text held : List ℕ) (hash_now count_now : ℕ) : Type 0 where
   pub items : held ≡ start ++ sealed_behind hash count text
   pub hash_is : hash_now ≡ checksum_from hash (sealed_behind hash count text)
@@ -181,7 +181,7 @@ hash_of_parts hash line text there digits n before last all text_is there_is par
     let same : line ≡ (text ++ 32 ∷ []) ++ digits = whole ∙ sym (append_assoc text (32 ∷ []) digits) in
     all_is ∙ ap (λ (h : ℕ). checksum_from h (10 ∷ [])) (up_to ∙ ap (checksum_from hash) (sym same)) ∙ sym (checksum-append hash line (10 ∷ []))
 
--- what is told of a line that is not rightly sealed, and of one that is
+-- the checksum after a line that is not rightly sealed, and after one that is
 pub told_wrong : (hash : ℕ) (line : List ℕ) → is_sealed hash line ≡ false → None ≡ hash_behind (Some hash) line
 told_wrong hash line wrong = rw wrong refl
 

@@ -1,4 +1,4 @@
--- Of bytes that lie in memory an audit sees all, and what it says of those that it saw it says of them.
+-- An audit of bytes in memory sees all of them, so that its verdict on those that it saw is one on the bytes.
 use Rattle.std.proofs.Common.{◌≡◌, ℕ, ◌<◌, ◌^◌, List, ◌++◌, length, length-append, append-nil, sym, ap, ◌∙◌, subst, arith}
 use Rattle.std.specs.Prelude.{Option, Some, None, Ok, Err}
 use Rattle.std.specs.Io.KnownBytes.{Consumes, IsAtEnd}
@@ -8,12 +8,12 @@ use Rattle.lv_lines.specs.Replies.{IsTooLong}
 use Rattle.lv_transcript.specs.Audits.{AuditsInput, ReadsInput}
 use Rattle.lv_transcript.specs.ReadTexts.{IsUnread, TellsOf, unread_by}
 
--- where nothing is left, all was seen
+-- if nothing is left, all was seen
 seen_all : (text seen : List ℕ) (rest : Option (List ℕ)) → Consumes (Some text) rest seen → IsAtEnd rest → seen ≡ text
 seen_all text seen None read end = elim read [ ]
 seen_all text seen (Some left) read end = sym (read ∙ ap (λ z. seen ++ z) end ∙ append-nil seen)
 
--- where too much was seen, there is too much
+-- if too much was seen, there is too much
 too_long : (text seen : List ℕ) (rest : Option (List ℕ)) → Consumes (Some text) rest seen → IsTooLong seen → 2 ^ 30 < length text
 too_long text seen None read long = elim read [ ]
 too_long text seen (Some left) read long = omega (arith, long, ap length read, length-append seen left)

@@ -63,7 +63,7 @@ carries_of_fits (Reserve n) fits = tt
 carries_of_fits (Swap i j) fits = tt
 carries_of_fits (Truncate n) fits = tt
 
--- one edit more is accepted behind those that are
+-- one edit more is accepted after those that are
 pub accepted_more : (before edits : List Edit) (e : Edit) → AreAcceptedAfter greatest before edits → verdict_of greatest (before ++ edits) e ≡ None → AreAcceptedAfter greatest before (edits ++ e ∷ [])
 accepted_more before [] e accepted free = (subst (λ (js : List Edit). verdict_of greatest js e ≡ None) (append-nil before) free, tt)
 accepted_more before (first ∷ edits) e accepted free =
@@ -156,7 +156,7 @@ pub record IsPlainAnswer (answer : Claimed) : Type 0 where
   pub fits : IsQuestion (question_of answer)
   pub line : IsLine (answer_line answer)
 
--- each true answer is one, where each beginning of the journal is within the limits
+-- each true answer is one, if each beginning of the journal is within the limits
 pub plain_answer : (edits : List Edit) → ((k : ℕ) → IsWithin (take k edits)) → (answer : Claimed) → IsTrueAnswer edits answer → IsPlainAnswer answer
 plain_answer edits beginnings answer holds =
     let all : IsWithin edits = subst (λ (js : List Edit). IsWithin js) (take_all (length edits) edits (omega arith)) (beginnings (length edits)) in

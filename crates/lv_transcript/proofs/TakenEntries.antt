@@ -28,26 +28,26 @@ ComeFrom mixed stage [] = Unit {0}
 ComeFrom mixed stage (inl e ∷ entries) = MayEdit mixed stage × ComeFrom mixed Edits entries
 ComeFrom mixed stage (inr answer ∷ entries) = ComeFrom mixed AnswersFollow entries
 
--- the stage behind them
+-- the stage after them
 abbrev pub stage_after : Stage → List Entry → Stage
 stage_after stage [] = stage
 stage_after stage (inl e ∷ entries) = stage_after Edits entries
 stage_after stage (inr answer ∷ entries) = stage_after AnswersFollow entries
 
--- behind entries the last line may come
+-- after entries the last line may come
 pub may_end_after : (stage : Stage) (entries : List Entry) → MayEnd stage → MayEnd (stage_after stage entries)
 may_end_after stage [] at = at
 may_end_after stage (inl e ∷ entries) at = may_end_after Edits entries (inl refl)
 may_end_after stage (inr answer ∷ entries) at = may_end_after AnswersFollow entries (inr refl)
 
--- where edits and answers are mixed they may come in any order
+-- if edits and answers are mixed they may come in any order
 any_order : (stage : Stage) (entries : List Entry) → MayEnd stage → ComeFrom true stage entries
 any_order stage [] at = tt
 any_order stage (inl e ∷ entries) (inl at) = (inl at, any_order Edits entries (inl refl))
 any_order stage (inl e ∷ entries) (inr at) = (inr (refl, at), any_order Edits entries (inl refl))
 any_order stage (inr answer ∷ entries) at = any_order AnswersFollow entries (inr refl)
 
--- else answers alone follow an answer
+-- otherwise only answers follow an answer
 only_answers : (entries : List Entry) → ComeFrom false AnswersFollow entries → (edits_in entries ≡ []) × (entries ≡ map inr (answers_in entries)) × (stage_after AnswersFollow entries ≡ AnswersFollow)
 only_answers [] come = (refl, refl, refl)
 only_answers (inl e ∷ entries) come = absurd (no_edit_behind false AnswersFollow refl refl come.0)
@@ -67,7 +67,7 @@ ordered_so : (mixed : Bool) (entries : List Entry) → ComeFrom mixed Edits entr
 ordered_so true entries come = tt
 ordered_so false entries come = answers_last entries come
 
--- edits, and answers behind them, may come so
+-- edits, and answers after them, may come so
 come_answers : (stage : Stage) (answers : List Claimed) → ComeFrom false stage (map inr answers)
 come_answers stage [] = tt
 come_answers stage (answer ∷ answers) = come_answers AnswersFollow answers
@@ -80,7 +80,7 @@ come_so : (mixed : Bool) (entries : List Entry) → AreOrdered mixed entries →
 come_so true entries is = any_order Edits entries (inl refl)
 come_so false entries is = subst (λ (es : List Entry). ComeFrom false Edits es) (sym is) (come_in_order (edits_in entries) (answers_in entries))
 
--- an edit may follow entries where it may come at their stage
+-- an edit may follow entries if it may come at their stage
 none_answered : (entries : List Entry) → ComeFrom false Edits entries → stage_after Edits entries ≡ Edits → answers_in entries ≡ []
 none_answered [] come at = refl
 none_answered (inl e ∷ entries) come at = none_answered entries come.1 at
@@ -93,7 +93,7 @@ edit_follows true entries come may = inl refl
 edit_follows false entries come (inl at) = inr (none_answered entries come at)
 edit_follows false entries come (inr at) = absurd (true≢false (sym at.0))
 
--- and it may come where it may follow
+-- and it may come if it may follow
 at_edits : (entries : List Entry) → answers_in entries ≡ [] → stage_after Edits entries ≡ Edits
 at_edits [] none = refl
 at_edits (inl e ∷ entries) none = at_edits entries none
@@ -105,9 +105,9 @@ edit_comes mixed entries (inr none) = inl (at_edits entries none)
 
 -- ---- from lines that are taken to entries
 
--- ---- the entries that stand for elements
+-- ---- the entries that represent elements
 
--- where k of some entries are pushes, the first is one, and so are k - 1 of the others
+-- if the first k of some entries are pushes, the first is one, and the k - 1 after it are pushes too
 first_push : (k : ℕ) (entry : Entry) (entries : List Entry) → 0 < k → All IsPush (take k (entry ∷ entries)) → IsPush entry
 first_push zero entry entries some pushes = absurd (omega arith)
 first_push (suc k) entry entries some pushes = All-head IsPush entry (take k entries) pushes
@@ -134,7 +134,7 @@ no_pushes : (k : ℕ) → All IsPush (take k [])
 no_pushes zero = All-nil IsPush
 no_pushes (suc k) = All-nil IsPush
 
--- where fewer edits are there, there is no answer
+-- if fewer edits are there, there is no answer
 pub only_pushes : (n : ℕ) (entries : List Entry) → All IsPush (take n entries) → length (edits_in entries) < n → length entries ≡ length (edits_in entries)
 only_pushes n [] pushes few = refl
 only_pushes zero (entry ∷ entries) pushes few = absurd (omega (arith, few))
@@ -172,7 +172,7 @@ no_heading (Some h) begins = absurd (true≢false (sym begins.0))
 abbrev pub last_of : ℕ → List Entry → ℕ
 last_of last entries = fold (λ (edit : ℕ) (answer : Claimed). answer.edit) last (answers_in entries)
 
--- lines that are taken behind the first one: those of entries, and perhaps the last
+-- lines that are taken after the first one: those of entries, and perhaps the last
 pub record AreEntries (old new : AuditState) (lines : List (List ℕ)) : Type 0 where
   pub entries : List Entry
   pub ends :
@@ -223,7 +223,7 @@ with_entry old next new line lines entry is rest steps come holds pushes joined 
   heading_is = rest.heading_is ∙ still;
 }
 
--- lines that are taken behind the first are such
+-- lines that are taken after the first are such
 entries_of : (old new : AuditState) (lines : List (List ℕ)) → MayEnd old.stage → Runs old lines new → AreEntries old new lines
 entries_of old new [] at runs = record {
   entries = [];
@@ -285,7 +285,7 @@ pub record AreTaken (mixed : Bool) (new : AuditState) (lines : List (List ℕ)) 
   pub last_is : new.last ≡ last_edit (answers_in entries)
   pub mixed_is : new.mixed ≡ mixed
 
--- the first line, and the others behind it
+-- the first line, and the others after it
 taken_behind : (mixed : Bool) (heading : Option LogHeading) (line : List ℕ) (lines : List (List ℕ)) (new : AuditState) → MayBegin mixed heading → line ≡ heading_line heading
     → AreEntries record { stage = Edits; heading = heading; journal = []; last = 0; mixed = mixed } new lines → AreTaken mixed new (line ∷ lines)
 taken_behind mixed heading line lines new begins text rest =
@@ -335,7 +335,7 @@ taken_from_start mixed new (line ∷ lines) runs =
       | inr (inr (inr t)) ↦ absurd (not_start Start refl t.at)
     ]
 
--- where the last line may come, the lines that were taken are the first and those of entries
+-- if the last line may come, the lines that were taken are the first and those of entries
 pub entries_before : (mixed : Bool) (front : List (List ℕ)) (s : AuditState) (t : AreTaken mixed s front) → MayEnd s.stage → (s.stage ≡ stage_after Edits t.entries) × (front ≡ heading_line s.heading ∷ map entry_line t.entries)
 entries_before mixed front s t at =
     elim t.ends [
@@ -344,7 +344,7 @@ entries_before mixed front s t at =
       | inr (inr some) ↦ absurd (not_end s.stage some.0 at)
     ]
 
--- where the last line was taken, they are all lines
+-- if the last line was taken, they are all lines
 pub all_before : (mixed : Bool) (s : AuditState) (lines : List (List ℕ)) (t : AreTaken mixed s lines) → s.stage ≡ End → lines ≡ all_lines s.heading t.entries
 all_before mixed s lines t end =
     elim t.ends [
@@ -360,7 +360,7 @@ first_of x y xs ys same = ap (λ (ls : List (List ℕ)). get_or ls 0 []) same
 pub rest_of : (x y : List ℕ) (xs ys : List (List ℕ)) → x ∷ xs ≡ y ∷ ys → xs ≡ ys
 rest_of x y xs ys same = ap (λ (ls : List (List ℕ)). drop 1 ls) same
 
--- they are those of a front
+-- they are those of a prefix
 pub front_lines_of : (mixed : Bool) (new : AuditState) (lines : List (List ℕ)) (t : AreTaken mixed new lines) → AreFrontLines new.heading t.entries lines
 front_lines_of mixed new [] t =
     elim t.ends [
@@ -377,7 +377,7 @@ front_lines_of mixed new (line ∷ lines) t =
       | inr (inr some) ↦ (first_of line first lines (shown ++ ending new.heading) some.1, inr (rest_of line first lines (shown ++ ending new.heading) some.1))
     ]
 
--- where there are none, there is no heading
+-- if there are none, there is no heading
 pub told_by_taken : (mixed : Bool) (new : AuditState) (lines : List (List ℕ)) (t : AreTaken mixed new lines) → IsToldBy lines new.heading
 told_by_taken mixed new [] t =
     elim t.ends [
@@ -389,7 +389,7 @@ told_by_taken mixed new (line ∷ lines) t = tt
 
 -- ---- in the order of a transcript
 
--- an answer that is true of some edits is true of them with more behind
+-- an answer that is true of some edits is true of them with more after
 answer_later : (before more : List Edit) (answer : Claimed) → IsTrueAnswer before answer → IsTrueAnswer (before ++ more) answer
 answer_later before more answer holds =
     let same : take answer.edit (before ++ more) ≡ take answer.edit before = take-append-le answer.edit before more holds.edit in
@@ -449,7 +449,7 @@ entries_counted [] = refl
 entries_counted (inl e ∷ entries) = omega (arith, entries_counted entries)
 entries_counted (inr answer ∷ entries) = omega (arith, entries_counted entries)
 
--- and back: edits that are accepted, and true answers that rise behind them, are true in the order of time
+-- and back: edits that are accepted, and true answers that rise after them, are true in the order of time
 true_answers : (before : List Edit) (last : ℕ) (answers : List Claimed) → All (IsTrueAnswer before) answers → RiseFrom last answers → AreTrueAfter before last (map inr answers)
 true_answers before last [] holds rise = tt
 true_answers before last (answer ∷ answers) holds rise =
@@ -499,7 +499,7 @@ pub record RunsToEnd (heading : Option LogHeading) (old : AuditState) (lines : L
 first_taken : (heading : Option LogHeading) (old mid : AuditState) (line : List ℕ) (lines : List (List ℕ)) → Takes old line mid → RunsToEnd heading mid lines → RunsToEnd heading old (line ∷ lines)
 first_taken heading old mid line lines taken rest = record { end = rest.end; runs = (mid, taken, rest.runs); at_end = rest.at_end }
 
--- the last line, where there is one
+-- the last line, if there is one
 last_taken : (mixed : Bool) (heading : Option LogHeading) (stage : Stage) (before : List Edit) (last : ℕ) → MayEnd stage
     → RunsToEnd heading record { stage = stage; heading = heading; journal = before; last = last; mixed = mixed } (ending heading)
 last_taken mixed None stage before last at =
@@ -568,7 +568,7 @@ all_lines_taken mixed heading entries sound =
     (entries_taken mixed heading Edits [] 0 entries (inl refl) (come_so mixed entries sound.ordered) none_before (all_true_of heading entries sound.all_true)
     (subst (λ (n : ℕ). All IsPush (take n entries)) all (pushes_of heading entries sound.all_true)))
 
--- and so are those of a front
+-- the lines of a prefix are the first of all lines of a text
 rest_of_front : (heading : Option LogHeading) (entries : List Entry) (lines : List (List ℕ)) → AreFrontLines heading entries lines → (rest : List (List ℕ)) × (lines ++ rest ≡ all_lines heading entries)
 rest_of_front heading entries [] are = (all_lines heading entries, refl)
 rest_of_front heading entries (line ∷ lines) (is, inl same) =

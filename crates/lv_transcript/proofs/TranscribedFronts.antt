@@ -1,4 +1,4 @@
--- What a transcript writer wrote is a front; of edits, and then answers, it is their transcript.
+-- What a transcript writer wrote is a prefix; of edits, and then answers, it is their transcript.
 use Rattle.std.proofs.Common.{◌≡◌, ℕ, zero, suc, ◌+◌, ◌<◌, Bool, false, true, Option, None, Some, Result, Ok, Err, OnOk, IfErr, List, [], ◌∷◌, ◌++◌, get_or, length, map, take, All, refl, sym, ap, ◌∙◌, subst, inl, inr, arith, append_assoc, append-nil}
 use Rattle.std.proofs.lemmas.List.{map-append, take_more}
 use Rattle.std.proofs.lemmas.List.Elements.{All-nil, All-cons, All-append, All-head, All-tail}
@@ -23,7 +23,7 @@ use Rattle.lv_transcript.proofs.TakenEntries.{AreBefore, all_true_of, all_within
 use Rattle.lv_transcript.proofs.SoundTranscripts.{accepted_fits, line_of_edit, plain_answer}
 use Rattle.lv_transcript.proofs.TranscriptBytes.{IsUnended, unended_printable}
 
--- ---- whole lines of a front of a text
+-- ---- whole lines of a prefix of a text
 
 -- a line and its LF are the first whole line
 whole_lines_of_text : (lines : List (List ℕ)) → All IsUnended lines → whole_lines_of (ended lines) ≡ lines
@@ -33,7 +33,7 @@ whole_lines_of_text (line ∷ lines) none =
     ∙ whole_lines_of-ended line (ended lines) (All-head IsUnended line lines none)
     ∙ ap (λ (ls : List (List ℕ)). line ∷ ls) (whole_lines_of_text lines (All-tail IsUnended line lines none))
 
--- and so are lines before others
+-- and lines before other bytes are the first whole lines
 whole_lines_of_more : (lines : List (List ℕ)) (bytes : List ℕ) → All IsUnended lines → whole_lines_of (ended lines ++ bytes) ≡ lines ++ whole_lines_of bytes
 whole_lines_of_more [] bytes none = refl
 whole_lines_of_more (line ∷ lines) bytes none =
@@ -52,7 +52,7 @@ All-later : (P : List ℕ → Type 0) (xs ys : List (List ℕ)) → All P (xs ++
 All-later P [] ys all = all
 All-later P (x ∷ xs) ys all = All-later P xs ys (All-tail P x (xs ++ ys) all)
 
--- the whole lines of a front of a text are its first lines
+-- the whole lines of a prefix of a text are its first lines
 lines_of_front : (bytes rest : List ℕ) (lines : List (List ℕ)) → All IsUnended lines → bytes ++ rest ≡ ended lines → IsPrefix (whole_lines_of bytes) lines
 lines_of_front bytes rest lines none all =
     (whole_lines_of (unended_of bytes ++ rest), sym (whole_lines_of-append bytes rest) ∙ ap whole_lines_of all ∙ whole_lines_of_text lines none)
@@ -71,7 +71,7 @@ entries_unended before last (inr answer ∷ entries) known holds =
     All-cons IsUnended (answer_line answer) (map entry_line entries) (unended_printable (answer_line answer) plain.line.printable)
     (entries_unended before answer.edit entries known holds.2)
 
--- nor has the last line, where there is one
+-- nor has the last line, if there is one
 ending_unended : (heading : Option LogHeading) → All IsUnended (ending heading)
 ending_unended None = All-cons IsUnended end_line [] refl (All-nil IsUnended)
 ending_unended (Some h) = All-nil IsUnended
@@ -106,7 +106,7 @@ last_lines None line [] p = record { some = []; first = ([], refl); lines_are = 
 last_lines None line (other ∷ lines) p = absurd (omega (arith, ap length p.1))
 last_lines (Some h) line lines p = absurd (cc p.1)
 
--- the first lines of entries, and of the last line behind them, are such
+-- the first lines of entries, and of the last line after them, are such
 first_lines : (heading : Option LogHeading) (entries : List Entry) (lines : List (List ℕ)) → IsPrefix lines (map entry_line entries ++ ending heading) → AreSome heading entries lines
 first_lines heading entries [] p = record { some = []; first = (entries, refl); lines_are = inl refl }
 first_lines heading [] (line ∷ lines) p = last_lines heading line lines p
@@ -114,13 +114,13 @@ first_lines heading (entry ∷ entries) (line ∷ lines) p =
     some_more heading entry entries line lines (first_of line (entry_line entry) (lines ++ p.0) (map entry_line entries ++ ending heading) p.1)
     (first_lines heading entries lines (p.0, rest_of line (entry_line entry) (lines ++ p.0) (map entry_line entries ++ ending heading) p.1))
 
--- a beginning of entries that are true is true
+-- a prefix of entries that are true is true
 true_front : (before : List Edit) (last : ℕ) (some rest : List Entry) → AreTrueAfter before last (some ++ rest) → AreTrueAfter before last some
 true_front before last [] rest holds = tt
 true_front before last (inl e ∷ some) rest holds = (holds.0, holds.1, true_front (before ++ e ∷ []) last some rest holds.2)
 true_front before last (inr answer ∷ some) rest holds = (holds.0, holds.1, true_front before answer.edit some rest holds.2)
 
--- and so is one of entries that a heading may have
+-- a prefix of entries that a heading may have is one that it may have
 true_begin : (heading : Option LogHeading) (some rest : List Entry) → AreTrueOf heading (some ++ rest) → AreTrueOf heading some
 true_begin None some rest holds = true_front [] 0 some rest holds
 true_begin (Some h) some rest holds = record { numbers = holds.numbers; all_true = true_front [] 0 some rest holds.all_true; pushes = fewer_pushes h.elements some rest holds.pushes }
@@ -131,14 +131,14 @@ true_begin (Some h) some rest holds = record { numbers = holds.numbers; all_true
     fewer_pushes (suc n) (entry ∷ some) rest pushes =
         All-cons IsPush entry (take n some) (All-head IsPush entry (take n (some ++ rest)) pushes) (fewer_pushes n some rest (All-tail IsPush entry (take n (some ++ rest)) pushes))
 
--- ---- bytes that are a front
+-- ---- bytes that are a prefix
 
 -- the whole lines of what is there are these
 lines_there : (heading : Option LogHeading) (there : List Entry) (bytes : List ℕ) → All IsUnended (heading_line heading ∷ map entry_line there)
     → whole_lines_of (front_bytes_of heading there ++ bytes) ≡ (heading_line heading ∷ map entry_line there) ++ whole_lines_of bytes
 lines_there heading there bytes none = whole_lines_of_more (heading_line heading ∷ map entry_line there) bytes none
 
--- of bytes that are no more than what a writer adds, behind what was there, the lines are the first of a text
+-- of bytes that are no more than what a writer adds, after what was there, the lines are the first of a text
 front_behind : (heading : Option LogHeading) (there : Option (List Entry)) (bytes rest : List ℕ) (entries : List Entry) → AreTrueOf heading (all_entries there entries)
     → bytes ++ rest ≡ bytes_behind heading there entries ++ ended (ending heading) → (some : List Entry) × IsPrefix some entries × AreFrontLines heading (all_entries there some) (whole_lines_of (bytes_before heading there ++ bytes))
 front_behind heading None bytes rest entries holds all =
@@ -172,18 +172,18 @@ front_behind heading (Some there) bytes rest entries holds all =
         ap (λ (ls : List (List ℕ)). map entry_line there ++ ls) same ∙ sym (append_assoc (map entry_line there) (map entry_line some) (ending heading))
         ∙ ap (λ (ls : List (List ℕ)). ls ++ ending heading) (sym (map-append entry_line there some)))
 
--- all entries, with more behind
+-- all entries, with more after
 all_entries_more : (there : Option (List Entry)) (some rest : List Entry) → all_entries there (some ++ rest) ≡ all_entries there some ++ rest
 all_entries_more None some rest = refl
 all_entries_more (Some before) some rest = sym (append_assoc before some rest)
 
--- the last line stands behind the others
+-- the last line is after the others
 whole_bytes_parts : (entries : List Entry) → whole_bytes entries ≡ front_bytes entries ++ (end_line ++ 10 ∷ [])
 whole_bytes_parts entries =
     flat_map-append (λ (line : List ℕ). line ++ 10 ∷ []) (first_line ∷ map entry_line entries) (end_line ∷ [])
     ∙ ap (λ (bs : List ℕ). front_bytes entries ++ bs) (append-nil (end_line ++ 10 ∷ []))
 
--- one entry more stands behind the others
+-- one entry more is after the others
 lines_more : (lines : List (List ℕ)) (entries : List Entry) (entry : Entry) → ended (lines ++ map entry_line (entries ++ entry ∷ [])) ≡ ended (lines ++ map entry_line entries) ++ (entry_line entry ++ 10 ∷ [])
 lines_more lines entries entry =
     let all : lines ++ map entry_line (entries ++ entry ∷ []) ≡ (lines ++ map entry_line entries) ++ entry_line entry ∷ [] =
@@ -195,7 +195,7 @@ bytes_more : (heading : Option LogHeading) (there : Option (List Entry)) (entrie
 bytes_more heading None entries entry = lines_more (heading_line heading ∷ []) entries entry
 bytes_more heading (Some before) entries entry = lines_more [] entries entry
 
--- what was written of a text, or of it and the last line, is a front
+-- what was written of a text, or of it and the last line, is a prefix
 got_front : (heading : Option LogHeading) (there : Option (List Entry)) (start contents : Option (List ℕ)) (entries : List Entry) → WritesFront start [] contents (bytes_behind heading there entries ++ ended (ending heading)) → AreTrueOf heading (all_entries there entries)
     → GotFrontOf heading there start contents entries
 got_front heading there start contents entries w holds =
@@ -215,18 +215,18 @@ got_whole_front start contents entries w holds =
     let parts : whole_bytes entries ≡ front_bytes entries ++ ended (end_line ∷ []) = flat_map-append (λ (line : List ℕ). line ++ 10 ∷ []) (first_line ∷ map entry_line entries) (end_line ∷ []) in
     got_front None None start contents entries (subst (WritesFront start [] contents) parts w) holds
 
--- a front of the text of entries is one of the text with the last line
+-- a prefix of the text of entries is one of the text with the last line
 front_of_whole : (start contents : Option (List ℕ)) (entries : List Entry) → WritesFront start [] contents (front_bytes entries) → WritesFront start [] contents (whole_bytes entries)
 front_of_whole start contents entries w = rw (whole_bytes_parts entries) (WritesFront-longer (end_line ++ 10 ∷ []) w)
 
--- the whole text is a front with all entries
+-- the whole text is a prefix with all entries
 whole_front : (entries : List Entry) → AreTrueAfter [] 0 entries → IsFront (whole_bytes entries) entries
 whole_front entries holds = record {
   lines = subst (AreFrontLines None entries) (sym (whole_lines_of_text (all_lines None entries) (whole_unended None entries holds))) (refl, inr refl);
   all_true = holds;
 }
 
--- and so is that without the last line
+-- the text of entries without the last line is a prefix with these entries
 pub entry_lines_front : (heading : Option LogHeading) (entries : List Entry) → AreTrueOf heading entries → IsFrontOf heading (front_bytes_of heading entries) entries
 entry_lines_front heading entries holds =
     let lines = heading_line heading ∷ map entry_line entries in
@@ -235,7 +235,7 @@ entry_lines_front heading entries holds =
 
 -- ---- what a transcript writer does
 
--- what was written is a front of the text, whether a write has failed or not
+-- what was written is a prefix of the text, whether a write has failed or not
 pub front_written : (failed : Bool) (start contents : Option (List ℕ)) (held text : List ℕ) → WroteOrHolds failed start contents held text → WritesFront start [] contents text
 front_written false start contents held text w = record { unsent = held; written = w }
 front_written true start contents held text w = w
@@ -248,7 +248,7 @@ was_given heading there start entries contents held failed text = record {
   front = got_front heading there start contents entries (WritesFront-longer (ended (ending heading)) (front_written failed start contents held (bytes_behind heading there entries) text));
 }
 
--- nothing but the first line is held, or nothing where the writer goes on
+-- nothing but the first line is held, or nothing if the writer goes on
 pub unused : (heading : Option LogHeading) (there : Option (List Entry)) (start : Option (List ℕ)) (held : List ℕ) → held ≡ bytes_behind heading there [] → WasGivenOf heading there start [] record { contents = start; held = held; failed = false }
 unused heading there start held is = was_given heading there start [] start held false (Writes-put start [] held (bytes_behind heading there []) is)
 
@@ -285,7 +285,7 @@ adds_missed entry s failed = λ heading there start entries taken.
 pub adds_nothing : (s : WritingState) → Adds s [] s
 adds_nothing s heading there start entries taken = rw (append-nil entries) taken
 
--- entries, and others behind them
+-- entries, and others after them
 pub adds_both : (old mid new : WritingState) (first second : List Entry) → Adds old first mid → Adds mid second new → Adds old (first ++ second) new
 adds_both old mid new first second one two heading there start entries taken =
     subst (λ (es : List Entry). WasGivenOf heading there start es new) (append_assoc entries first second) (two heading there start (entries ++ first) (one heading there start entries taken))
@@ -296,7 +296,7 @@ adds_next f xs i d old mid new there first one =
     subst (λ (es : List Entry). Adds old es new) (sym (ap (map f) (take_more xs i d there) ∙ map-append f (take i xs) (get_or xs i d ∷ [])))
     (adds_both old mid new (map f (take i xs)) (f (get_or xs i d) ∷ []) first one)
 
--- one more behind those that were given
+-- one more after those that were given
 pub adds_after : {X : Type 0} (f : X → Entry) (done : List X) (x : X) (old mid new : WritingState) → Adds old (map f done) mid → Adds mid (f x ∷ []) new → Adds old (map f (done ++ x ∷ [])) new
 adds_after f done x old mid new first one =
     subst (λ (es : List Entry). Adds old es new) (sym (map-append f done (x ∷ []))) (adds_both old mid new (map f done) (f x ∷ []) first one)
@@ -322,7 +322,7 @@ module _ (start : Option (List ℕ)) (entries : List Entry) (s : WritingState) (
   pub whole_missed : (fault : Fault) → EndsWhole start s.contents entries (Err fault)
   whole_missed fault = (front_of_whole start s.contents entries (front_written s.failed start s.contents s.held (front_bytes entries) was.text), was.front)
 
--- what became of the last line, where no write had failed before
+-- what became of the last line, if no write had failed before
 pub whole_ends : (start : Option (List ℕ)) (entries : List Entry) (s : WritingState) → WasGiven start entries s → (contents : Option (List ℕ)) (held : List ℕ) (result : Result Unit Fault) → s.failed ≡ false
     → OnOk result ((held ≡ []) × Writes s.contents s.held contents held (end_line ++ 10 ∷ []))
     → IfErr result (λ fault. (fault ≡ WriteFault) × WritesFront s.contents s.held contents (end_line ++ 10 ∷ []))
@@ -337,7 +337,7 @@ last_sent a b c old mid last left text (Ok x) room put sent =
     (sent.0, rw (append-nil text) at (Writes-trans (Writes-trans room (Writes-put b mid last text put)) (Writes-sent b c last left sent)))
 last_sent a b c old mid last left text (Err fault) room put sent = tt
 
--- or no more than a front of it
+-- or no more than a prefix of it
 pub last_unsent : {T : Type 0} (a b c : Option (List ℕ)) (old mid last text : List ℕ) (result : Result T Fault) → Writes a old b mid [] → last ≡ mid ++ text
     → IfErr result (λ fault. (fault ≡ WriteFault) × WritesFront b last c []) → IfErr result (λ fault. (fault ≡ WriteFault) × WritesFront a old c text)
 last_unsent a b c old mid last text (Ok x) room put unsent = tt

@@ -15,7 +15,7 @@ use Rattle.lv_transcript.specs.Transcript.{ended}
 abbrev pub IsUnended : List ℕ → Type 0
 IsUnended line = has_end line ≡ false
 
--- where no byte is below the space, none is LF
+-- if no byte is below the space, none is LF
 pub unended_printable : (line : List ℕ) → All IsPrintable line → IsUnended line
 unended_printable [] printable = refl
 unended_printable (b ∷ bs) printable =
@@ -96,7 +96,7 @@ some_whole (b ∷ bs) some none =
     none_before b [] is = refl
     none_before b (line ∷ lines) is = absurd (cc is)
 
--- bytes are their whole lines, and what stands behind the last LF
+-- bytes are their whole lines, and then the bytes after the last LF
 pub whole_parts : (bytes : List ℕ) → bytes ≡ ended (whole_lines_of bytes) ++ unended_of bytes
 whole_parts [] = refl
 whole_parts (b ∷ bs) =
@@ -120,7 +120,7 @@ pub first_of_short : (lines : List (List ℕ)) → All IsShort lines → map (ta
 first_of_short lines short =
     map_fixed (take 121) lines (All-weaker IsShort (λ line. take 121 line ≡ line) (λ line few. take_all 121 line (omega (arith, few))) lines short)
 
--- and lines are short where their first 121 bytes are
+-- and lines are short if their first 121 bytes are
 pub short_of_first : (lines : List (List ℕ)) → All IsShort (map (take 121) lines) → map (take 121) lines ≡ lines
 short_of_first [] short = refl
 short_of_first (line ∷ lines) short =

@@ -16,11 +16,11 @@ use Rattle.lv_transcript.specs.Unsealing.{Takes, text_after, text_to_come}
 use Rattle.lv_transcript.specs.declared.unsealer.Form.{Form}
 use Rattle.lv_transcript.specs.declared.unsealer.Form.TheVariants.{Plain, Sealed, Unknown}
 
--- what the lines of a file, and what stands behind them, are in the text
+-- the text of the lines of a file and of the bytes after them
 abbrev text_of_lines : Option ℕ → List (List ℕ) → List ℕ → List ℕ
 text_of_lines hash lines rest = ended (lines_in hash lines) ++ last_in (hash_of_lines hash lines) rest
 
--- a line, and what comes behind it
+-- a line, and what comes after it
 pub line_first : (hash : Option ℕ) (line bytes : List ℕ) → has_end line ≡ false
     → text_behind hash (line ++ 10 ∷ bytes) ≡ (line_in hash (take 138 line) ++ 10 ∷ []) ++ text_behind (hash_behind hash (take 138 line)) bytes
 unfolding text_behind
@@ -67,7 +67,7 @@ seal_tells : (hash : ℕ) (line : List ℕ) → is_sealed hash line ≡ true →
 unfolding is_sealed
 seal_tells hash line right = leb-true 17 (length line) (and_parts _ _ right).0
 
--- a line behind which there is a checksum
+-- a line after which there is a checksum
 pub told_sealed : (hash : Option ℕ) (line : List ℕ) (behind : ℕ) → Some behind ≡ hash_behind hash line → (17 ≤ length line) × (line_in hash line ≡ in_version_2 (take (length line - 17) line))
 told_sealed None line behind is = absurd (cc is)
 told_sealed (Some hash) line behind is = of (is_sealed hash line) refl is
@@ -76,7 +76,7 @@ told_sealed (Some hash) line behind is = of (is_sealed hash line) refl is
     of true right is = (seal_tells hash line right, rw right refl)
     of false right is = absurd (cc is)
 
--- and one behind which there is none
+-- and one after which there is none
 pub told_unsealed : (hash : Option ℕ) (line : List ℕ) → None ≡ hash_behind hash line → line_in hash line ≡ []
 told_unsealed None line is = refl
 told_unsealed (Some hash) line is = of (is_sealed hash line) refl is
@@ -103,7 +103,7 @@ pub version_kept : (line : List ℕ) → is_version_3 line ≡ false → in_vers
 unfolding in_version_2
 version_kept line tested = rw tested refl
 
--- it is told by ten bytes
+-- ten bytes decide whether a file is of version 3
 pub told_by_ten : (bytes more : List ℕ) → 10 ≤ length bytes → is_version_3 (bytes ++ more) ≡ is_version_3 bytes
 unfolding is_version_3
 told_by_ten bytes more long = ap (λ (bs : List ℕ). bytes_eq bs (codes "livevec 3 ")) (take-append-le 10 bytes more long)
@@ -158,7 +158,7 @@ unfolding text_behind
 nothing_behind None = refl
 nothing_behind (Some hash) = refl
 
--- of a line that was begun nothing is told but that it is wrong
+-- the text of an unended line at the end is nothing, or a wrong line
 pub ended_file : (hash : Option ℕ) (kept : List ℕ) → has_end kept ≡ false → length kept ≤ 138 → text_behind hash (kept ++ []) ≡ last_in hash kept
 unfolding text_behind
 ended_file hash kept begun short =
@@ -192,7 +192,7 @@ ended_keeps old new None after read end same = tt
 ended_keeps old new (Some xs) None read end same = absurd read
 ended_keeps old new (Some xs) (Some ys) read end same = ap new end ∙ same ∙ ap old (sym (read ∙ end))
 
--- where nothing waits then, nothing is left
+-- if nothing waits then, nothing is left
 pub left_none : (new : List ℕ → List ℕ) (after : Option (List ℕ)) → IsAtEnd after → new [] ≡ [] → IsAtEnd (option_map new after)
 left_none new None end none = tt
 left_none new (Some ys) end none = ap new end ∙ none
@@ -202,7 +202,7 @@ pub given_consumes : (after : List ℕ → List ℕ) (old new bytes : List ℕ) 
 given_consumes after old new bytes None is = tt
 given_consumes after old new bytes (Some rest) is = ap (λ (bs : List ℕ). bs ++ after rest) is ∙ append_assoc bytes new (after rest)
 
--- the same text is left
+-- the remaining text is equal
 pub left_same : (old new : List ℕ → List ℕ) → ((bytes : List ℕ) → new bytes ≡ old bytes) → (remaining : Option (List ℕ)) → option_map new remaining ≡ option_map old remaining
 left_same old new same None = refl
 left_same old new same (Some xs) = ap Some (same xs)

@@ -1,4 +1,4 @@
--- How a transcript is audited: what a line is read as, and how far the lines so far lead.
+-- How a transcript is audited: how a line is read, and how far the lines so far lead.
 use Rattle.std.proofs.Common.{inl}
 use Rattle.std.specs.Prelude.{◌≡◌, ◌⊎◌, ℕ, ◌+◌, ◌-◌, ◌^◌, ◌<◌, ◌≤◌, Bool, true, false, List, [], ◌∷◌, ◌++◌, length, take, slice_range, ℤ, Option, Some, None}
 use Rattle.lv_bodies.specs.declared.kinds.Kind.{Kind}
@@ -21,7 +21,7 @@ use Rattle.lv_transcript.specs.declared.fronts.FrontVerdict.TheVariants as front
 use Rattle.lv_transcript.specs.Fronts.{IsFirst, IsPush, MayBegin, elements_of}
 use Rattle.lv_transcript.specs.Transcript.{answer_line, edit_line, greatest, end_line, heading_line, question_text, BeginsAnswer, HasEditForm, IsEdit, IsTrueAnswer}
 
--- ---- a question: what an answer asks
+-- ---- a question: an answer without its value
 
 -- its text
 abbrev pub text_of : Question → List ℕ
@@ -62,7 +62,7 @@ question_before (word ∷ words) = do
   range ← range_before words
   Some record { edit = edit; kind = range.0; lo = range.1; hi = range.2 }
 
--- the question that the words of a line have, behind the first
+-- the question that the words of a line have after the first
 abbrev pub question_in : List (List ℕ) → Option Question
 question_in [] = None
 question_in (word ∷ words) = question_before words
@@ -75,22 +75,22 @@ heading_before (word ∷ words) = do
   elements ← first_number words
   Some record { base = base; elements = elements }
 
--- the heading that the words of a line have, behind the first two
+-- the heading that the words of a line have after the first two
 abbrev pub heading_in : List (List ℕ) → Option LogHeading
 heading_in (first ∷ second ∷ words) = heading_before words
 heading_in words = None
 
--- what an answer asks
+-- the question of an answer
 abbrev pub question_of : Claimed → Question
 question_of answer = record { edit = answer.edit; kind = answer.kind; lo = answer.lo; hi = answer.hi }
 
--- bytes are the right answer to a question, on the list after its edit
+-- bytes are the right answer to a question, for the list at its version
 pub record IsAnswer (xs : List ℤ) (question : Question) (value : List ℕ) : Type 0 where
   pub range : question.lo ≤ question.hi
   pub end : question.hi ≤ length xs
   pub right : value ≡ shown_text (plain_value question.kind (slice_range xs question.lo question.hi))
 
--- a question that comes in order, behind so many edits that stand for elements, of an edit that there is, with the right answer
+-- a question that comes in order, after all updates that represent elements, whose version has been reached, and which has the right answer
 pub record IsAnswered (elements : ℕ) (journal : List Edit) (last : ℕ) (question : Question) (value : List ℕ) : Type 0 where
   pub behind : elements ≤ length journal
   pub order : last ≤ question.edit
@@ -99,8 +99,8 @@ pub record IsAnswered (elements : ℕ) (journal : List Edit) (last : ℕ) (quest
 
 -- ---- how far an audit has come
 
--- what comes next or was found, the heading where the text is a log, the edits so far, the edit of the last answer, and whether edits may come
--- behind answers
+-- what comes next or was found; the heading, if the text is a log; the updates so far; the version of the last answer; and whether updates may
+-- come after answers
 pub record AuditState : Type 0 where
   pub stage : Stage
   pub heading : Option LogHeading
@@ -108,7 +108,7 @@ pub record AuditState : Type 0 where
   pub last : ℕ
   pub mixed : Bool
 
--- the state of an audit that is at a stage, has replayed all edits so far, and has come to the edit of the last answer
+-- the state of an audit that is at a stage, has replayed all updates so far, and whose last answer has this version
 abbrev pub state_of : Bool → Option LogHeading → Stage → History → ℕ → AuditState
 state_of mixed heading stage edits last = record { stage = stage; heading = heading; journal = edits.journal; last = last; mixed = mixed }
 
@@ -116,7 +116,7 @@ state_of mixed heading stage edits last = record { stage = stage; heading = head
 abbrev pub start_state : Bool → AuditState
 start_state mixed = record { stage = stages.Start; heading = None; journal = []; last = 0; mixed = mixed }
 
--- a line is false, or not of the form that may stand there
+-- a line is false, or not of a form that may come there
 abbrev pub is_fault : Stage → Bool
 is_fault (stages.No n) = true
 is_fault (stages.Bad n) = true
@@ -131,15 +131,15 @@ is_stopped stage = is_fault stage
 abbrev pub MayEnd : Stage → Type 0
 MayEnd stage = (stage ≡ stages.Edits) ⊎ (stage ≡ stages.AnswersFollow)
 
--- edits may be followed by edits, and answers where the two are mixed
+-- updates may be followed by updates; answers may too if both may be mixed
 abbrev pub MayEdit : Bool → Stage → Type 0
 MayEdit mixed stage = (stage ≡ stages.Edits) ⊎ ((mixed ≡ true) × (stage ≡ stages.AnswersFollow))
 
--- the edits that stand for elements have come
+-- all updates that represent elements have come
 abbrev pub HasAllElements : AuditState → Type 0
 HasAllElements old = elements_of old.heading ≤ length old.journal
 
--- an edit may come behind these, of which so many stand for elements: such one is a push
+-- an update may come after these: if it is one of the first `elements`, which represent elements, it is a push
 abbrev pub IsInPlace : ℕ → List Edit → Edit → Type 0
 IsInPlace elements journal edit = length journal < elements → IsPush (inl edit)
 
@@ -151,7 +151,7 @@ pub record TakesFirst (old : AuditState) (line : List ℕ) (new : AuditState) : 
   pub text : line ≡ heading_line heading
   pub next : new ≡ record old { stage = stages.Edits; heading = heading }
 
--- the line of an edit is taken, which is accepted after those before it
+-- the line of an update is taken, and the update is accepted after those before it
 pub record TakesEdit (old : AuditState) (line : List ℕ) (new : AuditState) : Type 0 where
   pub edit : Edit
   pub at : MayEdit old.mixed old.stage
@@ -161,7 +161,7 @@ pub record TakesEdit (old : AuditState) (line : List ℕ) (new : AuditState) : T
   pub place : IsInPlace (elements_of old.heading) old.journal edit
   pub next : new ≡ record old { stage = stages.Edits; journal = old.journal ++ edit ∷ [] }
 
--- the line of an answer is taken, which comes in order and is true
+-- the line of an answer is taken; the answer comes in order and is true
 pub record TakesAnswer (old : AuditState) (line : List ℕ) (new : AuditState) : Type 0 where
   pub answer : Claimed
   pub at : MayEnd old.stage
@@ -186,7 +186,7 @@ pub record TakesLast (old : AuditState) (line : List ℕ) (new : AuditState) : T
 abbrev pub TakesLater : AuditState → List ℕ → AuditState → Type 0
 TakesLater old line new = TakesAnswer old line new ⊎ TakesLast old line new
 
--- a line of at most 120 bytes is taken where it may stand
+-- a line of at most 120 bytes is taken, since it may come there
 abbrev pub Takes : AuditState → List ℕ → AuditState → Type 0
 Takes old line new = (length line ≤ 120) × (TakesFirst old line new ⊎ TakesEdit old line new ⊎ TakesLater old line new)
 
@@ -200,32 +200,33 @@ MayCome old line =
     (length line ≤ 120)
     × (((old.stage ≡ stages.Start) × IsFirst old.mixed line) ⊎ (MayEdit old.mixed old.stage × HasEditForm line) ⊎ HasLaterForm old line)
 
--- a fault names the line of this number: as false where it has the right form, and as bad where it doesn't
+-- a fault names the line of this number: as false if it has the right form, and as bad if it doesn't
 abbrev pub IsFaultOf : ℕ → Type 0 → Stage → Type 0
 IsFaultOf number Form (stages.No n) = (n ≡ number) × Form
 IsFaultOf number Form (stages.Bad n) = (n ≡ number) × (Form → ⊥)
 IsFaultOf number Form _ = ⊥
 
--- line n was taken; or it cannot be, and that is found, by its form, behind the edits of a state; or there was no memory
+-- line n was taken; or it cannot be, and this fault was found, by its form, after the updates of a state; or memory ran out
 abbrev pub Becomes : ℕ → AuditState → Type 0 → (AuditState → Type 0) → AuditState → Type 0
 Becomes n old Form Next new =
     Next new
     ⊎ (IsFaultOf n Form new.stage × (new.journal ≡ old.journal) × (new.heading ≡ old.heading) × ((next : AuditState) → Next next → ⊥))
     ⊎ (new.stage ≡ stages.NoMemory)
 
--- line n of an audit: nothing changes once it has stopped
+-- line n of an audit. Nothing changes once the audit has stopped
 abbrev pub Audits : AuditState → ℕ → List ℕ → AuditState → Type 0
 Audits old n line new =
     ((is_stopped old.stage ≡ true) × (new ≡ old)) ⊎ ((is_stopped old.stage ≡ false) × Becomes n old (MayCome old line) (Takes old line) new)
 
--- what became of the edit of line n after those before it, of which so many stand for elements: it was made, or cannot be, or there was no memory
+-- the fate of the update in line n, after those before it, if so many of the first updates represent elements: it was made, it cannot be made, or
+-- memory ran out
 abbrev pub EditBecomes : ℕ → ℕ → List Edit → Edit → Stage → List Edit → Type 0
 EditBecomes number elements old edit stages.Edits new = (verdict_of greatest old edit ≡ None) × IsInPlace elements old edit × (new ≡ old ++ edit ∷ [])
 EditBecomes number elements old edit (stages.No n) new = (n ≡ number) × (new ≡ old) × (verdict_of greatest old edit ≡ None → IsInPlace elements old edit → ⊥)
 EditBecomes number elements old edit stages.NoMemory new = Unit {0}
 EditBecomes number elements old edit _ new = ⊥
 
--- what became of the answer of line n: it is true, or isn't, or comes out of order, or there was no memory
+-- the fate of the answer in line n: it is true, it is not true, it comes out of order, or memory ran out
 abbrev pub AnswerLineBecomes : ℕ → ℕ → List Edit → ℕ → Question → List ℕ → Stage → ℕ → Type 0
 AnswerLineBecomes number elements journal last question value stages.AnswersFollow reached = IsAnswered elements journal last question value × (reached ≡ question.edit)
 AnswerLineBecomes number elements journal last question value (stages.No n) reached =
@@ -234,14 +235,14 @@ AnswerLineBecomes number elements journal last question value (stages.Bad n) rea
 AnswerLineBecomes number elements journal last question value stages.NoMemory reached = Unit {0}
 AnswerLineBecomes number elements journal last question value _ reached = ⊥
 
--- what became of the answer of line n on the list after its edit: it is right, or isn't, or there was no memory
+-- the fate of the answer in line n, given the list at its version: it is right, it is not, or memory ran out
 abbrev pub AnswerBecomes : ℕ → List ℤ → Question → List ℕ → Stage → Type 0
 AnswerBecomes number xs question value stages.AnswersFollow = IsAnswer xs question value
 AnswerBecomes number xs question value (stages.No n) = (n ≡ number) × (IsAnswer xs question value → ⊥)
 AnswerBecomes number xs question value stages.NoMemory = Unit {0}
 AnswerBecomes number xs question value _ = ⊥
 
--- the verdict on a transcript, of an audit that has come to this stage after so many lines: where it hasn't come to the end, the next line is missing
+-- the verdict on a transcript when the audit has come to this stage after so many lines. If it hasn't come to the end, the next line is missing
 abbrev pub IsVerdictAt : Stage → ℕ → Verdict → Type 0
 IsVerdictAt stages.End lines verdict = verdict ≡ verdicts.Yes
 IsVerdictAt (stages.No n) lines verdict = verdict ≡ verdicts.No n
@@ -249,23 +250,23 @@ IsVerdictAt (stages.Bad n) lines verdict = verdict ≡ verdicts.Bad n
 IsVerdictAt stages.NoMemory lines verdict = ⊥
 IsVerdictAt _ lines verdict = (n : ℕ) × (verdict ≡ verdicts.Bad n) × (lines + 1 < 2 ^ 32 → n ≡ lines + 1)
 
--- an audit, how many lines there were, and how many bytes those have that were taken, but for the last line of a transcript
+-- an audit, how many lines there were, and how many bytes the lines have that were taken, except for the last line of a transcript
 pub record CountedState : Type 0 where
   pub audit : AuditState
   pub lines : ℕ
   pub whole : ℕ
 
--- such a state, by an auditor's fields: the number of the last line, and the bytes
+-- such a state in terms of an auditor's fields: the number of the last line, and the bytes
 abbrev pub counted_at : Bool → Option LogHeading → Stage → History → ℕ → ℕ → ℕ → CountedState
 counted_at mixed heading stage edits last lines whole = record { audit = state_of mixed heading stage edits last; lines = lines; whole = whole }
 
--- the bytes behind a line, of a stage: a line and its LF more where others may follow. They are counted up to 64 bits
+-- the bytes after a line, at a stage: those of the line and its LF are added if others may follow. The count is exact while it fits into 64 bits
 abbrev pub CountsBytes : Stage → ℕ → List ℕ → ℕ → Type 0
 CountsBytes stages.Edits old line new = old + length line + 1 < 2 ^ 64 → new ≡ old + length line + 1
 CountsBytes stages.AnswersFollow old line new = old + length line + 1 < 2 ^ 64 → new ≡ old + length line + 1
 CountsBytes stage old line new = new ≡ old
 
--- it answers its lines by nothing, and counts them and their bytes
+-- a line has no reply; the lines and their bytes are counted
 unfoldable pub CountedStep : CountedState → ℕ → List ℕ → List ℕ → CountedState → Type 0
 CountedStep old n line text new =
     (text ≡ []) × (new.lines ≡ n) × Audits old.audit n line new.audit × CountsBytes new.audit.stage old.whole line new.whole
@@ -274,15 +275,15 @@ CountedStep old n line text new =
 abbrev pub counted_start : Bool → CountedState
 counted_start mixed = record { audit = start_state mixed; lines = 0; whole = 0 }
 
--- what is told of a front with so many edits and entries, of whose edits so many stand for elements: their number; or the line behind the last, where an
--- element is missing
+-- the verdict on a prefix with so many updates and entries, if so many of the first updates represent elements: how many updates and answers it
+-- has; or, if an element is missing, the number of the line after the last
 abbrev pub IsToldOf : ℕ → ℕ → ℕ → ℕ → FrontVerdict → Type 0
 IsToldOf elements lines edits entries verdict =
     ((elements ≤ edits) × (verdict ≡ fronts.Front edits (entries - edits)))
     ⊎ ((edits < elements) × ((n : ℕ) × (verdict ≡ fronts.Bad n) × (lines + 1 < 2 ^ 32 → n ≡ lines + 1)))
 
--- the verdict on a front where the audit has come to this stage, after so many lines and edits, of which so many stand for elements: the first line
--- and the last are neither edits nor answers
+-- the verdict on a prefix when the audit has come to this stage, after so many lines and updates, if so many of the first updates represent
+-- elements. The first line and the last are neither updates nor answers
 abbrev pub IsFoundAt : Stage → ℕ → ℕ → ℕ → FrontVerdict → Type 0
 IsFoundAt stages.Start elements lines edits verdict = verdict ≡ fronts.Front 0 0
 IsFoundAt stages.Edits elements lines edits verdict = IsToldOf elements lines edits (lines - 1) verdict

@@ -1,10 +1,10 @@
--- Edits as plain numbers.
+-- Updates as plain numbers.
 use Rattle.std.specs.Prelude.{pos}
 use Rattle.lv_edits.specs.declared.edit.Edit.{Edit}
 use Rattle.lv_edits.specs.declared.edit.Edit.TheVariants.{Push, Pop, Write, Reserve, Swap, Truncate}
 use Rattle.lv_transcript.specs.declared.flat_edits.FlatEdit.{FlatEdit}
 
--- what an edit is, by a number, and its own numbers; 0 stands for those that it hasn't
+-- the sort of an update as a number, and the numbers that it has; those that it doesn't have are 0
 abbrev pub flat_edit : Edit → FlatEdit
 flat_edit (Push x) = record { what = 1; index = 0; second = 0; value = x }
 flat_edit Pop = record { what = 2; index = 0; second = 0; value = pos 0 }

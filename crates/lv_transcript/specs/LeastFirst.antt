@@ -28,6 +28,6 @@ pub record IsLeast (index edit : ℕ) (lists : List (List Claimed)) : Type 0 whe
   pub later : All (AreAbove edit) before
   pub others : All (AreFrom edit) after
 
--- what was found among some lists: the index and the edit of that one, or none where all are empty
+-- the list found among some lists, as its index and its least version, or none if all are empty
 abbrev pub FindsLeast : List (List Claimed) → Option (ℕ × ℕ) → Type 0
 FindsLeast lists found = MatchOption found (All (λ answers. answers ≡ []) lists) (λ found. IsLeast found.0 found.1 lists)

@@ -1,4 +1,4 @@
--- Logs of elements: what a new one has, how it goes on from edits that it has no more, and what one has that is gone on with.
+-- Logs of elements: what a new one has, how it continues from updates that it no longer has, and what a log has that is continued.
 use Rattle.std.proofs.Common.{inl}
 use Rattle.std.specs.Prelude.{◌≡◌, ℕ, ℤ, ◌+◌, ◌-◌, List, [], Option, None, Some, length, map}
 use Rattle.std.specs.Io.KnownBytes.{Appends}
@@ -13,45 +13,45 @@ use Rattle.lv_transcript.specs.Transcribing.{front_bytes_of}
 abbrev pub pushed : ℤ → Entry
 pushed x = inl (Push x)
 
--- the entries that stand for elements
+-- the entries that represent elements
 abbrev pub pushes_of_elements : List ℤ → List Entry
 pushes_of_elements elements = map pushed elements
 
--- the text of a log that has elements, and no edits behind
+-- the text of a log that has elements, and no updates after them
 abbrev pub log_text : LogHeading → List ℤ → List ℕ
 log_text heading elements = front_bytes_of (Some heading) (pushes_of_elements elements)
 
--- a writer has got a log of elements, and nothing behind them, since it had got what a file has that was just made
+-- a writer has received a log of elements, and nothing after them, since it had received what a new file has
 abbrev pub HasLog : Option (List ℕ) → LogHeading → List ℤ → Option (List ℕ) → Type 0
 HasLog made heading elements contents = Appends made contents (log_text heading elements)
 
--- how many edits came before a file with this heading: none before a transcript
+-- how many updates came before a file with this heading; none came before a transcript
 abbrev pub base_of : Option LogHeading → ℕ
 base_of None = 0
 base_of (Some heading) = heading.base
 
--- the number of the last of so many edits of such a file, where those that stand for elements do not count
+-- the number of the last update of such a file, which has so many; those that represent elements do not count
 abbrev pub number_of : Option LogHeading → ℕ → ℕ
 number_of heading edits = base_of heading + (edits - elements_of heading)
 
--- how the log begins that comes behind edits of such a file
+-- the heading of the log that continues after the updates of such a file
 abbrev pub compacted : Option LogHeading → List Edit → LogHeading
 compacted heading journal = record { base = number_of heading (length journal); elements = length (list_of journal) }
 
--- a log with this heading and these entries goes on from edits of a file: the list after it is the list after them, and its last edit has the number of
--- the last of them
+-- a log with this heading and these entries continues from the updates of a file: both lead to the same list, and their last updates have the same
+-- number
 pub record GoesOnFrom (heading : Option LogHeading) (journal : List Edit) (new : LogHeading) (entries : List Entry) : Type 0 where
   pub same_list : list_of (edits_in entries) ≡ list_of journal
   pub same_number : number_of (Some new) (length (edits_in entries)) ≡ number_of heading (length journal)
 
--- ---- where a log begins
+-- ---- how a log begins
 
 -- a log that was there already: its first line, and its entries
 pub record LogThere : Type 0 where
   pub heading : LogHeading
   pub entries : List Entry
 
--- the first line of the file, and the entries that were there, where it goes on behind a log; else it begins a transcript
+-- the heading of the file, and the entries that were there, if it continues a log. If not, it begins a transcript
 abbrev pub heading_of : Option LogThere → Option LogHeading
 heading_of None = None
 heading_of (Some log) = Some log.heading
@@ -64,16 +64,16 @@ abbrev pub entries_there : Option LogThere → List Entry
 entries_there None = []
 entries_there (Some log) = log.entries
 
--- their edits
+-- the updates among those entries
 abbrev pub edits_there : Option LogThere → List Edit
 edits_there log = edits_in (entries_there log)
 
--- what was there is a log that may be gone on with: its entries are true, and none of its elements is missing
+-- what was there is a log that may be continued: its entries are true, and none of its elements is missing
 pub record MayGoOn (log : Option LogThere) : Type 0 where
   pub all_true : AreTrueOf (heading_of log) (entries_there log)
   pub elements : HasElements (heading_of log) (entries_there log)
 
--- a log with this first line and these edits, and without the answers that may stand between them
+-- a log with this first line and these updates. It has none of the answers that may come between updates
 abbrev pub log_of_edits : LogHeading → List Edit → LogThere
 log_of_edits heading edits = record { heading = heading; entries = map inl edits }
 

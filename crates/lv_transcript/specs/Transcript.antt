@@ -26,7 +26,7 @@ use Rattle.lv_transcript.specs.declared.log_heading.LogHeading.{LogHeading}
 abbrev pub first_line : List ℕ
 first_line = codes "livevec 1"
 
--- the line that a log begins with: version 2, how many edits came before the file, and how many of its edits stand for elements
+-- the first line of a log: version 2, how many updates came before the file, and how many of its updates represent elements
 abbrev pub log_line : LogHeading → List ℕ
 log_line heading = codes "livevec 2 " ++ decimal heading.base ++ codes " " ++ decimal heading.elements
 
@@ -35,7 +35,7 @@ pub record IsHeading (heading : LogHeading) : Type 0 where
   pub base : heading.base < 2 ^ 64
   pub elements : heading.elements < 2 ^ 32
 
--- the first line of a log, or of a transcript where there is no heading
+-- the first line of a log, or that of a transcript if there is no heading
 abbrev pub heading_line : Option LogHeading → List ℕ
 heading_line None = first_line
 heading_line (Some heading) = log_line heading
@@ -48,7 +48,7 @@ end_line = codes "end"
 abbrev pub edit_line : Edit → List ℕ
 edit_line e = codes "j " ++ printed_edit e
 
--- what the line of an answer begins with: all but its value
+-- the line of an answer up to its value
 abbrev pub question_text : ℕ → Kind → ℕ → ℕ → List ℕ
 question_text edit kind lo hi =
     codes "a " ++ decimal edit ++ codes " " ++ kind_name kind ++ codes " " ++ decimal lo ++ codes " " ++ decimal hi ++ codes " "
@@ -75,21 +75,21 @@ transcript_text edits answers = ended (transcript_lines edits answers)
 abbrev pub greatest : Bounds
 greatest = record { buckets = 17; edits = 16777215 }
 
--- after the edits before them, these are accepted one after the other
+-- these updates are accepted one after the other, after the updates before them
 abbrev pub AreAcceptedAfter : Bounds → List Edit → List Edit → Type 0
 AreAcceptedAfter limits before [] = Unit {0}
 AreAcceptedAfter limits before (edit ∷ edits) = (verdict_of limits before edit ≡ None) × AreAcceptedAfter limits (before ++ edit ∷ []) edits
 
--- each edit is accepted where it comes
+-- each update is accepted after those before it
 abbrev pub AreAccepted : Bounds → List Edit → Type 0
 AreAccepted limits edits = AreAcceptedAfter limits [] edits
 
--- answers in rising order of their edits, equal ones allowed
+-- answers whose versions (update numbers) do not fall
 abbrev pub AreInOrder : List Claimed → Type 0
 AreInOrder answers = IsNonDecreasingBy (λ answer. answer.edit) answers
 
--- an answer is true of a journal: its edit is at most the number of edits (0 stands for before the first), its range lies in the list
--- after that edit, and its value is the plain one there
+-- an answer is true of an operation log: its version is at most the number of updates (version 0 is before the first), its range is within the
+-- list at that version, and its value is the plain one there
 pub record IsTrueAnswer (edits : List Edit) (answer : Claimed) : Type 0 where
   pub edit : answer.edit ≤ length edits
   pub range : answer.lo ≤ answer.hi
@@ -117,7 +117,7 @@ IsEdit e = IsCommand (command.Edit e)
 abbrev pub HasEditForm : List ℕ → Type 0
 HasEditForm line = (edit : Edit) × IsEdit edit × (line ≡ edit_line edit)
 
--- a line begins as that of an answer does, whose edit is not before this one, with any value behind that
+-- a line begins like that of an answer whose version is not below this one, with any value after that
 pub record BeginsAnswer (last : ℕ) (line : List ℕ) : Type 0 where
   pub edit : ℕ
   pub kind : Kind
@@ -128,13 +128,13 @@ pub record BeginsAnswer (last : ℕ) (line : List ℕ) : Type 0 where
   pub text : line ≡ question_text edit kind lo hi ++ value
   pub order : last ≤ edit
 
--- the edit of the last of some answers, 0 where there is none
+-- the version of the last of some answers, or 0 if there are none
 abbrev pub last_edit : List Claimed → ℕ
 last_edit answers = fold (λ edit answer. answer.edit) 0 answers
 
 -- ---- how it is written
 
--- how the writing of a text ended: all of it was written, no more than a front, or nothing
+-- how the writing of a text ended: all of it was written, no more than a prefix, or nothing
 abbrev pub Transcribes : {T : Type 0} → Option (List ℕ) → Option (List ℕ) → List ℕ → Result T Fault → Type 0
 Transcribes contents_old contents_new text (Ok _) = Appends contents_old contents_new text
 Transcribes contents_old contents_new text (Err WriteFault) = WritesFront contents_old [] contents_new text

@@ -26,23 +26,23 @@ use std::alloc::{AllocError, Global};
 use std::io;
 use std::io::{Read, Write};
 
-/// What an audit says of a transcript.
+/// The verdict of an audit of a transcript.
 #[derive(Clone, Copy, PartialEq, Eq)]
 pub enum Verdict {
     /// It is sound.
     Yes,
     /// The line of this number is the first fault: it has the right form, and is false.
     No(u32),
-    /// The line of this number is the first fault: it is not of the form that may stand there, or is missing.
+    /// The line of this number is the first fault: it is missing, or not of a form that may come there.
     Bad(u32),
 }
 
 /// Audits a transcript: reads it to its end, and writes the verdict as a line.
 ///
-/// Each edit is made anew, and each answer's value is the left fold of the elements of its range: it is joined from folds of blocks
-/// of 1,024 elements, which are kept until an edit touches them. Memory grows with the journal, and not with the text. Nothing is written where a read fails, which is `ReadFault`, where the
-/// input has more than 2^30 bytes, which is `TooLong`, and where there is no memory, which is `NoMemory`. A failed
-/// write, and one that takes no byte, is `WriteFault`.
+/// Each update is made again, and each answer's value is the left fold of the elements of its range. It is combined from folds of blocks
+/// of 1,024 elements, which are kept until an update touches them. Memory grows with the operation log, not with the text.
+/// Nothing is written if a read fails (`ReadFault`), if the input has more than 2^30 bytes (`TooLong`), or if there is no memory
+/// (`NoMemory`). A failed write, and one that takes no byte, is `WriteFault`.
 pub fn audit<R: Read, W: Write>(
     alloc: Global,
     reader: &mut R,
@@ -70,7 +70,7 @@ fn read_transcript<R: Read>(alloc: Global, reader: &mut R) -> Result<Verdict, Fa
     auditor.verdict()
 }
 
-// Puts the line of a verdict behind what is held.
+// Puts the line of a verdict after what is held.
 fn put_verdict(held: &mut Vec<u8>, verdict: Verdict)
     requires { HasRoom held.old LINE }
     ensures { held.new.items ≡ held.old.items ++ verdict_text verdict }
@@ -86,7 +86,7 @@ fn put_verdict(held: &mut Vec<u8>, verdict: Verdict)
     }
 }
 
-/// What comes next in an audit, or what it found.
+/// What an audit expects next, or what it has found.
 #[derive(Clone, Copy)]
 pub(crate) enum Stage {
     /// The first line.
@@ -99,7 +99,7 @@ pub(crate) enum Stage {
     End,
     /// The line of this number is false.
     No(u32),
-    /// The line of this number is not of the form that may stand there.
+    /// The line of this number is not of a form that may come there.
     Bad(u32),
     /// There was no memory for the edits.
     NoMemory,
@@ -112,12 +112,12 @@ pub(crate) struct Auditor {
     pub(crate) lines: u32,
     // How many bytes the lines have that were taken, but for the last line of a transcript.
     pub(crate) whole: u64,
-    // What the first line told, where the text is a log.
+    // The heading in the first line, if the text is a log.
     pub(crate) heading: Option<LogHeading>,
     // All edits so far, and the list after those up to the last answer.
     pub(crate) edits: Edits,
     pub(crate) replay: Replay,
-    // Whether edits may come behind answers, as in a front.
+    // Whether updates may come after answers, as in a prefix (*front*).
     pub(crate) mixed: bool,
     // The text of the line that is read, or of its value.
     text: Vec<u8>,
@@ -171,7 +171,7 @@ impl Auditor {
         })
     }
 
-    // What was found, once all lines were read.
+    // The verdict, once all lines were read.
     fn verdict(&self) -> Result<Verdict, Fault>
         ensures { MatchResult result (IsVerdictAt self.now.stage self.now.lines) (λ fault. fault ≡ Fault.NoMemory) }
     {
@@ -203,7 +203,7 @@ impl Auditor {
         self.lines = number;
     }
 
-    // The stage behind a line.
+    // The stage after a line.
     fn next_stage(&mut self, number: u32, line: &[u8]) -> Stage
         ensures stage { let old = state_of self.old.mixed self.old.heading self.old.stage self.old.edits self.old.replay.edit in
             Becomes number old (MayCome old line.now) (Takes old line.now) (state_of self.old.mixed self.new.heading result self.new.edits self.new.replay.edit) }
@@ -221,7 +221,7 @@ impl Auditor {
         }
     }
 
-    // The stage behind a line that should be the first.
+    // The stage after a line that should be the first.
     fn take_first(&mut self, number: u32, line: &[u8]) -> Stage
         requires stage { self.old.stage ≡ Stage.Start }
         requires short { length line.now ≤ 120 }
@@ -239,7 +239,7 @@ impl Auditor {
         }
     }
 
-    // The stage behind a line that comes behind an answer.
+    // The stage after a line that comes after an answer.
     fn behind_answer(&mut self, number: u32, line: &[u8]) -> Stage
         requires stage { self.old.stage ≡ Stage.AnswersFollow }
         requires short { length line.now ≤ 120 }
@@ -254,7 +254,7 @@ impl Auditor {
         self.answer_or_last(number, line)
     }
 
-    // The stage behind a line that may be that of an edit.
+    // The stage after a line that may be that of an update.
     fn edit_or_later(&mut self, number: u32, line: &[u8]) -> Stage
         requires { MayEdit self.old.mixed self.old.stage }
         ensures stage { let old = state_of self.old.mixed self.old.heading self.old.stage self.old.edits self.old.replay.edit in
@@ -269,7 +269,7 @@ impl Auditor {
         }
     }
 
-    // Makes an edit, where that is possible.
+    // Makes an update, if that is possible.
     fn take_edit(&mut self, number: u32, edit: Edit) -> Stage
         ensures edit { EditBecomes number (elements_of self.old.heading) self.old.edits.journal edit result self.new.edits.journal }
         ensures replay { self.new.replay ≡ self.old.replay }
@@ -289,7 +289,7 @@ impl Auditor {
         }
     }
 
-    // The stage behind a line that is not that of an edit.
+    // The stage after a line that is not that of an update.
     fn answer_or_last(&mut self, number: u32, line: &[u8]) -> Stage
         requires { MayEnd self.old.stage }
         ensures stage { let old = state_of self.old.mixed self.old.heading self.old.stage self.old.edits self.old.replay.edit in
@@ -330,7 +330,7 @@ impl Auditor {
         self.judge(number, question, value)
     }
 
-    // The stage behind an answer, on the list after its edit.
+    // The stage after an answer, given the list at its version.
     fn judge(&mut self, number: u32, question: Question, value: &[u8]) -> Stage
         ensures answer { AnswerBecomes number self.old.replay.list.items question value.now result }
         ensures edits { self.new.edits ≡ self.old.edits }
@@ -353,7 +353,7 @@ impl Auditor {
     }
 }
 
-// What a line tells that a text may begin with: a heading, where that is a log. A whole transcript is none.
+// The first line of a text, as it is read: its heading, if it is that of a log. A whole transcript is no log.
 fn read_first(mixed: bool, line: &[u8], text: &mut Vec<u8>) -> Option<Option<LogHeading>>
     requires { LINE ≤ vec_capacity text.old }
     ensures first { MatchOption result (IsFirst mixed line.now → ⊥) (λ heading. MayBegin mixed heading × (line.now ≡ heading_line heading)) }
@@ -369,7 +369,7 @@ fn read_first(mixed: bool, line: &[u8], text: &mut Vec<u8>) -> Option<Option<Log
     Some(Some(heading))
 }
 
-// How many bytes the lines have behind one that led to a stage: with it and its LF where others may follow.
+// How many bytes the lines have after one that led to a stage. That line and its LF count if others may follow.
 fn bytes_behind(stage: Stage, whole: u64, line: &[u8]) -> u64
     ensures { CountsBytes stage whole line.now result }
 {
@@ -381,7 +381,7 @@ fn bytes_behind(stage: Stage, whole: u64, line: &[u8]) -> u64
     }
 }
 
-/// How many of the first edits stand for elements.
+/// How many of the first updates represent elements.
 pub(crate) fn elements_of(heading: Option<LogHeading>) -> u32
     ensures { result ≡ elements_of heading }
 {

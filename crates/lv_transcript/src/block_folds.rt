@@ -18,15 +18,15 @@ pub(crate) fn forget<S: Copy>(folds: &mut Vec<Option<S>>, index: usize)
     }
 }
 
-/// Forgets the folds of the blocks that end behind so many elements.
+/// Forgets the folds of the blocks that end after so many elements.
 pub(crate) fn cut<S: Copy>(folds: &mut Vec<Option<S>>, count: usize)
     ensures { folds.new.items ≡ take (count / 1024) folds.old.items }
 {
     folds.truncate(count / BLOCK);
 }
 
-/// The fold of the elements from index `lo` up to `hi`, from the folds of the blocks between them. Those that are not known are
-/// computed, and kept. Where there is no memory to keep them, nothing changes.
+/// The fold of the elements from index `lo` up to `hi`, computed from the folds of the blocks between them. Folds that are not known are computed and
+/// kept. If there is no memory to keep them, nothing changes.
 pub(crate) fn fold_range<B: Body>(
     body: &B,
     list: &[i64],
@@ -51,7 +51,7 @@ pub(crate) fn fold_range<B: Body>(
     Ok(body.combine(sum, rest))
 }
 
-// Makes places for the folds of the first blocks, where there are fewer.
+// Makes places for the folds of the first blocks, if there are fewer.
 fn make_room<S: Copy>(folds: &mut Vec<Option<S>>, blocks: usize) -> Result<(), AllocError>
     ensures items { folds.new.items ≡ (if is_ok result then with_places folds.old.items blocks else folds.old.items) }
 {

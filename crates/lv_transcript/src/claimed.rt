@@ -6,12 +6,12 @@ use lv_bodies::{Kind, Shown};
 pub struct Claimed {
     /// The number of the last edit before the answer.
     pub edit: u32,
-    /// What was asked of the range.
+    /// The kind that was asked for.
     pub kind: Kind,
     /// The first index of the range.
     pub lo: u32,
-    /// The index behind its last.
+    /// The index after its last.
     pub hi: u32,
-    /// What was answered.
+    /// The answer.
     pub value: Shown,
 }

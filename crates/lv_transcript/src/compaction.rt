@@ -1,4 +1,4 @@
-//! How what is there after a front's edits becomes a log of its own.
+//! How the elements that there are after a prefix's updates become a log of their own.
 ghost use Rattle.std.specs.Prelude.{◌≡◌, ◌≤◌, ◌^◌, IfOk, OnOk, Some, length};
 ghost use Rattle.lv_edits.specs.History.{list_of};
 ghost use Rattle.lv_edits.specs.Kept.{IsLegalInLimits};
@@ -15,11 +15,12 @@ use lv_lines::Fault;
 use std::alloc::{AllocError, Global};
 use std::io::Write;
 
-/// Writes a log of exactly the elements that there are after all edits that were found, and flushes the writer. Its heading is that of
-/// `compacted_heading`: so it is a sound log, which is gone on with as what was found would have been, with the same list and the same number for the next edit.
+/// Writes a log of exactly the elements that there are after all updates that were found, and flushes the writer. Its heading is that of
+/// `compacted_heading`. It is therefore a sound log, which continues like the old one: with the same list, and with the same number for the next
+/// update.
 ///
-/// O(n) for n edits, and memory for the elements: where there is none, the fault is `NoMemory`, and nothing was written. A failed write,
-/// and one that takes no byte, is `WriteFault`.
+/// O(n) for n updates, and memory for the elements. If there is none, the fault is `NoMemory`, and nothing was written. A failed write, and one that
+/// takes no byte, is `WriteFault`.
 pub fn compact_log<W: Write>(alloc: Global, found: &FoundFront, writer: &mut W) -> Result<(), Fault>
     requires numbers { base_of found.now.heading ≤ 2 ^ 62 }
     ensures text { Transcribes (W.contents writer.old) (W.contents writer.new) (log_text (compacted found.now.heading found.now.edits.journal) (list_of found.now.edits.journal)) result }
@@ -33,8 +34,8 @@ pub fn compact_log<W: Write>(alloc: Global, found: &FoundFront, writer: &mut W) 
     }
 }
 
-/// How the log begins that comes behind the edits of a front, or of a log with this heading: it has the elements that there are after them,
-/// and its base is the number of the last of them.
+/// The heading of the log that comes after the updates of a prefix, or of a log with this heading. It has the elements that there are after them, and
+/// its base is the number of the last of them.
 pub fn compacted_heading(heading: Option<LogHeading>, edits: &Edits) -> LogHeading
     requires numbers { base_of heading ≤ 2 ^ 62 }
     ensures heading { result ≡ compacted heading edits.now.journal }
@@ -46,7 +47,7 @@ pub fn compacted_heading(heading: Option<LogHeading>, edits: &Edits) -> LogHeadi
     }
 }
 
-// How many edits come before a log that comes behind so many edits, of which those that stand for elements do not count.
+// How many updates come before a log that continues after so many updates. Those that represent elements do not count.
 fn next_base(heading: Option<LogHeading>, edits: u32) -> u64
     requires numbers { base_of heading ≤ 2 ^ 62 }
     ensures { result ≡ number_of heading edits }

@@ -38,8 +38,8 @@ pub fn flat_edit(edit: Edit) -> FlatEdit
     }
 }
 
-/// Puts the edits of a journal behind the first `from` into the front of some places, as many as stand there and fit, and tells how many.
-/// The places behind them keep what they have.
+/// Copies the updates of an operation log after the first `from` to the start of some places: as many as there are and fit. Returns how many
+/// these are. The places after them keep what they have.
 pub fn copy_edits(journal: &[Edit], from: usize, places: &mut [FlatEdit]) -> usize
     ensures count { result ≡ min (length places.old) (length journal.now - from) }
     ensures places { places.new ≡ map flat_edit (take result (drop from journal.now)) ++ drop result places.old }

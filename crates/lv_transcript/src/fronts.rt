@@ -1,4 +1,4 @@
-//! The audit of a front of a transcript, or of a log: edits and answers in the order of time, as far as they were written.
+//! The audit of a prefix (*front*) of a transcript, or of a log: updates and answers in the order of time, as far as they were written.
 ghost use Rattle.std.specs.Prelude.{◌≡◌, ◌≤◌, ◌++◌, None, Some, IfOk, MatchResult, length};
 ghost use Rattle.lv_lines.specs.Output.{HasRoom};
 ghost use Rattle.lv_lines.specs.declared.replies.TheConstants.{LINE};
@@ -17,42 +17,42 @@ use std::alloc::Global;
 use std::io;
 use std::io::{Read, Write};
 
-/// What an audit says of a front of a transcript.
+/// The verdict of an audit of a prefix of a transcript, or of a log.
 #[derive(Clone, Copy, PartialEq, Eq)]
 pub enum FrontVerdict {
-    /// It is one, with so many edits and answers.
+    /// It is a prefix, with so many updates and answers.
     Front {
-        /// How many edits were accepted.
+        /// How many updates were accepted.
         edits: u32,
         /// How many answers are true.
         answers: u32,
     },
     /// The line of this number is the first fault: it has the right form, and is false.
     No(u32),
-    /// The line of this number is the first fault: it is not of the form that may stand there.
+    /// The line of this number is the first fault: it is missing, or not of a form that may come there.
     Bad(u32),
 }
 
-/// What was found of an input: the verdict, and what was read.
+/// The findings about an input: the verdict, and what was read.
 #[derive(Drop)]
 pub struct FoundFront {
-    /// Whether it is a front.
+    /// Whether it is a prefix.
     pub verdict: FrontVerdict,
-    /// Its edits, up to the first fault.
+    /// Its updates, up to the first fault.
     pub edits: Edits,
-    /// What its first line tells, where it is a log.
+    /// What its first line says, if it is a log.
     pub heading: Option<LogHeading>,
-    /// How many bytes of the input the first line and the lines of its edits and answers are.
+    /// How many bytes of the input the first line and the lines of its updates and answers are.
     pub whole: u64,
-    /// The checksum of these bytes, where each line ends in one.
+    /// The checksum of these bytes, if each line ends in one.
     pub hash: Option<u64>,
 }
 
-/// Audits a front of a transcript, or a log: reads it to its end, and writes the verdict as a line. An input of more than `most` bytes is
-/// `TooLong`.
+/// Audits a prefix (*front*) of a transcript, or a log: reads it to its end, and writes the verdict as a line. An input of more than `most`
+/// bytes is `TooLong`.
 ///
-/// A front has whole lines of a transcript from the first on; edits and answers may stand in the order of time, each answer behind
-/// the edits that it is true of. What stands behind the last LF doesn't count. Faults are those of `audit`.
+/// A prefix has whole lines of a transcript from the first on. Its updates and answers may be in the order of time, each answer after the
+/// updates that it is true of. The bytes after the last LF do not count. Faults are those of `audit`.
 pub fn audit_front<R: Read + Drop, W: Write>(
     alloc: Global,
     most: usize,
@@ -74,7 +74,7 @@ pub fn audit_front<R: Read + Drop, W: Write>(
     Ok(verdict)
 }
 
-// Puts the line of a verdict on what has a heading behind what is held.
+// Puts the line of a verdict on a text with this heading after what is held.
 fn put_front(held: &mut Vec<u8>, heading: Option<LogHeading>, verdict: FrontVerdict)
     requires { HasRoom held.old LINE }
     ensures { held.new.items ≡ held.old.items ++ front_text heading verdict }
@@ -93,7 +93,7 @@ fn put_front(held: &mut Vec<u8>, heading: Option<LogHeading>, verdict: FrontVerd
     }
 }
 
-// Puts the line of a front with so many edits and answers.
+// Puts the line of a prefix with so many updates and answers.
 fn put_counts(held: &mut Vec<u8>, edits: u32, answers: u32)
     requires { HasRoom held.old LINE }
     ensures { held.new.items ≡ held.old.items ++ counts_text None edits answers }
@@ -105,7 +105,7 @@ fn put_counts(held: &mut Vec<u8>, edits: u32, answers: u32)
     put(held, b" answers\n");
 }
 
-// Puts the line of a log with so many edits and answers. Those that stand for elements do not count.
+// Puts the line of a log with so many updates and answers. The updates that represent elements do not count.
 fn put_log(held: &mut Vec<u8>, heading: LogHeading, edits: u32, answers: u32)
     requires { HasRoom held.old LINE }
     ensures { held.new.items ≡ held.old.items ++ counts_text (Some heading) edits answers }
@@ -121,7 +121,7 @@ fn put_log(held: &mut Vec<u8>, heading: LogHeading, edits: u32, answers: u32)
     put(held, b" answers\n");
 }
 
-/// Reads an input to its end as a front of a transcript, or as a log. Faults are those of `audit_front`, but that nothing is written.
+/// Reads an input to its end as a prefix of a transcript, or as a log. Faults are those of `audit_front`, except that nothing is written.
 pub fn read_front<R: Read + Drop>(
     alloc: Global,
     most: usize,
@@ -150,7 +150,7 @@ pub fn read_front<R: Read + Drop>(
 }
 
 impl Auditor {
-    // What was found, once all lines were read.
+    // The findings, once all lines were read.
     fn found(self, hash: Option<u64>) -> Result<FoundFront, Fault>
         ensures hash { IfOk result (λ found. found.hash ≡ hash) }
         ensures found { MatchResult result (λ found. (found.edits ≡ self.edits) × (found.heading ≡ self.heading) × (found.whole ≡ bytes_in_file found.hash self.whole self.lines)
@@ -192,7 +192,7 @@ impl Auditor {
     }
 }
 
-// How many bytes of a file so many bytes of its text are, which are so many lines.
+// How many bytes of a file are so many bytes of its text, which are so many lines.
 fn in_file(bytes: u64, lines: u32, hash: Option<u64>) -> u64
     ensures { result ≡ bytes_in_file hash bytes lines }
 {
@@ -202,7 +202,7 @@ fn in_file(bytes: u64, lines: u32, hash: Option<u64>) -> u64
     }
 }
 
-// The verdict on so many lines with so many edits and entries: where fewer edits are there than elements are told of, the next line is missing.
+// The verdict on so many lines with so many updates and entries. If there are fewer updates than elements, the next line is missing.
 fn told_of(elements: u32, lines: u32, edits: u32, entries: u32) -> FrontVerdict
     ensures { IsToldOf elements lines edits entries result }
 {
@@ -212,7 +212,7 @@ fn told_of(elements: u32, lines: u32, edits: u32, entries: u32) -> FrontVerdict
     front_of(edits, entries.saturating_sub(edits))
 }
 
-// A front with so many edits and answers.
+// A prefix with so many updates and answers.
 fn front_of(edits: u32, answers: u32) -> FrontVerdict
     ensures { result ≡ FrontVerdict.Front edits answers }
 {

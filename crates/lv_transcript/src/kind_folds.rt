@@ -1,4 +1,4 @@
-//! The folds of a list's blocks by each kind that was asked for, and the values of ranges that they tell.
+//! The folds of a list's blocks by each kind that was asked for, and the values of ranges that follow from them.
 ghost use Rattle.std.specs.Prelude.{◌≡◌, ◌^◌, ◌≤◌, ℤ, List, IfOk, length, take, slice_set, slice_range};
 ghost use Rattle.lv_bodies.specs.Plain.{plain_value};
 ghost use Rattle.lv_transcript.specs.Blocks.{AreFolds, AreKept};
@@ -35,7 +35,7 @@ impl KindFolds {
         }
     }
 
-    /// Forgets the folds of the block that has an index: what is left are those of each list that differs there alone.
+    /// Forgets the folds of the block that has an index. The others remain right for each list that differs only at this index.
     pub(crate) fn forget(&mut self, index: usize)
         ensures { (xs : List ℤ) (x : ℤ) → AreKept self.old xs → AreKept self.new (slice_set xs index x) }
     {
@@ -47,7 +47,7 @@ impl KindFolds {
         forget(&mut self.automaton, index);
     }
 
-    /// Forgets the folds of the blocks that end behind so many elements: what is left are those of the list that is cut there.
+    /// Forgets the folds of the blocks that end after so many elements. The others remain right for the list that is cut there.
     pub(crate) fn cut(&mut self, count: usize)
         ensures { (xs : List ℤ) → AreKept self.old xs → AreKept self.new (take count xs) }
     {
@@ -59,8 +59,8 @@ impl KindFolds {
         cut(&mut self.automaton, count);
     }
 
-    /// The value of a kind over the elements from index `lo` up to `hi`. The folds of blocks that it needs are computed, where they are
-    /// not known, and kept.
+    /// The value of a kind over the elements from index `lo` up to `hi`. The folds of blocks that it needs are computed if they are not known, and
+    /// kept.
     pub(crate) fn value(
         &mut self,
         kind: Kind,
@@ -86,7 +86,7 @@ impl KindFolds {
     }
 }
 
-// What a body of one kind shows of some elements.
+// The output of a monoid instance (body) of one kind for some elements.
 fn shown_fold<B: Single>(
     body: &B,
     list: &[i64],

@@ -1,13 +1,13 @@
 //! Transcripts and their auditor.
 //!
-//! A transcript is a journal and the reductions that were answered, as text. `write_transcript` writes it; `audit`
-//! answers yes exactly where the bytes are a transcript whose every line is true. It folds blocks of the plain list, which it
-//! keeps until an edit touches them: of the vector it uses the verdicts on edits alone. A `TranscriptWriter` writes the lines of a
-//! transcript entry by entry, as they come; a `LogWriter` is what it may write to where the log goes on for long.
+//! A transcript is the text of an operation log (journal) and of the reductions that were answered. `write_transcript` writes it. `audit`
+//! answers yes if and only if the bytes are a transcript whose every line is true. It folds blocks of the plain list, and keeps each fold
+//! until an update touches the block. Of the vector it uses only the verdicts on updates. A `TranscriptWriter` writes the lines of a
+//! transcript entry by entry, as they come. It may write to a `LogWriter` if the log goes on for long.
 //!
-//! All of that also works on a caller's memory: `copy_edits` reads a journal in pieces as plain numbers, `put_transcript` puts a
-//! transcript's text into bytes of the caller's, and `audit_text`, `audit_front_text` and `front_in` look at bytes as `audit`,
-//! `audit_front` and `read_front` look at an input.
+//! All of that also works on a caller's memory. `copy_edits` copies an operation log in pieces as plain numbers, and `put_transcript` puts
+//! a transcript's text into the caller's bytes. `audit_text`, `audit_front_text` and `front_in` treat bytes as `audit`, `audit_front` and
+//! `read_front` treat an input.
 #![tactic(auto)]
 
 mod auditor;

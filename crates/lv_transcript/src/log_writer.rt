@@ -1,4 +1,4 @@
-//! What a log is written by that goes on.
+//! Writers of logs that last.
 ghost use Rattle.std.specs.Prelude.{◌≡◌, ◌≤◌, ℕ, List, None, OnErr, OnOk, Option, length};
 ghost use Rattle.lv_transcript.specs.Logs.{HasLog};
 
@@ -9,16 +9,16 @@ use std::io::Write;
 
 /// A writer of a log, whose file may be begun anew.
 pub trait LogWriter: Write {
-    // What a writer has got of a file that was just made.
+    // The bytes that a writer has received for a file that was just made.
     ghost made: { Option (List ℕ) } = { None };
 
-    /// Whether the file is to be begun anew, as where it is long.
+    /// Whether the file is to be begun anew, for example because it is long.
     fn is_due(&self) -> bool {
         false
     }
 
-    /// Begins the log anew, of these elements, in another file, which takes the place of the one that was written so far. Then the writer writes there. If that fails, the
-    /// file that was written so far is still the log.
+    /// Begins the log anew, of these elements, in another file, which takes the place of the one that was written so far. Then the writer writes
+    /// there. If that fails, the file that was written so far is still the log.
     fn begin_anew(
         &mut self,
         _alloc: Global,

@@ -15,10 +15,10 @@ use std::io::Write;
 /// How many elements a vector has at most.
 pub const MOST_ELEMENTS: usize = 1_048_568;
 
-/// Writes a log of elements, without edits behind, and flushes the writer: its first line, and each element as the push of it. It is a
-/// sound log, which an audit of fronts accepts.
+/// Writes a log of elements, without updates after them, and flushes the writer: its first line, and each element as its push. It is a
+/// sound log, which an audit of prefixes accepts.
 ///
-/// Memory is fixed, and taken before anything is written: where there is none, the fault is `NoMemory`. A failed write, and one that
+/// Memory is fixed, and is taken before anything is written; if there is none, the fault is `NoMemory`. A failed write, and one that
 /// takes no byte, is `WriteFault`.
 pub fn write_log<W: Write>(
     alloc: Global,

@@ -32,7 +32,7 @@ impl Replay {
         }
     }
 
-    /// Makes the edits of a journal up to one of them. Where there is no memory for all, the first of them are made.
+    /// Makes the updates of an operation log up to one of them. If there is no memory for all, the first of them are made.
     pub(crate) fn bring_up(&mut self, journal: &[Edit], edit: u32) -> Result<(), AllocError>
         requires list { self.old.list.items ≡ list_of (take self.old.edit journal.now) }
         requires before { self.old.edit ≤ edit }
@@ -51,7 +51,7 @@ impl Replay {
         Ok(())
     }
 
-    /// The value of a kind over the elements from index `lo` up to `hi`. Where there is no memory, nothing changes.
+    /// The value of a kind over the elements from index `lo` up to `hi`. If there is no memory, nothing changes.
     pub(crate) fn value(&mut self, kind: Kind, lo: usize, hi: usize) -> Result<Shown, AllocError>
         requires few { length self.old.list.items ≤ 2 ^ 20 }
         requires order { lo ≤ hi }

@@ -61,7 +61,7 @@ impl Queue {
     }
 }
 
-/// Takes the answer of the least edit, that of the first queue where several have one.
+/// Takes the answer with the least version. If several queues have one, it is that of the first of them.
 pub(crate) fn take_least(queues: &mut Vec<Queue>) -> Option<Claimed>
     ensures { MatchOption result (in_a_row queues.old.items ≡ []) (λ answer. joined queues.old.items ≡ answer ∷ joined queues.new.items) }
 {
@@ -71,7 +71,7 @@ pub(crate) fn take_least(queues: &mut Vec<Queue>) -> Option<Claimed>
     }
 }
 
-// Which queue has the answer of the least edit, and that edit.
+// The index of the queue whose first answer has the least version, and that version.
 fn least(queues: &[Queue]) -> Option<(usize, u32)>
     ensures { FindsLeast queues.now result }
 {
@@ -82,7 +82,7 @@ fn least(queues: &[Queue]) -> Option<(usize, u32)>
     found
 }
 
-// The same with one queue more.
+// The queue with the least version among those before and one queue more, given that among those before.
 fn lesser(found: Option<(usize, u32)>, index: usize, queue: &Queue) -> Option<(usize, u32)>
     ensures { (lists : List (List Claimed)) → length lists ≡ index → FindsLeast lists found → FindsLeast (lists ++ queue.now ∷ []) result }
 {

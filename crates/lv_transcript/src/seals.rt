@@ -19,13 +19,13 @@ pub const SEAL_BYTES: usize = 17;
 /// How many bytes a line of a log has at most in its file, without its LF.
 pub(crate) const LONGEST_SEALED: usize = 137;
 
-// Where a file has the digit of its version, and what it is.
+// The place of the digit of a file's version, and that digit.
 const VERSION_AT: u64 = 8;
 
 const VERSION: u8 = b'3';
 
-/// Puts bytes of a log's text as they are in its file, where each line ends in the checksum of all bytes of the file before it: that of its first `count` bytes is `hash`.
-/// Returns the checksum of all bytes then. The room for them was made before: they are at most 18 for each of the text.
+/// Puts bytes of a log's text as they are in its file, where each line ends in the checksum of all bytes of the file before it: that of its first
+/// `count` bytes is `hash`. Returns the checksum of all bytes then. The room for them was made before: they are at most 18 for each of the text.
 pub fn put_sealed(held: &mut Vec<u8>, hash: u64, count: u64, text: &[u8]) -> u64
     requires room { HasRoom held.old (18 * length text.now) }
     requires few { length text.now ≤ 4096 }
@@ -99,7 +99,7 @@ fn put_first(held: &mut Vec<u8>, hash: u64, count: u64, piece: &[u8]) -> u64
     hash
 }
 
-// What a byte of the first line is in the file, behind so many bytes.
+// A byte of the first line as it is in the file, after so many bytes.
 fn with_version(count: u64, byte: u8) -> u8
     ensures { result ≡ (if count == 8 then 51 else byte) }
 {
@@ -120,7 +120,7 @@ fn put_seal(held: &mut Vec<u8>, hash: u64) -> u64
     checksum_more(checksum_more(hash, &seal), b"\n")
 }
 
-// The seal of a line where all bytes up to its digits have this checksum.
+// The seal of a line, if all bytes up to its digits have this checksum.
 #[tactic(auto, unfolding(crate::specs::Seals::seal_by))]
 fn seal_by(hash: u64) -> [u8; SEAL_BYTES]
     ensures { result ≡ seal_by hash }
@@ -132,7 +132,7 @@ fn seal_by(hash: u64) -> [u8; SEAL_BYTES]
     seal
 }
 
-/// The checksum of all bytes up to the LF of a line behind bytes with this checksum. None if the line isn't rightly sealed.
+/// The checksum of all bytes up to the LF of a line that comes after bytes with this checksum. None if the line isn't rightly sealed.
 pub(crate) fn hash_behind(hash: u64, line: &[u8]) -> Option<u64>
     ensures { result ≡ hash_behind (Some hash) line.now }
 {
@@ -151,7 +151,7 @@ pub(crate) fn hash_behind(hash: u64, line: &[u8]) -> Option<u64>
     None
 }
 
-// Whether bytes are the seal of a line where all bytes up to its digits have this checksum.
+// Whether bytes are the seal of a line, if all bytes up to its digits have this checksum.
 fn is_seal(bytes: &[u8], hash: u64) -> bool
     ensures { result ≡ bytes_eq bytes.now (seal_by hash) }
 {

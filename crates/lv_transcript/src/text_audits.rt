@@ -1,4 +1,4 @@
-//! What an audit says of bytes that lie in memory.
+//! Audits of bytes in memory.
 ghost use Rattle.std.specs.Prelude.{◌≡◌};
 ghost use Rattle.lv_transcript.specs.ReadTexts.{AuditsFront, AuditsText, FindsFront, unread_by};
 
@@ -17,7 +17,7 @@ pub enum Unread {
     TooLong,
 }
 
-// Why bytes that lie in memory got no verdict, by what an audit of an input answers. No read and no write can fail there.
+// The reason that bytes in memory got no verdict, given the fault of an audit of an input. No read and no write can fail there.
 fn why_unread(fault: Fault) -> Unread
     ensures { result ≡ unread_by fault }
 {
@@ -27,7 +27,7 @@ fn why_unread(fault: Fault) -> Unread
     }
 }
 
-/// Audits bytes as a transcript, as `audit` does it. Memory grows with the journal.
+/// Audits bytes as a transcript, as `audit` does it. Memory grows with the operation log.
 pub fn audit_text(alloc: Global, text: &[u8]) -> Result<Verdict, Unread>
     ensures { AuditsText text.now result }
 {
@@ -38,7 +38,7 @@ pub fn audit_text(alloc: Global, text: &[u8]) -> Result<Verdict, Unread>
     }
 }
 
-/// Audits bytes as a front of a transcript, as `audit_front` does it. Memory grows with the journal.
+/// Audits bytes as a prefix of a transcript, or as a log, as `audit_front` does it. Memory grows with the operation log.
 pub fn audit_front_text(alloc: Global, text: &[u8]) -> Result<FrontVerdict, Unread>
     ensures { AuditsFront text.now result }
 {
@@ -48,7 +48,7 @@ pub fn audit_front_text(alloc: Global, text: &[u8]) -> Result<FrontVerdict, Unre
     }
 }
 
-/// The same, and the edits that were read.
+/// Audits bytes as `audit_front_text` does, and returns the updates that were read too.
 pub fn front_in(alloc: Global, text: &[u8]) -> Result<FoundFront, Unread>
     ensures { FindsFront text.now result }
 {

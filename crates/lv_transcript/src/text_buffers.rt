@@ -20,7 +20,7 @@ pub enum Unput {
     },
 }
 
-/// Whether answers stand in rising order of their edits, equal ones allowed.
+/// Whether answers are in the rising order of their versions, where equal versions are allowed.
 pub fn are_in_order(answers: &[Claimed]) -> bool
     ensures { IsTrue result ↔ AreInOrder answers.now }
 {
@@ -34,10 +34,10 @@ pub fn are_in_order(answers: &[Claimed]) -> bool
     true
 }
 
-/// Puts the transcript of a journal and of the answers of it into the front of some bytes, and tells how many it takes. The answers
-/// stand in rising order of their edits. It is as sound as one that `write_transcript` writes.
+/// Puts the transcript of an operation log and of answers of it at the start of some bytes, and returns how many bytes it takes. The answers
+/// are in the rising order of their versions. The text is as sound as one that `write_transcript` writes.
 ///
-/// The text is made in memory of its own first. Where there is none, or where it doesn't fit, no byte changes.
+/// The text is made in memory of its own first. If there is none, or if the text doesn't fit, no byte changes.
 pub fn put_transcript(
     alloc: Global,
     edits: &[Edit],
@@ -56,7 +56,7 @@ pub fn put_transcript(
     }
 }
 
-// Puts a text into the front of some bytes, where it fits.
+// Puts a text at the start of some bytes, if it fits.
 fn put_text(text: &[u8], bytes: &mut [u8]) -> Result<usize, Unput>
     ensures { PutsText text.now bytes.old bytes.new result }
 {

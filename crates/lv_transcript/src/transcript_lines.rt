@@ -19,7 +19,7 @@ use lv_lines::{
 /// At most how many bytes the line of an edit has, and that of an answer before its value.
 pub(crate) const HEAD: usize = 80;
 
-/// What an answer asks: the value of a kind over a range, after an edit.
+/// The question that an answer belongs to: the value of a kind over a range, at a version.
 #[derive(Clone, Copy)]
 pub(crate) struct Question {
     pub(crate) edit: u32,
@@ -72,7 +72,7 @@ pub(crate) fn put_heading(held: &mut Vec<u8>, heading: LogHeading)
     put_number(held, heading.elements.into());
 }
 
-/// What the line tells that a log begins with, letter for letter. Its text is put into `text`, in place of what is there.
+/// The heading in the line that a log begins with, letter for letter. Its text is put into `text`, in place of what is there.
 pub(crate) fn read_heading(line: &[u8], text: &mut Vec<u8>) -> Option<LogHeading>
     requires { HEAD ≤ vec_capacity text.old }
     ensures heading { MatchOption result ((heading : LogHeading) → IsHeading heading → line.now ≢ log_line heading)
@@ -88,7 +88,7 @@ pub(crate) fn read_heading(line: &[u8], text: &mut Vec<u8>) -> Option<LogHeading
     None
 }
 
-// What a line tells, where it is that of any log: the letters are not compared.
+// The heading in a line, if it is that of any log: the letters are not compared.
 fn likely_heading(line: &[u8]) -> Option<LogHeading>
     ensures { result ≡ heading_in (words_of line.now) }
 {
@@ -124,7 +124,7 @@ pub(crate) fn read_edit(line: &[u8], text: &mut Vec<u8>) -> Option<Edit>
     Some(edit)
 }
 
-// The edit whose line this is, where it is that of any: the letters are not compared.
+// The update that a line may be that of: the letters are not compared.
 fn likely_edit(line: &[u8]) -> Option<Edit>
     ensures { (edit : Edit) → IsEdit edit → line.now ≡ edit_line edit → result ≡ Some edit }
 {
@@ -159,7 +159,7 @@ pub(crate) fn read_answer<'a>(line: &'a [u8], text: &mut Vec<u8>) -> Option<(Que
     Some((question, value))
 }
 
-// The question that a line begins with, where it is that of any: the letters are not compared.
+// The question that a line begins with, if it is that of any answer: the letters are not compared.
 fn likely_question(line: &[u8]) -> Option<Question>
     ensures { result ≡ question_in (words_of line.now) }
 {

@@ -1,4 +1,4 @@
-//! What writes the lines of a transcript, entry by entry, as they come.
+//! A writer of the lines of a transcript, entry by entry, as they come.
 ghost use Rattle.std.specs.Prelude.{◌≡◌, ◌≤◌, ℕ, true, false, [], ◌∷◌, ◌++◌, All, IfErr, IfOk, List, None, OnOk, Option, Some, map, vec_capacity};
 ghost use Rattle.std.proofs.Common.{inl, inr};
 ghost use Rattle.lv_edits.specs.Kept.{CarriesElement};
@@ -22,8 +22,8 @@ use std::alloc::{AllocError, Global};
 use std::io::Write;
 use std::marker::Model;
 
-/// What writes a transcript, or a prefix of one: it is given edits and answers, and writes their lines, whole and in order, by a
-/// buffer of fixed size. Each call is lent the writer, which is the same each time. After a write that fails it writes nothing more.
+/// Writes a transcript, or a prefix of one. It is given updates and answers, and writes their lines, whole and in order, through a buffer of fixed
+/// size. Each call is lent the writer, which must be the same each time. After a write that fails it writes nothing more.
 #[derive(Drop)]
 pub struct TranscriptWriter {
     held: Vec<u8>,
@@ -69,8 +69,8 @@ impl TranscriptWriter {
         })
     }
 
-    /// One that goes on behind the lines of a front, whole ones, which are there already. It holds nothing, and all memory that it needs is
-    /// taken here.
+    /// A writer that continues after the whole lines of a prefix that are there already. It holds nothing, and all memory that it needs is taken
+    /// here.
     pub fn behind(alloc: Global) -> Result<TranscriptWriter, AllocError>
         ensures { IfOk result GoesOn }
     {
@@ -214,7 +214,7 @@ fn tell_element(edit: Edit)
     }
 }
 
-// Writes the line of an edit behind what is held, by a buffer and a writer.
+// Writes the line of an update after what is held, with a buffer and a writer.
 fn edit_by<W: Write>(edit: Edit, held: &mut Vec<u8>, writer: &mut W) -> Result<(), Fault>
     requires { HELD ≤ vec_capacity held.old }
     ensures room { HELD ≤ vec_capacity held.new }
@@ -226,7 +226,7 @@ fn edit_by<W: Write>(edit: Edit, held: &mut Vec<u8>, writer: &mut W) -> Result<(
     write_edit(edit, &mut buffer)
 }
 
-// Writes the line of an answer behind what is held, by a buffer and a writer.
+// Writes the line of an answer after what is held, with a buffer and a writer.
 fn answer_by<W: Write>(answer: Claimed, held: &mut Vec<u8>, writer: &mut W) -> Result<(), Fault>
     requires { HELD ≤ vec_capacity held.old }
     ensures room { HELD ≤ vec_capacity held.new }
@@ -238,7 +238,7 @@ fn answer_by<W: Write>(answer: Claimed, held: &mut Vec<u8>, writer: &mut W) -> R
     write_answer(answer, &mut buffer)
 }
 
-// Writes the last line behind what is held, and all that is held then, by a buffer and a writer.
+// Writes the last line after what is held, and all that is held then, with a buffer and a writer.
 fn end_by<W: Write>(held: &mut Vec<u8>, writer: &mut W) -> Result<(), Fault>
     requires { HELD ≤ vec_capacity held.old }
     ensures room { HELD ≤ vec_capacity held.new }
@@ -263,7 +263,7 @@ fn send_by<W: Write>(held: &mut Vec<u8>, writer: &mut W) -> Result<(), Fault>
     buffer.send()
 }
 
-// Writes the line of an edit behind what is held.
+// Writes the line of an update after what is held.
 fn write_edit<W: Write>(edit: Edit, buffer: &mut ReplyBuffer<'_, W>) -> Result<(), Fault>
     ensures places { SamePlaces buffer.old buffer.new }
     ensures ok { OnOk result (Puts W.contents buffer.old buffer.new (edit_line edit ++ 10 ∷ [])) }
@@ -276,7 +276,7 @@ fn write_edit<W: Write>(edit: Edit, buffer: &mut ReplyBuffer<'_, W>) -> Result<(
     Ok(())
 }
 
-// Writes the line of an answer behind what is held.
+// Writes the line of an answer after what is held.
 fn write_answer<W: Write>(answer: Claimed, buffer: &mut ReplyBuffer<'_, W>) -> Result<(), Fault>
     ensures places { SamePlaces buffer.old buffer.new }
     ensures ok { OnOk result (Puts W.contents buffer.old buffer.new (answer_line answer ++ 10 ∷ [])) }
@@ -290,7 +290,7 @@ fn write_answer<W: Write>(answer: Claimed, buffer: &mut ReplyBuffer<'_, W>) -> R
     Ok(())
 }
 
-// Writes the last line behind what is held, and all that is held then.
+// Writes the last line after what is held, and all that is held then.
 fn write_end<W: Write>(buffer: &mut ReplyBuffer<'_, W>) -> Result<(), Fault>
     ensures places { SamePlaces buffer.old buffer.new }
     ensures ok { OnOk result ((buffer.new.held.now.items ≡ [])

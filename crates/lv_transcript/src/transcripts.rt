@@ -13,12 +13,12 @@ use lv_lines::Fault;
 use std::alloc::Global;
 use std::io::Write;
 
-/// Writes the transcript of a journal and of the answers of it, and flushes the writer. The answers stand in
-/// rising order of their edits.
+/// Writes the transcript of an operation log and of answers of it, and flushes the writer. The answers are in the rising order of their
+/// versions.
 ///
-/// Where the journal is one that a vector of the greatest limits accepts, and each answer is true, the transcript is
-/// sound: an audit of it answers yes. Memory is fixed, and taken before anything is written: where there is none, the
-/// fault is `NoMemory`. A failed write, and one that takes no byte, is `WriteFault`.
+/// If a vector of the greatest limits accepts the updates, and each answer is true, the transcript is sound: an audit of it answers yes.
+/// Memory is fixed, and is taken before anything is written; if there is none, the fault is `NoMemory`. A failed write, and one that takes
+/// no byte, is `WriteFault`.
 pub fn write_transcript<W: Write>(
     alloc: Global,
     edits: &[Edit],
@@ -53,11 +53,11 @@ fn write_by<W: Write>(
     transcript.end(writer)
 }
 
-/// Writes the transcript of a journal and of the answers of it in several queues, and flushes the writer. The answers go out in the
-/// order of their edits; those at one edit in the order of the queues.
+/// Writes the transcript of an operation log and of answers of it in several queues, and flushes the writer. The answers are written in the
+/// order of their versions, and those at one version in the order of the queues.
 ///
 /// It is as sound as one that `write_transcript` writes. No memory is taken: lines are written by a transcript writer that was made for
-/// it, and given nothing yet. The fault is `WriteFault`, where a write fails or takes no byte.
+/// it, and that was given nothing yet. The fault is `WriteFault`, if a write fails or takes no byte.
 pub fn write_joined_transcript<W: Write>(
     transcript: TranscriptWriter,
     edits: &[Edit],

@@ -1,4 +1,4 @@
-//! What takes the seals from the lines of a log.
+//! The removal of seals from the lines of a log.
 ghost use Rattle.std.specs.Prelude.{◌≡◌, ◌+◌, ◌<◌, ◌≤◌, ◌++◌, ◌∷◌, [], ℕ, List, Some, false, length, take, IfOk, vec_len, vec_capacity};
 ghost use Rattle.lv_lines.specs.Input.{has_end};
 ghost use Rattle.lv_lines.specs.Output.{HasRoom, KeepsRoom};
@@ -13,13 +13,13 @@ use lv_shards::CHECKSUM_OF_NONE;
 use memchr::memchr;
 use std::alloc::{AllocError, Global};
 
-/// How many bytes of a line tell whether it is too long, and what it says where it isn't.
+/// How many bytes of a line decide whether it is too long, and what it says if it isn't.
 pub(crate) const KEPT: usize = LONGEST_SEALED + 1;
 
-// How many bytes tell whether the lines of a file have seals.
+// How many bytes decide whether the lines of a file have seals.
 const FIRST: usize = 10;
 
-// What a file of version 3 begins with, and its text.
+// The start of a file of version 3, and of its text.
 const VERSION_3: [u8; FIRST] = *b"livevec 3 ";
 
 const VERSION_2: [u8; FIRST] = *b"livevec 2 ";
@@ -35,12 +35,12 @@ pub(crate) enum Form {
     Sealed,
 }
 
-/// Takes bytes of a file, and gives its text: without seals where it is of version 3, and else as it is. From the first line that isn't rightly sealed on, each line
-/// is empty, as no line of a log is.
+/// Takes bytes of a file, and gives its text: without seals if it is of version 3, and as it is if not. From the first line on that isn't rightly
+/// sealed, each line is empty, as no line of a log is.
 #[derive(Drop)]
 pub(crate) struct Unsealer {
     pub(crate) form: Form,
-    // The checksum of all lines so far. None behind a wrong one.
+    // The checksum of all lines so far. None after a wrong one.
     pub(crate) hash: Option<u64>,
     // The first bytes of the line that was begun.
     pub(crate) kept: ArrayVec<u8, KEPT>,
@@ -131,7 +131,7 @@ impl Unsealer {
     }
 }
 
-// Takes bytes up to those that tell the form of a file, and returns it.
+// Takes bytes up to those that decide the form of a file, and returns it.
 fn take_first(kept: &mut ArrayVec<u8, KEPT>, ready: &mut Vec<u8>, bytes: &[u8]) -> Form
     requires few { length kept.old.items + length bytes.now ≤ 10 }
     requires room { vec_len ready.old + 10 < vec_capacity ready.old }
@@ -180,7 +180,7 @@ fn take_lines(
     hash
 }
 
-// Whether a file of version 3 begins so.
+// Whether a file of version 3 begins with these bytes.
 fn is_version_3(bytes: &[u8]) -> bool
     ensures { result ≡ is_version_3 bytes.now }
 {
@@ -196,7 +196,7 @@ fn front(bytes: &[u8], most: usize) -> &[u8]
     front
 }
 
-// Puts what a line of a file is in its text, and returns the checksum behind it.
+// Puts a line of a file as it is in the text, and returns the checksum after it.
 fn put_line(ready: &mut Vec<u8>, hash: Option<u64>, line: &[u8]) -> Option<u64>
     requires room { HasRoom ready.old (length line.now + 1) }
     ensures items { ready.new.items ≡ ready.old.items ++ (line_in hash line.now ++ 10 ∷ []) }
@@ -218,7 +218,7 @@ fn put_line(ready: &mut Vec<u8>, hash: Option<u64>, line: &[u8]) -> Option<u64>
     }
 }
 
-// The checksum behind a line, where there is one before it.
+// The checksum after a line, if there is one before it.
 fn behind(hash: Option<u64>, line: &[u8]) -> Option<u64>
     ensures { result ≡ hash_behind hash line.now }
 {
@@ -244,7 +244,7 @@ fn put_text(ready: &mut Vec<u8>, text: &[u8])
     }
 }
 
-// Puts an empty line if what stands behind the last LF is a rightly sealed line and another byte.
+// Puts an empty line if the bytes after the last LF are a rightly sealed line and another byte.
 fn put_last(ready: &mut Vec<u8>, hash: Option<u64>, bytes: &[u8])
     requires room { HasRoom ready.old 1 }
     ensures items { ready.new.items ≡ ready.old.items ++ last_in hash bytes.now }

@@ -14,8 +14,8 @@ use std::marker::Model;
 // At most how many bytes one read takes.
 const CHUNK: usize = 65_536;
 
-/// A reader that fails at the end of its input, and notes that it was the end. So what stands behind the last LF is not taken for
-/// a line: it may be a line that was cut off. A file of version 3 is given without seals.
+/// A reader that fails at the end of its input, and notes that it was the end. Therefore the bytes after the last LF are not taken for
+/// a line: they may be a line that was cut off. A file of version 3 is given without seals.
 #[derive(Drop)]
 pub(crate) struct WholeLines<R: Read + Drop> {
     reader: R,

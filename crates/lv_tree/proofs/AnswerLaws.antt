@@ -1,4 +1,4 @@
--- What is told by one kind is told by the kind that was asked.
+-- An answer by one kind is an answer by the kind that was asked.
 use Rattle.std.proofs.Common.{◌≡◌, ℕ, Result, Ok, Err, List, ap, length, subst, sym, ◌∙◌, None}
 use Rattle.std.specs.Prelude.{IfOk}
 use Rattle.lv_geometry.specs.declared.refusals.Refusal.{Refusal}
@@ -24,7 +24,7 @@ pub answer_by_sums : (result : Result KindAnswer Refusal) (table : List (List �
 answer_by_sums (Ok answer) table es asked lo hi is ok = subst (λ k. IsKindAnswer table es k lo hi answer) (sym is) (ok table)
 answer_by_sums (Err refusal) table es asked lo hi is ok = tt
 
--- the sum of a range, told with the number of the last edit, is the answer by sums
+-- the sum of a range, with the number of the last edit, is the answer by sums
 pub sum_is_answer : (table : List (List ℕ)) (edits : List Edit) (lo hi edit value : ℕ) → range_refusal edits lo hi ≡ None → edit ≡ length edits → value ≡ sum_of_range edits lo hi
     → IsKindAnswer table edits kind.Sum lo hi (record { edit = edit; summary = Sum value })
 sum_is_answer table edits lo hi edit value granted last is = record {

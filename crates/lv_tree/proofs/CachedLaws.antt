@@ -46,7 +46,7 @@ module _ {S : Type 0} (o : Operations S) (first : ℕ) (sums : List S) where
           h.sum_is kept ∙ sym (part_beside o sums 0 (leaf - first) t (from - first) (to - first) apart (omega (arith, h.order)));
     }
 
-    -- only the first leaves, of which the run is
+    -- only the first leaves are kept, and they include the run
     pub cached_cut : (count : ℕ) → count ≤ length sums → to ≤ first + count → IsCached o first (take count sums) from to s
     cached_cut count fits within = record {
       order = h.order;

@@ -38,7 +38,7 @@ get_before es more k e is =
     slice_get-get_or (es ++ more) k e (omega (arith, inside, length-append es more))
     ∙ ap Some (get_or_append_left es more e k inside ∙ get_or_from_slice_get es k e e is)
 
--- a block that stands stood before the last edit
+-- a block that is unchanged since some edits was so before the last edit
 stood : (es : List Edit) (e : Edit) (seen b : ℕ) → Stands (es ++ e ∷ []) seen b → Stands es seen b
 stood es e seen b h = record {
   spared = λ k f low is. h.spared k f low (get_before es (e ∷ []) k f is);
@@ -55,7 +55,7 @@ legal_if_some : (es : List Edit) → 0 < length (list_of es) → replayed es ≡
 unfolding list_of
 legal_if_some es some = some_legal (replayed es) some
 
--- a block that stands has the same elements since
+-- a block that is unchanged since some edits has the same elements before and after the last edit
 stood_alike : (es : List Edit) (e : Edit) (seen size b : ℕ) → seen ≤ length es → size ≡ length (list_of (take seen es)) → 8 * b + 8 ≤ size → Stands (es ++ e ∷ []) seen b → block_of b (list_of (es ++ e ∷ [])) ≡ block_of b (list_of es)
 stood_alike es e seen size b order size_is within h =
     let n = length es in

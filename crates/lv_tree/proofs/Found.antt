@@ -9,7 +9,7 @@ use Rattle.lv_tree.specs.Tests.{HasComeTo, HasNoLastTurn, HasNoTurn, IsLastTurn,
 use Rattle.lv_tree.proofs.Runs.{run_inside}
 use Rattle.lv_tree.proofs.Seen.{run_expired, run_length, seen_of}
 
--- the leaves of a range as they lie
+-- the leaves of a range, by the places of their cells
 range_lies : {S : Type 0} (xs : List S) (first lo hi from to a b : ℕ) → a ≡ from - first + lo → b ≡ to - first + lo → b ≤ hi → leaf_range first (run_of xs lo (hi - lo)) from to ≡ run_of xs a (b - a)
 range_lies xs first lo hi from to a b start end inside =
     let place : from - first ≡ a - lo = omega (arith, start) in
@@ -61,7 +61,7 @@ module _ {B S : Type 0} (of_body : B → Operations S) (now : Leaves B S) (body 
       (subst (HasNoTurn (of_body body) test start) (sym (range_lies xs first lo hi from to a b begin end inside))
       (λ some. ap (λ l. test (joined_on (of_body body) start (run_of l a (b - a)))) (sym same) ∙ none (omega (arith, some, length-take (b - a) (drop a xs)))))
 
-  -- the same from the last leaf down
+  -- for a search from the last leaf down: the leaves before `start` can be folded
   pub last_folds : (start : S) (ys : List S) → ys ≡ xs → AreBefore (of_body now.body) (leaf_range now.first now.sums from to) start → AreBefore (of_body body) (run_of ys a (b - a)) start
   last_folds start ys same folds =
       subst (λ l. AreBefore (of_body body) (run_of l a (b - a)) start) (sym same)
@@ -81,14 +81,14 @@ module _ {B S : Type 0} (of_body : B → Operations S) (now : Leaves B S) (body 
       (subst (HasNoLastTurn (of_body body) test start) (sym (range_lies xs first lo hi from to a b begin end inside))
       (λ some. ap (λ l. test ((of_body body).join (joined_on (of_body body) (of_body body).identity (run_of l a (b - a))) start)) (sym same) ∙ none (omega (arith, some, length-take (b - a) (drop a xs)))))
 
--- the leaves between two places as they lie
+-- the leaves between two places, by the places of their cells
 places_lie : {S : Type 0} (xs : List S) (lo hi from to a b : ℕ) → from + lo ≡ a → to + lo ≡ b → b ≤ hi → slice_range (run_of xs lo (hi - lo)) from to ≡ run_of xs a (b - a)
 places_lie xs lo hi from to a b start end inside =
     let place : from ≡ a - lo = omega (arith, start) in
     let count : to - from ≡ b - a = omega (arith, start, end) in
     ap (run_of (run_of xs lo (hi - lo)) from) count ∙ ap (λ k. run_of (run_of xs lo (hi - lo)) k (b - a)) place ∙ run_inside xs lo hi a b (omega (arith, start)) inside
 
--- the same of leaves by their places
+-- what a search among leaves says of what is seen, with the leaves given by places and not by numbers
 module _ {B S : Type 0} (of_body : B → Operations S) (now : Leaves B S) (body : B) (first room lo hi : ℕ) (xs : List S) (is : seen_of body first room lo hi xs ≡ now) (from to a b : ℕ) (begin : from + lo ≡ a) (end : to + lo ≡ b) (inside : b ≤ hi) (ys : List S) (same : ys ≡ xs) where
   pub turn_folds : (start : S) → AreInOrder (of_body now.body) start (slice_range now.sums from to) → AreInOrder (of_body body) start (run_of ys a (b - a))
   turn_folds start folds =
@@ -102,7 +102,7 @@ module _ {B S : Type 0} (of_body : B → Operations S) (now : Leaves B S) (body 
       subst (λ (n : Leaves B S). joined_on (of_body body) start (run_of ys a (b - a)) ≡ joined_on (of_body n.body) start (slice_range n.sums from to)) is
       (ap (joined_on (of_body body) start) (ap (λ l. run_of l a (b - a)) same ∙ sym (places_lie xs lo hi from to a b begin end inside)))
 
-  -- the same from the last leaf down
+  -- for a search from the last leaf down, by places: the leaves before `start` can be folded
   pub turn_back_folds : (start : S) → AreBefore (of_body now.body) (slice_range now.sums from to) start → AreBefore (of_body body) (run_of ys a (b - a)) start
   turn_back_folds start folds =
       subst (λ l. AreBefore (of_body body) (run_of l a (b - a)) start) (sym same)

@@ -103,7 +103,7 @@ pub record Taking (leaves : List ℕ) (old rows : List (List ℕ)) (k place carr
 
 module _ (leaves : List ℕ) (old : List (List ℕ)) (sums : AreSums (take (length leaves - 1) leaves) old) where
   module _ (rows : List (List ℕ)) (k place carry : ℕ) (t : Taking leaves old rows k place carry) where
-    -- the group lies before the last leaf
+    -- the group begins before the end of the leaves
     before_last : place * 8 ^ k + 1 ≤ length leaves
     before_last = let some : 0 < 8 ^ k = some_group k in omega (arith, t.whole, some)
 
@@ -176,7 +176,7 @@ module _ (leaves : List ℕ) (old : List (List ℕ)) (sums : AreSums (take (leng
             | inr other ↦ ap (λ r. get_or r m 0) (row_there l other) ∙ t.done l m (omega (arith, up, other)) (omega (arith, there, length-set rows k (set (row_of rows k) (place + 1) number))) few
           ]
 
-      -- a parent is whole where its last group is
+      -- a parent is whole if its last group is
       pub takes_on : (next : ℕ) → place % 8 ≡ 7 → next ≡ sum_between leaves (place / 8 * (8 ^ k * 8)) (length leaves) → Taking leaves old rows_new (k + 1) (place / 8) next
       takes_on next last next_is = record {
         whole =
@@ -189,7 +189,7 @@ module _ (leaves : List ℕ) (old : List (List ℕ)) (sums : AreSums (take (leng
         left = λ l up. row_there l (λ same. omega (arith, up, same)) ∙ t.left l (omega (arith, up));
       }
 
-      -- where the group isn't the last one, no wider group ends with the leaf
+      -- if the group isn't the last one, no wider group ends with the leaf
       pub takes_all : place % 8 < 7 → AreSums leaves rows_new
       takes_all less = record {
         before = λ l m there few.
@@ -219,7 +219,7 @@ module _ (leaves : List ℕ) (old : List (List ℕ)) (sums : AreSums (take (leng
                   absurd (let wide : (place + 1 + 1) * 8 ^ k ≤ d * 8 * 8 ^ k = mul-le-mul_right (8 ^ k) next in omega (arith, wide, is_d, few, t.whole, some))
             ]
 
-    -- a number is put behind the group: the sum of its siblings and of itself where it isn't the last one, and else none
+    -- a number is put behind the group: the sum of its siblings and of itself if it isn't the last one, and else none
     module _ (room : HaveRoom (length leaves) old) (here : k < length rows) (row : List ℕ) (row_is : row_of rows k ≡ row) (x : ℕ) (x_is : x ≡ get_or row place 0) where
       sum_on : (x + carry) % 2 ^ 64 ≡ sum_between leaves (place / 8 * (8 ^ k * 8)) (length leaves)
       sum_on = ap (λ y. (y + carry) % 2 ^ 64) (x_is ∙ ap (λ r. get_or r place 0) (sym row_is)) ∙ carried here
@@ -282,7 +282,7 @@ sums_last rows end k place sum s room most leaves few sums =
 pub place_inside : (rows : List (List ℕ)) (end k place : ℕ) → HaveRoom end rows → place * 8 ^ k ≤ end → k < length rows → place < length (row_of rows k)
 place_inside rows end k place room low here = let wide = room.group k place here low in omega (arith, wide)
 
--- the same numbers in more rows, which have none of their own yet
+-- rows with the same numbers as others are sums of the same leaves; rows that are added have zeros
 pub sums_same : (leaves : List ℕ) (room : ℕ) (old new : List (List ℕ)) → HaveRoom room old → length leaves ≤ room → ((l m : ℕ) → l < length new → get_or (row_of new l) m 0 ≡ get_or (row_of old l) m 0) → AreSums leaves old → AreSums leaves new
 sums_same leaves room old new have few same sums = record {
   before = λ l m there under.
@@ -338,7 +338,7 @@ adds_on leaf more old rows k place row new a here row_is added =
       left = λ l up. get_or-set_other rows k l new [] (λ same. omega (arith, up, same)) ∙ a.left l (omega (arith, up));
     }
 
--- a row as it lies among others
+-- a row, read by its number among the rows
 pub row_read : {X : Type 0} (f : X → List ℕ) (xs : List X) (k : ℕ) (v : X) → k < length xs → v ≡ get_or xs k v → row_of (map f xs) k ≡ f v
 row_read f xs k v here is = get_or-map f xs k v [] here ∙ ap f (sym is)
 

@@ -91,7 +91,7 @@ module _ {S : Type 0} (o : Operations S) (within : S → ℕ → Type 0) (laws :
   in_order-back s [] rest h = h
   in_order-back s (t ∷ sums) rest h = in_order-back (o.join s t) sums rest (step_join s t (sums ++ rest) h).1
 
-  -- those of the front alone
+  -- only those of the front are in order too
   pub in_order-front : (s : S) (sums rest : List S) → AreInOrder o s (sums ++ rest) → AreInOrder o s sums
   in_order-front s sums rest h =
       let n = length sums in

@@ -1,4 +1,4 @@
--- What is left alone stays so over several steps, and room for some elements is room for fewer.
+-- What steps leave unchanged stays so over several of them, and room for some elements is room for fewer.
 use Rattle.std.proofs.Common.{◌≡◌, ℕ, ◌+◌, ◌≤◌, ◌++◌, List, [], ap, inl, inr, length, refl, subst, sym, ◌∙◌, arith}
 use Rattle.lv_bodies.specs.declared.kinds.Kind.{Kind}
 use Rattle.lv_bodies.specs.declared.kinds.Kind.TheVariants as kind
@@ -32,7 +32,7 @@ near_short k lo hi s short = inl short
 pub AreKept-by : (table : List (List ℕ)) (edits : List Edit) (s : KindsState) → AreKept table edits s → AreKept s.table edits s
 AreKept-by table edits s kept = subst (λ t. AreKept t edits s) (sym kept.table_is) kept
 
--- so is what is ready
+-- what is ready is ready by the table that is there
 pub AreReady-by : (table : List (List ℕ)) (edits : List Edit) (s : KindsState) → AreReady table edits s → AreReady s.table edits s
 AreReady-by table edits s ready = record { kept = AreKept-by table edits s ready.kept; room = ready.room }
 
@@ -54,14 +54,14 @@ AreReady-alike table edits old new ready alike = record {
   room = alike.leaves.room _ ready.room;
 }
 
--- so it is where kinds follow what waited
+-- so it is if kinds follow what waited
 pub AreReady-followed : (table : List (List ℕ)) (edits : List Edit) (old new : KindsState) → AreReady table edits old → AreKept old.table edits new → LeavesOrFollows edits old new → AreReady table edits new
 AreReady-followed table edits old new ready kept leaves = record {
   kept = subst (λ t. AreKept t edits new) ready.kept.table_is kept;
   room = leaves.room _ ready.room;
 }
 
--- nothing changes where nothing is done
+-- nothing changes if nothing is done
 pub LeavesAll-same : (s : KindsState) → LeavesAll s s
 LeavesAll-same s = record { table = refl; followed = λ k. refl; blocks = λ k. refl; room = λ size room. room }
 
@@ -98,7 +98,7 @@ followed_all edits old new sums seen kind.Best = inr seen.best
 followed_all edits old new sums seen kind.Affine = inr seen.maps
 followed_all edits old new sums seen kind.Automaton = inr seen.states
 
--- so it is where each of them follows all edits
+-- so it is if each of them follows all edits
 pub LeavesOrFollows-followed : (edits : List Edit) (old new : KindsState) → new.table ≡ old.table → new.room ≡ old.room → new.sums ≡ old.sums → HaveSeen (length edits) new → LeavesOrFollows edits old new
 LeavesOrFollows-followed edits old new table room sums seen = record {
   table = table;
@@ -134,7 +134,7 @@ pub record SameTrees (old new : KindsState) : Type 0 where
   pub maps : new.maps ≡ old.maps
   pub states : new.states ≡ old.states
 
--- so what is kept is right after any edits, if the sum that was told last is
+-- so what is kept is right after any edits, if the sum that was returned last is
 pub kept_by_edits : (table : List (List ℕ)) (edits more : List Edit) (old new : KindsState) → SameTrees old new → IsSumOfRange (edits ++ more) new.last → AreKept table edits old → AreKept table (edits ++ more) new
 kept_by_edits table edits more old new same last kept = record {
   table_is = same.table ∙ kept.table_is;
@@ -148,11 +148,11 @@ kept_by_edits table edits more old new same last kept = record {
       (subst (IsLate (automaton_operations old.table) (edits ++ more)) (sym same.states) (late_edits (automaton_operations old.table) edits more old.states kept.states));
 }
 
--- the same where the sum alone is another
+-- what is kept is right after more edits, also with another last sum, if that is the sum of its range
 pub kept_after : (table : List (List ℕ)) (edits more : List Edit) (view old : KindsState) (last : LastSum) → view ≡ old → IsSumOfRange (edits ++ more) last → AreKept table edits old → AreKept table (edits ++ more) (record view { last = last })
 kept_after table edits more view old last same is kept =
     kept_by_edits table edits more view (record view { last = last }) (record { table = refl; room = refl; sums = refl; least = refl; greatest = refl; best = refl; maps = refl; states = refl }) is (subst (AreKept table edits) (sym same) kept)
 
--- the sum that was told last
+-- the sum that was returned last
 pub last_of : (table : List (List ℕ)) (edits : List Edit) (view old : KindsState) → view ≡ old → AreKept table edits old → IsSumOfRange edits view.last
 last_of table edits view old same kept = subst (λ (s : KindsState). IsSumOfRange edits s.last) (sym same) kept.last

@@ -1,4 +1,4 @@
--- The sum that was told last: what stays of it, and what a write makes of it.
+-- The sum that was returned last: when it stays, and how a write changes it.
 use Rattle.std.proofs.Common.{◌≡◌, ℕ, ℤ, ◌+◌, ◌-◌, ◌%◌, ◌^◌, ◌<◌, ◌≤◌, ◌⊎◌, Some, List, [], ◌∷◌, ◌++◌, length, take, slice_set, slice_range, refl, sym, ap, subst, ◌∙◌, inl, inr, arith}
 use Rattle.std.proofs.lemmas.List.{length-set, length-take, length_push}
 use Rattle.std.proofs.lemmas.Option.{cond_some, same_Some}
@@ -18,7 +18,7 @@ pub none_is : (edits : List Edit) (last : LastSum) → last ≡ record { lo = 0;
 none_is edits last none =
     subst (IsSumOfRange edits) (sym none) record { order = omega arith; inside = omega arith; value_is = refl }
 
--- a sum stays where its range has the same elements
+-- a sum stays if its range has the same elements
 stays : (edits more : List Edit) (last : LastSum) → IsSumOfRange edits last → last.hi ≤ length (list_of more) → slice_range (list_of more) last.lo last.hi ≡ slice_range (list_of edits) last.lo last.hi → IsSumOfRange more last
 stays edits more last is inside same = record { order = is.order; inside = inside; value_is = is.value_is ∙ ap (fold_of sum_operations) (sym same) }
 

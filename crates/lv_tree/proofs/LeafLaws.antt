@@ -42,7 +42,7 @@ module _ {S : Type 0} (o : Operations S) (es : List Edit) (all : All IsElement (
   count_lists : (lists : List (List ℤ)) (sums : List S) → sums ≡ map (fold_of o) lists → length lists ≡ length sums
   count_lists lists sums is = sym (ap length is ∙ length-map lists (fold_of o))
 
-  -- the leaf of a block folded anew, where it has one
+  -- the leaf of a block folded anew, if it has one
   pub renewed : (lists : List (List ℤ)) (sums : List S) (seen size b : ℕ) → 8 * length sums ≤ length (list_of es) → FollowsBy o es lists sums seen size → FollowsBy o es (slice_set lists b (block_of b (list_of es))) (slice_set sums b (leaf_of o es b)) seen size
   renewed lists sums seen size b whole h =
       let mine = block_of b (list_of es) in

@@ -1,4 +1,4 @@
--- A write that was accepted, told by its receipt.
+-- A write that was accepted, in terms of its receipt.
 use Rattle.std.proofs.Common.{◌≡◌, ℕ, ℤ, pos, None, sym, ap, ◌∙◌, subst}
 use Rattle.lv_edits.specs.declared.edit.Edit.{Edit}
 use Rattle.lv_edits.specs.declared.edit.Edit.TheVariants.{Write}
@@ -10,12 +10,12 @@ use Rattle.lv_edits.specs.Verdict.{receipt_of, verdict_of}
 use Rattle.lv_edits.proofs.HistoryLaws.{not_refused, unrefused_write}
 use Rattle.lv_tree.specs.LastSum.{IsWriteOver}
 
--- the element that stood where a write was answered so
+-- the element that a write replaced, as its receipt names it
 element_before : Receipt → ℤ
 element_before (Written n before) = before
 element_before other = pos 0
 
--- a write that was accepted and answered so is one over that element
+-- a write that was accepted, and whose result names an element as the one before, is a write over that element
 pub write_over : (h : History) (e : Edit) (r : Receipt) (i n : ℕ) (x before : ℤ) → IsLegalInLimits h → verdict_of h.limits h.journal e ≡ None → r ≡ receipt_of h.journal e → e ≡ Write i x → r ≡ Written n before → IsWriteOver h i before
 unfolding element_before
 write_over h e r i n x before legal free answered is told =

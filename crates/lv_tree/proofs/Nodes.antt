@@ -34,7 +34,7 @@ levels_agree lo hi p j k octave low high low_too high_too =
       ]
     ]
 
--- a node lies before all leaves, or is one
+-- the place of a node above the leaves is before all leaves
 pub before_leaves : (lo hi p j : ℕ) → hi ≤ 2 * lo → p * 2 ^ (j + 1) + 2 ^ (j + 1) ≤ hi → p < lo
 before_leaves lo hi p j octave high =
     let wide : p * 2 ≤ p * 2 ^ (j + 1) = mul-le-mul_left p (let more : 1 ≤ j + 1 = omega arith in pow_mono more) in
@@ -107,7 +107,7 @@ abbrev pub IsPast : ℕ → ℕ → ℕ → ℕ → Type 0
 IsPast lo hi node width = (node / 2 * (width * 2) < lo) ⊎ (hi < node / 2 * (width * 2) + width * 2)
 
 module _ {S : Type 0} (o : Operations S) (lo hi at : ℕ) (octave : hi ≤ 2 * lo) (before : List S) where
-  -- no node stands above one that is not there
+  -- if the leaves of a node's parent are not all there, no node above is left to be joined anew, so all nodes are right
   pub renewed : (cells : List S) (node width : ℕ) → Renewing o lo hi at before cells node width → IsPast lo hi node width → IsTree o lo hi cells
   renewed cells node width r past = record {
     node = λ j p low high.
@@ -234,7 +234,7 @@ module _ {S : Type 0} (o : Operations S) (within : S → ℕ → Type 0) (laws :
             get_or-set_other cells m p s o.identity other ∙ r.rest j p (omega (arith, up)) from to;
       }
 
--- the two below a node that stands have their places
+-- the two nodes below a node that covers leaves only have their places
 pub below_inside : (lo hi node width level : ℕ) → width ≡ 2 ^ level → node / 2 * (width * 2) + width * 2 ≤ hi → 2 * (node / 2) + 1 < hi
 below_inside lo hi node width level wide high =
     let some : 0 < 2 ^ level = pow_pos level in

@@ -17,7 +17,7 @@ use Rattle.lv_tree.specs.SliceLaws.{range_cut}
 use Rattle.lv_tree.specs.Blocks.{AreLeaves}
 use Rattle.lv_tree.specs.Follows.{FollowsAll, FollowsBy, Stands}
 
--- after the last edit every block stands
+-- every block is unchanged since the last edit
 stands_now : (es : List Edit) (b : ℕ) → Stands es (length es) b
 stands_now es b = record {
   spared = λ k e low is. absurd (omega (arith, low, slice_get_within es k e is));

@@ -22,7 +22,7 @@ run_more xs from n d h =
     let one : n + 1 ≡ suc n = omega arith in
     ap (λ k. take k (drop from xs)) one ∙ ap (take (suc n)) (drop_more xs from d h)
 
--- without what lies in front
+-- a run of a list without its first entries
 pub run_past : {T : Type 0} (xs : List T) (gone from n : ℕ) → gone ≤ from → run_of xs from n ≡ run_of (drop gone xs) (from - gone) n
 run_past xs gone from n h =
     let whole : gone + (from - gone) ≡ from = omega arith in

@@ -21,7 +21,7 @@ pub counted : {B S : Type 0} (now : Leaves B S) (b : B) (first room lo hi : ℕ)
 counted now b first room lo hi xs is inside =
     (sym (ap (λ n. n.first) is), sym (ap (λ n. length n.sums) is) ∙ run_length xs lo hi inside)
 
--- without what lies in front
+-- the leaves without the first ones
 pub run_expired : {T : Type 0} (xs : List T) (lo count hi : ℕ) → lo + count ≤ hi → run_of xs (lo + count) (hi - (lo + count)) ≡ drop count (run_of xs lo (hi - lo))
 run_expired xs lo count hi few =
     let whole : hi - lo ≡ count + (hi - (lo + count)) = omega (arith, few) in
@@ -29,7 +29,7 @@ run_expired xs lo count hi few =
     ∙ sym (drop-take count (hi - (lo + count)) (drop lo xs))
     ∙ ap (λ k. drop count (take k (drop lo xs))) (sym whole)
 
--- also where all of it is gone
+-- also if all of it is gone
 run_gone : {T : Type 0} (xs : List T) (lo count hi to : ℕ) → hi ≤ length xs → lo ≤ hi → to ≡ min count (hi - lo) → run_of xs (lo + to) (hi - (lo + to)) ≡ drop count (run_of xs lo (hi - lo))
 run_gone xs lo count hi to inside order is =
     elim (cases_lt (hi - lo) count) [
@@ -64,7 +64,7 @@ folded_seen {B} {S} of_body within now b first room lo hi xs is laws from to ord
     subst (λ (n : Leaves B S). AreFoldsOf (of_body n.body) lists n.sums → part_of (of_body b) xs (lo + (from - first)) (lo + (to - first)) ≡ fold_of (of_body n.body) (end_to_end (leaf_range n.first lists from to))) is
     (λ h. folded (of_body b) within laws lo hi (from - first) (to - first) xs lists h (omega (arith, order)) high)
 
--- the same of leaves that are numbered from 0
+-- what a range of what is seen comes to, if leaves are numbered from 0
 pub folded_now : {B S : Type 0} (of_body : B → Operations S) (within : S → ℕ → Type 0) (now : Leaves B S) (b : B) (first room lo hi : ℕ) (xs : List S) → seen_of b first room lo hi xs ≡ now → LongLaws (of_body b) within → (from to : ℕ) → from ≤ to → lo + to ≤ hi → (lists : List (List ℤ)) → AreFoldsOf (of_body now.body) lists now.sums → part_of (of_body b) xs (lo + from) (lo + to) ≡ fold_of (of_body now.body) (end_to_end (slice_range lists from to))
 folded_now {B} {S} of_body within now b first room lo hi xs is laws from to order high lists =
     subst (λ (n : Leaves B S). AreFoldsOf (of_body n.body) lists n.sums → part_of (of_body b) xs (lo + from) (lo + to) ≡ fold_of (of_body n.body) (end_to_end (slice_range lists from to))) is

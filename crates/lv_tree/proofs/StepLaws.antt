@@ -53,7 +53,7 @@ module _ (es : List Edit) (legal : replayed es ≡ Some (list_of es)) where
   pub size_before : (at : ℕ) → at ≤ length es → length (list_of (take at es)) ≤ at
   size_before at inside = omega (arith, no_more_than_edits (take at es) (legal_beginnings es legal at), length-take at es)
 
--- the lists of leaves after an edit, where each leaf's block is spared by it or as it is now
+-- the lists of leaves after an edit, if each leaf's block is spared by it or as it is now
 module _ {S : Type 0} (o : Operations S) (es : List Edit) where
   advanced : (e : Edit) (lists : List (List ℤ)) (sums : List S) (at size after : ℕ) → FollowsBy o es lists sums at size → slice_get es at ≡ Some e → after ≡ length (list_of (take (at + 1) es)) → 8 * length sums ≤ after → ((b : ℕ) → b < length sums → Spares b e ⊎ (slice_index_or lists b [] ≡ block_of b (list_of es))) → FollowsBy o es lists sums (at + 1) after
   advanced e lists sums at size after h is after_is within done = record {

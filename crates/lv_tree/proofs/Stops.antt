@@ -1,4 +1,4 @@
--- Where a node over another summary stays what it was, those above it are right as they stand.
+-- If a node over another summary has the value that it had, those above it are right already.
 use Rattle.std.proofs.Common.{◌≡◌, ℕ, ◌+◌, ◌-◌, ◌*◌, ◌/◌, ◌^◌, ◌<◌, ◌≤◌, List, take, drop, slice_index_or, slice_set, sym, ap, ◌∙◌, subst, arith, inl, inr}
 use Rattle.std.proofs.lemmas.Bool.{cases_lt}
 use Rattle.std.proofs.lemmas.List.{get_or-set_other}
@@ -24,7 +24,7 @@ module _ {S : Type 0} (o : Operations S) (within : S → ℕ → Type 0) (laws :
       let other : p ≡ at → ⊥ = λ here. omega (arith, here, front, low) in
       r.rest j p up from to ∙ sym (get_or-set_other before at p was.other o.identity other) ∙ was.tree.node j p from to
 
-  -- a part around another, in which alone the leaf lies, comes to the same where that does
+  -- the changed leaf is inside an inner part: if that comes to the same, a part around it comes to the same
   around_same : (cells : List S) → drop lo cells ≡ drop lo before → (a b c d : ℕ) → lo ≤ a → a ≤ b → b ≤ at → at < c → c ≤ d → d ≤ hi → part_of o older b c ≡ part_of o cells b c → part_of o older a d ≡ part_of o cells a d
   around_same cells same a b c d from left start end right to middle =
       let now = subst (λ l. AreFolds o (take (hi - lo) l)) (sym same) folds in

@@ -19,7 +19,7 @@ begun_with : (xs : List ℤ) (a b d : ℤ) → a +ℤ d ≡ b → fold ◌+ℤ�
 begun_with [] a b d e = e
 begun_with (x ∷ xs) a b d e = begun_with xs (a +ℤ x) (b +ℤ x) d (omega (arith, ints, e))
 
--- where an element is replaced, a sum takes the new one for the one before
+-- if an element is replaced, a sum takes the new one for the one before
 total_set : (xs : List ℤ) (i : ℕ) (x a : ℤ) → i < length xs → fold ◌+ℤ◌ a (slice_set xs i x) +ℤ slice_index_or xs i (pos 0) ≡ fold ◌+ℤ◌ a xs +ℤ x
 total_set [] i x a inside = absurd (omega (arith, inside))
 total_set (y ∷ ys) zero x a inside = omega (arith, ints, begun_with ys a (a +ℤ x) x refl, begun_with ys a (a +ℤ y) y refl)

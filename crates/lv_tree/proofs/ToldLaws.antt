@@ -1,4 +1,4 @@
--- That the folds by which the kinds are kept tell their summaries.
+-- That the folds by which the kinds are kept give their summaries.
 use Rattle.std.proofs.Common.{◌≡◌, ℕ, ℤ, ◌-◌, ◌<◌, ◌⊎◌, Bool, Option, Some, None, List, [], ◌∷◌, length, nat_lt, All, refl, sym, ap, ◌∙◌, inl, inr, ◌≤◌, slice_range, arith}
 use Rattle.std.specs.Bool.{then_some}
 use Rattle.std.specs.Int.{int_min, int_max}
@@ -20,7 +20,7 @@ use Rattle.lv_tree.specs.KindSummaries.{summary_by}
 use Rattle.lv_tree.specs.OfSixLaws.{affine-part, automaton-part, best-part, greatest-part, least-part, sum-part}
 use Rattle.lv_tree.specs.declared.kind_summaries.KindSummary.TheVariants.{Sum, Least, Greatest, Best, Affine, Automaton}
 
--- a bare fold where there are elements, and none where there are none, is the fold that may be missing
+-- a bare fold if there are elements, and none if there are none, is the fold that may be missing
 inside_if : {T : Type 0} (bare : Operations T) (may : Operations (Option T)) (xs : List ℤ) → may.identity ≡ None → (0 < length xs → Some (fold_of bare xs) ≡ fold_of may xs)
     → then_some (nat_lt 0 (length xs)) (fold_of bare xs) ≡ fold_of may xs
 inside_if bare may [] none inside = sym none
@@ -28,7 +28,7 @@ inside_if bare may (x ∷ xs) none inside =
     let some : 0 < length (x ∷ xs) = omega arith in
     ap (λ any. then_some any (fold_of bare (x ∷ xs))) (lt-ltb 0 (length (x ∷ xs)) some) ∙ inside some
 
--- the same of such a fold, and of whether there are elements
+-- a value that is known to be such a fold, with a flag that is known to say whether there are elements, is the fold that may be missing
 told_if : {T : Type 0} (bare : Operations T) (may : Operations (Option T)) (xs : List ℤ) (some : Bool) (s : T) → may.identity ≡ None → (0 < length xs → Some (fold_of bare xs) ≡ fold_of may xs)
     → some ≡ nat_lt 0 (length xs) → s ≡ fold_of bare xs → then_some some s ≡ fold_of may xs
 told_if bare may xs some s none inside is fold =
@@ -56,7 +56,7 @@ module _ (table : List (List ℕ)) (xs : List ℤ) where
   pub automaton_told : (by : List (List ℕ)) (s : List ℕ) → table ≡ by → s ≡ fold_of (automaton_operations by) xs → Automaton s ≡ summary_by table kind.Automaton xs
   automaton_told by s is fold = ap Automaton (fold ∙ ap (λ t. fold_of (automaton_operations t) xs) (sym is) ∙ sym (automaton-part table xs))
 
--- a range has elements where it ends past its beginning
+-- a range has elements if it ends past its beginning
 some_of : (n lo hi : ℕ) → n ≡ hi - lo → (lo < hi) ⊎ (hi ≤ lo) → nat_lt lo hi ≡ nat_lt 0 n
 some_of n lo hi is (inl apart) = lt-ltb lo hi apart ∙ sym (lt-ltb 0 n (omega (arith, is)))
 some_of n lo hi is (inr none) = le-ltb lo hi none ∙ sym (le-ltb 0 n (omega (arith, is)))

@@ -1,4 +1,4 @@
--- Walks over elements and over whole blocks of them, up to where a test on their fold becomes true.
+-- Walks over elements and over whole blocks of them, up to the place at which a test on their fold becomes true.
 use Rattle.std.proofs.Common.{◌≡◌, ℕ, ℤ, Bool, true, false, ◌+◌, ◌-◌, ◌*◌, ◌^◌, ◌<◌, ◌≤◌, List, [], ◌++◌, length, map, take, drop, slice_index_or, slice_range, refl, sym, ap, ◌∙◌, subst, arith, inl, inr, All, length-drop}
 use Rattle.std.proofs.lemmas.Bool.{cases_lt}
 use Rattle.std.proofs.lemmas.List.{length-take}
@@ -36,7 +36,7 @@ module _ {S : Type 0} (o : Operations S) (within : S → ℕ → Type 0) (laws :
       t_is ∙ ap (o.join (o.lift x)) s_is ∙ ap (λ r. o.join r (fold_of o (slice_range xs at hi))) alone ∙ (folds_meet o within laws xs all few i at hi (omega arith) order).is
 
 module _ {S : Type 0} (o : Operations S) (test : S → Bool) (xs : List ℤ) where
-  -- where a walk begins
+  -- the beginning of a walk
   pub up_begins : (lo : ℕ) (s : S) → s ≡ o.identity → HasWalkedUp o test xs lo lo s
   up_begins lo s is = record {
     order = omega arith;
@@ -72,7 +72,7 @@ module _ {S : Type 0} (o : Operations S) (test : S → Bool) (xs : List ℤ) whe
         ap (λ k. test (fold_of o (slice_range xs k hi))) back ∙ ap test (sym w.sum_is) ∙ w.after (omega (arith, some, more));
   }
 
-  -- where it does not, the walk has come further
+  -- if it does not, the walk has come further
   pub up_goes_on : (lo at : ℕ) (s t : S) → HasWalkedUp o test xs lo at s → t ≡ fold_of o (slice_range xs lo (at + 1)) → test t ≡ false → HasWalkedUp o test xs lo (at + 1) t
   up_goes_on lo at s t w t_is fails = record { order = omega (arith, w.order); sum_is = t_is; before = λ some. fails }
 

@@ -1,4 +1,4 @@
--- Where a test on joins becomes true, on the way up or down.
+-- The place at which a test on joins becomes true, on the way up or down.
 use Rattle.std.proofs.Common.{◌≡◌, ℕ, zero, suc, Bool, true, false, ◌+◌, ◌-◌, ◌*◌, ◌/◌, ◌%◌, ◌^◌, ◌<◌, ◌≤◌, List, ◌++◌, length, slice_index_or, refl, sym, ap, ◌∙◌, subst, arith, inl, inr}
 use Rattle.std.proofs.Math.Pow.{pow_pos}
 use Rattle.std.proofs.lemmas.Bool.{cases_eq}
@@ -83,7 +83,7 @@ module _ {S : Type 0} (o : Operations S) (within : S → ℕ → Type 0) (laws :
   step_way false folds node level sum low high fits is = let m = step_up folds node level sum low (omega (arith, high, fits)) is in record { may = m.may; is = m.is }
   step_way true folds node level sum low high fits is = let m = step_down folds node level sum (omega (arith, low, fits)) high is in record { may = m.may; is = m.is }
 
-  -- where the way begins, nothing is joined yet
+  -- at the beginning of the way, nothing is joined yet
   reached_first : (down : Bool) → AreOnWay down o start (run_of cells from (to - from)) → start ≡ reached down o cells start from to (begin_of down from to)
   reached_first false folds = let none : 0 ≡ from - from = omega arith in ap (λ k. joined_on o start (run_of cells from k)) none
   reached_first true folds = sym (before_none o within laws cells start from to folds)
@@ -271,7 +271,7 @@ half_past down from to node width wide past even = subst (λ p. left_of down fro
   less false p = omega (arith, p, even, wide)
   less true p = omega (arith, p, even, wide)
 
--- where nothing is left, the way ends
+-- if nothing is left, the way ends
 pub seek_ends : (down : Bool) {S : Type 0} (o : Operations S) (test : S → Bool) (cells : List S) (start : S) (from to node width : ℕ) (sum : S) → Seeking down o test cells start from to node width sum → left_of down from to (node * width) < width → width ≤ 1 → HasComeTo down o test cells start from to node sum
 seek_ends down o test cells start from to node width sum k past narrow =
     let some : 0 < 2 ^ k.level = pow_pos k.level in

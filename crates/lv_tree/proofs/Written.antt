@@ -91,7 +91,7 @@ was_written o cells lo hi at s tree folds =
       folds = subst (λ l. AreFolds o (run_of l lo (hi - lo))) (sym back) folds;
     }
 
--- the same leaves where nothing from `lo` on has changed
+-- leaves are the same if nothing from `lo` on has changed
 pub leaves_same : {S : Type 0} (xs ys : List S) (lo count : ℕ) → drop lo xs ≡ drop lo ys → run_of xs lo count ≡ run_of ys lo count
 leaves_same xs ys lo count same = ap (take count) same
 

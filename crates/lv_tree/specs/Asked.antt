@@ -1,4 +1,4 @@
--- A question by one kind.
+-- A query by one kind.
 use Rattle.std.specs.Prelude.{◌≡◌, ℕ, None, List, length}
 use Rattle.lv_bodies.specs.declared.kinds.Kind.{Kind}
 use Rattle.lv_edits.specs.declared.edit.Edit.{Edit}

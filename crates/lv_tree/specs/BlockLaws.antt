@@ -62,7 +62,7 @@ blocks_of-end_to_end (suc n) xs =
     let far : 8 + 8 * n ≡ 8 * suc n = omega arith in
     ap (λ l. take 8 xs ++ l) (blocks_of-end_to_end n (drop 8 xs)) ∙ sym (take-add 8 (8 * n) xs) ∙ ap (λ k. take k xs) far
 
--- those from one up to another
+-- the blocks from one up to another, end to end
 pub range_of_blocks : (n a b : ℕ) (xs : List ℤ) → a ≤ b → b ≤ n → end_to_end (slice_range (blocks_of n xs) a b) ≡ slice_range xs (8 * a) (8 * b)
 range_of_blocks n a b xs order inside =
     let all : 8 * (b - a) ≡ 8 * b - 8 * a = omega arith in
@@ -104,7 +104,7 @@ block_of-longer b xs ys inside =
     ap (take 8) (drop-append-le (b * 8) xs ys (omega (arith, inside)))
     ∙ take-append-le 8 (drop (b * 8) xs) ys (omega (arith, inside, length-drop (b * 8) xs))
 
--- and it is an earlier one where whole blocks before it are dropped
+-- a block of what is left, if whole blocks in front are dropped, is a later block of the list
 block_of-dropped : (k b : ℕ) (xs : List ℤ) → block_of b (drop (8 * k) xs) ≡ block_of (k + b) xs
 block_of-dropped k b xs =
     let far : 8 * k + b * 8 ≡ (k + b) * 8 = omega arith in
@@ -155,7 +155,7 @@ module _ {S : Type 0} (o : Operations S) where
         sums_are = λ b inside. get_or-drop k sums b o.identity ∙ h.sums_are (k + b) (omega (arith, inside, long, few)) ∙ ap (fold_of o) (sym (block_of-dropped k b xs));
       }
 
-  -- after an element was replaced, and the leaf of its block folded anew where it has one
+  -- after an element was replaced, and the leaf of its block folded anew if it has one
   pub leaves_set : (xs : List ℤ) (sums : List S) (i : ℕ) (x : ℤ) (s : S) → s ≡ fold_of o (block_of (i / 8) (slice_set xs i x)) → AreLeaves o xs sums → AreLeaves o (slice_set xs i x) (slice_set sums (i / 8) s)
   leaves_set xs sums i x s is h =
       let long = length-set sums (i / 8) s in

@@ -3,7 +3,7 @@ use Rattle.std.specs.Prelude.{◌≡◌, ℕ, ℤ, ◌*◌, ◌<◌, ◌≤◌, 
 use Rattle.std.specs.List.{slice_index_or}
 use Rattle.lv_bodies.specs.Body.{Operations, fold_of}
 
--- the eight elements of a block, where it is whole
+-- the eight elements of a block, if it is whole
 abbrev pub block_of : ℕ → List ℤ → List ℤ
 block_of b xs = take 8 (drop (b * 8) xs)
 

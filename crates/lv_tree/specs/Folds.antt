@@ -25,6 +25,6 @@ pub record AreFolds {S : Type 0} (o : Operations S) (sums : List S) : Type 0 whe
   pub lists : List (List ℤ)
   pub of_lists : AreFoldsOf o lists sums
 
--- those of the leaves from number lo up to hi
+-- of some lists, or summaries, one for each leaf: those of the leaves from number lo up to hi
 abbrev pub leaf_range : {T : Type 0} → ℕ → List T → ℕ → ℕ → List T
 leaf_range first leaves lo hi = slice_range leaves (lo - first) (hi - first)

@@ -33,13 +33,14 @@ Spares b (Reserve n) = Unit {0}
 Spares b (Swap i j) = (i / 8 ≢ b) × (j / 8 ≢ b)
 Spares b (Truncate n) = Unit {0}
 
--- a block stands as the first `seen` edits left it: no later edit overwrites an element of it, and after none of them is it cut
+-- a block is unchanged since the first `seen` edits: no later edit overwrites an element of it, and after each later edit the list still has all
+-- eight of its elements
 pub record Stands (es : List Edit) (seen b : ℕ) : Type 0 where
   pub spared : (k : ℕ) (e : Edit) → seen ≤ k → slice_get es k ≡ Some e → Spares b e
   pub whole : (k : ℕ) → seen < k → k ≤ length es → 8 * b + 8 ≤ length (list_of (take k es))
 
--- leaves over the first blocks follow a journal up to its first `seen` edits, after which there were `size` elements: each leaf is the
--- fold of eight elements, and of its block's wherever that stands
+-- leaves over the first blocks follow a journal up to its first `seen` edits, after which there were `size` elements: each leaf is the fold of
+-- some eight elements, and these are its block's elements if the block is unchanged since then
 pub record FollowsBy {S : Type 0} (o : Operations S) (es : List Edit) (lists : List (List ℤ)) (sums : List S) (seen size : ℕ) : Type 0 where
   pub order : seen ≤ length es
   pub size_is : size ≡ length (list_of (take seen es))
@@ -48,12 +49,12 @@ pub record FollowsBy {S : Type 0} (o : Operations S) (es : List Edit) (lists : L
   pub blocks : All IsBlock lists
   pub right : (b : ℕ) → b < length sums → Stands es seen b → slice_index_or lists b [] ≡ block_of b (list_of es)
 
--- the same with some such lists
+-- leaves follow a journal, with some lists of eight elements as those that the leaves are folds of
 pub record Follows {S : Type 0} (o : Operations S) (es : List Edit) (sums : List S) (seen size : ℕ) : Type 0 where
   pub lists : List (List ℤ)
   pub by_lists : FollowsBy o es lists sums seen size
 
--- the same of a tree with what it knows of the journal
+-- a tree follows a journal: its leaves do, up to as many edits as it has followed
 abbrev pub IsLate : {B S : Type 0} → Operations S → List Edit → Following B S → Type 0
 IsLate o es late = Follows o es late.sums late.seen late.size
 

@@ -1,4 +1,4 @@
--- What the trees of all kinds keep beside what they tell.
+-- What the trees of all kinds keep in addition to their specified state: how much room each of them has.
 use Rattle.std.specs.Prelude.{◌≤◌}
 use Rattle.lv_tree.specs.Kinds.{KindsState}
 

@@ -41,6 +41,6 @@ shown_of (Automaton s) = shown.Automaton s
 abbrev pub summary_by : List (List ℕ) → Kind → List ℤ → KindSummary
 summary_by table k xs = part_of k (fold_of (six_operations_by table) xs)
 
--- the same with the program's automaton
+-- the summary of some elements by a kind, with the program's automaton
 abbrev pub summary_of : Kind → List ℤ → KindSummary
 summary_of k xs = summary_by program_table k xs

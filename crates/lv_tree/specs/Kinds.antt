@@ -1,4 +1,4 @@
--- What a vector keeps of what it was asked, by kind: a tree a kind, which follows the vector's edits at questions.
+-- What is kept of a vector's queries, by kind: a tree for each kind, which follows the vector's edits at queries.
 use Rattle.std.specs.Prelude.{◌≡◌, ◌≢◌, ◌⊎◌, ℕ, ℤ, ◌+◌, ◌*◌, ◌/◌, ◌<◌, ◌≤◌, List, length}
 use Rattle.lv_bodies.specs.AffineMaps.{affine_operations}
 use Rattle.lv_bodies.specs.Extremes.{highest_operations, lowest_operations}
@@ -22,7 +22,7 @@ use Rattle.lv_tree.specs.Follows.{Following, IsLate}
 use Rattle.lv_tree.specs.LastSum.{IsSumOfRange}
 use Rattle.lv_tree.specs.declared.last_sum.LastSum.{LastSum}
 
--- the automaton's table; for how many blocks of eight elements there is room; the sum told last; and the tree of each kind, whose
+-- the automaton's table; for how many blocks of eight elements there is room; the sum that was returned last; and the tree of each kind, whose
 -- rows are bare for the least, the greatest and the best run
 pub record KindsState : Type 0 where
   pub table : List (List ℕ)
@@ -44,7 +44,7 @@ followed_by s kind.Best = s.best.seen
 followed_by s kind.Affine = s.maps.seen
 followed_by s kind.Automaton = s.states.seen
 
--- of how many blocks it has a leaf
+-- of how many blocks a kind has a leaf
 abbrev pub blocks_of : KindsState → Kind → ℕ
 blocks_of s kind.Sum = length s.sums.sums
 blocks_of s kind.Least = length s.least.sums
@@ -53,8 +53,8 @@ blocks_of s kind.Best = length s.best.sums
 blocks_of s kind.Affine = length s.maps.sums
 blocks_of s kind.Automaton = length s.states.sums
 
--- what is kept is right for a vector with these edits, and by this table: each kind follows them, and the sum told last is that of its
--- range
+-- what is kept is right for a vector with these edits, and by this table: each kind follows them, and the sum that was returned last is that of
+-- its range
 pub record AreKept (table : List (List ℕ)) (edits : List Edit) (s : KindsState) : Type 0 where
   pub table_is : s.table ≡ table
   pub last : IsSumOfRange edits s.last
@@ -85,25 +85,25 @@ pub record LeavesAll (old new : KindsState) : Type 0 where
 abbrev pub IsLeftOrFollows : List Edit → Kind → KindsState → KindsState → Type 0
 IsLeftOrFollows edits k old new = ((followed_by new k ≡ followed_by old k) × (blocks_of new k ≡ blocks_of old k)) ⊎ (followed_by new k ≡ length edits)
 
--- so does each kind, and there is room for no less
+-- each kind follows no more and no less, or it follows all edits, and there is room for no less
 pub record LeavesOrFollows (edits : List Edit) (old new : KindsState) : Type 0 where
   pub table : new.table ≡ old.table
   pub followed : (k : Kind) → IsLeftOrFollows edits k old new
   pub room : (size : ℕ) → HaveRoomFor old size → HaveRoomFor new size
 
--- the same of all kinds but one
+-- no kind but this one follows more or less, and there is room for no less
 pub record LeavesOthers (kind : Kind) (old new : KindsState) : Type 0 where
   pub table : new.table ≡ old.table
   pub followed : (k : Kind) → k ≢ kind → followed_by new k ≡ followed_by old k
   pub blocks : (k : Kind) → k ≢ kind → blocks_of new k ≡ blocks_of old k
   pub room : (size : ℕ) → HaveRoomFor old size → HaveRoomFor new size
 
--- so it is where room is made, and what is kept is right for whatever it was right for
+-- as after room was made: no kind follows more or less, and what is kept is right for whatever it was right for
 pub record KeepsAlike (old new : KindsState) : Type 0 where
   pub leaves : LeavesAll old new
   pub kept : (table : List (List ℕ)) (edits : List Edit) → AreKept table edits old → AreKept table edits new
 
--- a range is answered without the kind's tree: it is short, or its sum was told last
+-- a range is answered without the kind's tree: it is short, or it is the one whose sum was returned last
 abbrev pub IsNear : Kind → ℕ → ℕ → KindsState → Type 0
 IsNear k lo hi s = (hi ≤ lo + 64) ⊎ ((k ≡ kind.Sum) × (s.last.lo ≡ lo) × (s.last.hi ≡ hi))
 

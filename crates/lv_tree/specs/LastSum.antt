@@ -1,4 +1,4 @@
--- The sum that was told last, and what a write makes of it.
+-- The sum that was returned last, and how a write changes it.
 use Rattle.std.specs.Prelude.{◌≡◌, ℕ, ℤ, pos, ◌+◌, ◌%◌, ◌^◌, ◌<◌, ◌≤◌, Some, List, length}
 use Rattle.std.specs.List.{slice_index_or, slice_range}
 use Rattle.lv_bodies.specs.Body.{fold_of}
@@ -18,12 +18,12 @@ pub record IsSumOfRange (edits : List Edit) (last : LastSum) : Type 0 where
   pub inside : last.hi ≤ length (list_of edits)
   pub value_is : last.value ≡ sum_of_range edits last.lo last.hi
 
--- a write at an index of a legal history's list, where this element stands
+-- a write at an index of a legal history's list, where `before` is the element that it replaces
 pub record IsWriteOver (h : History) (i : ℕ) (before : ℤ) : Type 0 where
   pub legal : replayed h.journal ≡ Some (list_of h.journal)
   pub inside : i < length (list_of h.journal)
   pub before_is : before ≡ slice_index_or (list_of h.journal) i (pos 0)
 
--- what a sum modulo 2 ^ 64 takes where one element is replaced by another
+-- what has to be added to a sum modulo 2 ^ 64 when one element is replaced by another
 abbrev pub IsDifference : ℤ → ℤ → ℕ → Type 0
 IsDifference before x more = (more + remainder before (2 ^ 64)) % 2 ^ 64 ≡ remainder x (2 ^ 64)

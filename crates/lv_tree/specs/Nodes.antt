@@ -1,5 +1,5 @@
--- How the nodes lie: leaves are cells from place lo up to hi, with hi at most 2 * lo. Over 2 ^ j leaves from place p * 2 ^ j on
--- stands the node at place p, where all of them are leaves. So the node at p lies over those at 2 * p and 2 * p + 1.
+-- Where nodes are stored: leaves are the cells from place lo up to hi, with hi at most 2 * lo. The node at place p covers the 2 ^ j leaves from
+-- place p * 2 ^ j on, if all of these are leaves. So the children of the node at p are at 2 * p and 2 * p + 1.
 use Rattle.std.specs.Prelude.{◌≡◌, ◌⊎◌, ℕ, ◌+◌, ◌-◌, ◌*◌, ◌^◌, ◌<◌, ◌≤◌, List, length, slice_index_or, slice_set}
 use Rattle.lv_bodies.specs.Body.{Operations}
 use Rattle.lv_tree.specs.Folds.{AreFolds}
@@ -9,11 +9,11 @@ use Rattle.lv_tree.specs.Parts.{part_of, run_of}
 abbrev pub IsRight : {S : Type 0} → Operations S → List S → ℕ → ℕ → Type 0
 IsRight o cells j p = slice_index_or cells p o.identity ≡ part_of o cells (p * 2 ^ j) (p * 2 ^ j + 2 ^ j)
 
--- each node that stands is right
+-- each node that covers leaves only is right
 pub record IsTree {S : Type 0} (o : Operations S) (lo hi : ℕ) (cells : List S) : Type 0 where
   pub node : (j p : ℕ) → lo ≤ p * 2 ^ j → p * 2 ^ j + 2 ^ j ≤ hi → IsRight o cells j p
 
--- the same but for those over the leaf `at` from level k on
+-- each node that covers leaves only is right, apart from those over the leaf `at` from level k on
 pub record IsTreeBut {S : Type 0} (o : Operations S) (lo hi at k : ℕ) (cells : List S) : Type 0 where
   pub node : (j p : ℕ) → lo ≤ p * 2 ^ j → p * 2 ^ j + 2 ^ j ≤ hi → (j < k) ⊎ ((at < p * 2 ^ j) ⊎ (p * 2 ^ j + 2 ^ j ≤ at)) → IsRight o cells j p
 
@@ -23,7 +23,7 @@ pub record WasTree {S : Type 0} (o : Operations S) (lo hi at : ℕ) (cells : Lis
   pub tree : IsTree o lo hi (slice_set cells at other)
   pub folds : AreFolds o (run_of (slice_set cells at other) lo (hi - lo))
 
--- there is room for so many leaves: in cells that are written, or in memory for twice as many of which none is
+-- there is room for so many leaves: in cells that are written, or in memory for twice as many cells, none of them written yet
 pub record HasCells (room lo size capacity : ℕ) : Type 0 where
   pub cells : (lo + room ≤ size) ⊎ ((size ≡ 0) × (2 * room ≤ capacity))
   pub few : room ≤ 2 ^ 61

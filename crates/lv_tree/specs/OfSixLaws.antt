@@ -11,7 +11,7 @@ use Rattle.lv_bodies.specs.Sums.{sum_operations}
 use Rattle.lv_bodies.specs.Tables.{automaton_operations}
 use Rattle.lv_bodies.proofs.PairFolds.{fold_of-pair}
 
--- a pair's fold, where that of the second side is known
+-- a pair's fold, if that of the second side is known
 pair_fold : {S T : Type 0} (o : Operations S) (p : Operations T) (xs : List ℤ) (t : T) → fold_of p xs ≡ t → fold_of (pair_operations o p) xs ≡ (fold_of o xs, t)
 pair_fold o p xs t e = fold_of-pair o p xs ∙ ap (λ u. (fold_of o xs, u)) e
 
@@ -46,7 +46,7 @@ module _ (table : List (List ℕ)) (xs : List ℤ) where
       let least = pair_fold least_operations from_greatest xs _ greatest in
       pair_fold sum_operations from_least xs _ least
 
-  -- so each of them is a part of it
+  -- each of the six folds is a part of that fold
   pub sum-part : (fold_of (six_operations_by table) xs).0 ≡ fold_of sum_operations xs
   sum-part = ap (λ s. s.0) fold_of-six
 

@@ -24,7 +24,7 @@ pub record AreInOrder {S : Type 0} (o : Operations S) (s : S) (sums : List S) : 
   pub sums_are : sums ≡ map (fold_of o) lists
   pub can : CanFoldLong (front ++ end_to_end lists)
 
--- the same of others before a summary
+-- summaries and one more behind them are the folds of lists that may be folded end to end
 pub record AreBefore {S : Type 0} (o : Operations S) (sums : List S) (s : S) : Type 0 where
   pub lists : List (List ℤ)
   pub back : List ℤ

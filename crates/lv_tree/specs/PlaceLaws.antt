@@ -19,7 +19,7 @@ use Rattle.lv_tree.specs.SliceLaws.{back_of_slice, front_of_slice, nothing_here,
 above_itself : (x : ℤ) → x <ℤ x → ⊥
 above_itself x h = omega (arith, ints)
 
--- the last element of a range: where it stands, and that it is one of those of each longer range
+-- the last element of a range that ends earlier: its index, and that the longer range contains it
 record IsLastElement (xs : List ℤ) (lo hi end : ℕ) (x : ℤ) : Type 0 where
   stands : slice_get xs (end - 1) ≡ Some x
   parts : slice_range xs lo end ≡ slice_range xs lo (end - 1) ++ x ∷ []
@@ -42,11 +42,11 @@ module _ (xs : List ℤ) (lo hi : ℕ) (order : lo ≤ hi) (inside : hi ≤ leng
             (subst (λ ys. Contains ys x) (sym parts) (Contains-push (slice_range xs lo (end - 1)) x)));
       }
 
-  -- there is no element only where the range is empty
+  -- there is no element only if the range is empty
   pub empty_range : slice_range xs lo hi ≡ [] → lo ≡ hi
   empty_range none = omega (arith, length-slice_range xs lo hi order inside, ap length none)
 
-  -- the least stands at the end that is found for it
+  -- the least element is the last one before the end that is found for it
   pub least_stands : (value : ℤ) (end : ℕ) → IsPlainLeast (slice_range xs lo hi) (Some value) → IsFirstEnd (AtMost value) xs lo hi end → IsFirstLeast xs lo hi (end - 1) value
   least_stands value end is f =
       let x = get_or xs (end - 1) (pos 0) in
@@ -60,7 +60,7 @@ module _ (xs : List ℤ) (lo hi : ℕ) (order : lo ≤ hi) (inside : hi ≤ leng
   pub least_is_met : (value : ℤ) → IsPlainLeast (slice_range xs lo hi) (Some value) → Misses (AtMost value) (slice_range xs lo hi) → ⊥
   least_is_met value is misses = above_itself value (All-contains (λ y. value <ℤ y) (slice_range xs lo hi) value misses is.reached)
 
-  -- so is the greatest
+  -- the greatest element is the last one before the end that is found for it
   pub greatest_stands : (value : ℤ) (end : ℕ) → IsPlainGreatest (slice_range xs lo hi) (Some value) → IsFirstEnd (AtLeast value) xs lo hi end → IsFirstGreatest xs lo hi (end - 1) value
   greatest_stands value end is f =
       let x = get_or xs (end - 1) (pos 0) in
@@ -73,7 +73,7 @@ module _ (xs : List ℤ) (lo hi : ℕ) (order : lo ≤ hi) (inside : hi ≤ leng
   pub greatest_is_met : (value : ℤ) → IsPlainGreatest (slice_range xs lo hi) (Some value) → Misses (AtLeast value) (slice_range xs lo hi) → ⊥
   greatest_is_met value is misses = above_itself value (All-contains (λ y. y <ℤ value) (slice_range xs lo hi) value misses is.reached)
 
-  -- what holds of each run of a range holds of those of the list that lie in it
+  -- what holds of each run of a range holds of each run of the list that is inside the range
   runs_in : (P : ℤ → Type 0) → ((a b : ℕ) → a < b → b ≤ length (slice_range xs lo hi) → P (total (slice_range (slice_range xs lo hi) a b))) → (i j : ℕ) → lo ≤ i → i < j → j ≤ hi → P (total (slice_range xs i j))
   runs_in P each i j low before high =
       let long = length-slice_range xs lo hi order inside in
@@ -113,7 +113,7 @@ module _ (xs : List ℤ) (lo hi : ℕ) (order : lo ≤ hi) (inside : hi ≤ leng
   total_of_none : total (slice_range xs lo lo) ≡ pos 0
   total_of_none = ap total (nothing_here xs lo)
 
-  -- where the sum is nothing or less, it is reached at once
+  -- if the sum is 0 or less, it is reached at once
   pub reached_at_once : (sum : ℤ) → sum ≤ℤ pos 0 → IsReached xs lo hi sum lo
   reached_at_once sum small = record {
     from = omega arith;
@@ -122,7 +122,7 @@ module _ (xs : List ℤ) (lo hi : ℕ) (order : lo ≤ hi) (inside : hi ≤ leng
     least = λ e low before. absurd (omega arith);
   }
 
-  -- where no beginning has so much, it is reached nowhere
+  -- if no beginning has so much, it is reached nowhere
   reached_nowhere : (sum : ℤ) → pos 0 <ℤ sum → Misses (Beginning sum) (slice_range xs lo hi) → IsEndReached xs lo hi sum None
   reached_nowhere sum some misses = λ e low few.
       elim (cases_lt lo e) [
@@ -130,7 +130,7 @@ module _ (xs : List ℤ) (lo hi : ℕ) (order : lo ≤ hi) (inside : hi ≤ leng
         | inr first ↦ let here : lo ≡ e = omega arith in subst (λ n. total (slice_range xs lo n) <ℤ sum) here (subst (λ t. t <ℤ sum) (sym total_of_none) some)
       ]
 
--- the best run stands between the end and the start that are found for it
+-- the best run is between the start and the end that are found for it
 module _ (xs : List ℤ) (lo hi : ℕ) (inside : hi ≤ length xs) (sum : ℤ) (to from : ℕ) (f : IsFirstEnd (Run sum) xs lo hi to) (g : IsLastStart (Run sum) xs lo to from) where
   -- runs that end before it
   ends_before : (i j : ℕ) → lo ≤ i → i < j → j < to → total (slice_range xs i j) <ℤ sum
@@ -197,7 +197,7 @@ pub end_found : (xs : List ℤ) (lo hi : ℕ) → lo ≤ hi → hi ≤ length xs
 end_found xs lo hi order inside sum some None finds = reached_nowhere xs lo hi order inside sum some finds
 end_found xs lo hi order inside sum some (Some end) finds = end_reached xs lo hi inside sum end some finds
 
--- the same from the other end
+-- what a search from the end of a range for a sum finds
 module _ (xs : List ℤ) (lo hi : ℕ) (order : lo ≤ hi) (inside : hi ≤ length xs) (sum : ℤ) where
   -- what ends a range that has no such ending
   ends : Misses (Ending sum) (slice_range xs lo hi) → (s : ℕ) → lo ≤ s → s < hi → total (slice_range xs s hi) <ℤ sum
@@ -213,7 +213,7 @@ module _ (xs : List ℤ) (lo hi : ℕ) (order : lo ≤ hi) (inside : hi ≤ leng
       let long = length-slice_range xs lo hi order inside in
       subst (λ ys. total ys <ℤ sum) (sym (back_of_slice xs lo hi j (omega (arith, long)))) (each (lo + j) (omega arith) (omega (arith, long)))
 
-  -- where the sum is nothing or less, it is reached at once
+  -- if the sum is 0 or less, it is reached at once
   pub reached_back_at_once : sum ≤ℤ pos 0 → IsReachedBack xs lo hi sum hi
   reached_back_at_once small = record {
     from = order;
@@ -222,7 +222,7 @@ module _ (xs : List ℤ) (lo hi : ℕ) (order : lo ≤ hi) (inside : hi ≤ leng
     greatest = λ s behind few. absurd (omega arith);
   }
 
-  -- where no ending has so much, it is reached nowhere
+  -- if no ending has so much, it is reached nowhere
   reached_back_nowhere : pos 0 <ℤ sum → Misses (Ending sum) (slice_range xs lo hi) → IsStartReached xs lo hi sum None
   reached_back_nowhere some misses = λ s low few.
       elim (cases_lt s hi) [
@@ -256,7 +256,7 @@ pub start_found : (xs : List ℤ) (lo hi : ℕ) → lo ≤ hi → hi ≤ length 
 start_found xs lo hi order inside sum some None finds = reached_back_nowhere xs lo hi order inside sum some finds
 start_found xs lo hi order inside sum some (Some start) finds = start_reached xs lo hi inside sum start some finds
 
--- where an element within a bound is sought, a list has nothing of it where each element is outside
+-- if an element within a bound is sought, a list has nothing of it if each element is outside
 all_outside : (bound : Bound) (xs : List ℤ) → Misses (sought_within bound) xs → All (IsOutside bound) xs
 all_outside (bounds.AtLeast b) xs misses = misses
 all_outside (bounds.AtMost b) xs misses = misses
@@ -271,7 +271,7 @@ not_outside (bounds.AtLeast b) x not = by_lt_z x b (λ (below : x <ℤ b). absur
 not_outside (bounds.AtMost b) x not = by_lt_z b x (λ (above : b <ℤ x). absurd (not above)) (λ (h : x ≤ℤ b). h)
 
 module _ (bound : Bound) (xs : List ℤ) (lo hi : ℕ) (inside : hi ≤ length xs) where
-  -- the first element within a bound stands before the end that is found for it
+  -- the first element within a bound is the last one before the end that is found for it
   first_stands : (end : ℕ) → IsFirstEnd (sought_within bound) xs lo hi end → IsFirstWithin bound xs lo hi (end - 1)
   first_stands end f =
       let x = get_or xs (end - 1) (pos 0) in

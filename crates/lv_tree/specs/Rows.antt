@@ -14,7 +14,7 @@ pub record SumLeaves : Type 0 where
 abbrev pub sum_between : List ℕ → ℕ → ℕ → ℕ
 sum_between leaves a b = sum (run_of leaves a (b - a)) % 2 ^ 64
 
--- row l, where there is none no numbers
+-- row l, which has no numbers if it is missing
 abbrev pub row_of : List (List ℕ) → ℕ → List ℕ
 row_of rows l = slice_index_or rows l []
 
@@ -40,14 +40,14 @@ pub record IsAdded (place more : ℕ) (old new : List ℕ) : Type 0 where
   pub behind : (k : ℕ) → place < k → k < place / 8 * 8 + 8 → slice_index new k ≡ (slice_index old k + more) % 2 ^ 64
   pub others : (k : ℕ) → (k ≤ place) ⊎ (place / 8 * 8 + 8 ≤ k) → slice_index new k ≡ slice_index old k
 
--- it was added in row l to those behind the group of a leaf
+-- a number was added in row l to those behind the group of a leaf
 pub record IsAddedIn (l leaf more : ℕ) (old new : List ℕ) : Type 0 where
   pub place : ℕ
   pub low : place * 8 ^ l ≤ leaf
   pub high : leaf < place * 8 ^ l + 8 ^ l
   pub added : IsAdded place more old new
 
--- it was added so in each row
+-- a number was added in each row to those behind the group of a leaf
 pub record AreAdded (leaf more : ℕ) (old new : List (List ℕ)) : Type 0 where
   pub count : length new ≡ length old
   pub row : (l : ℕ) → l < length old → IsAddedIn l leaf more (row_of old l) (row_of new l)

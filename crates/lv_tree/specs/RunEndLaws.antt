@@ -51,7 +51,7 @@ of_one x = record {
 end_of_push : (xs : List ℤ) (x : ℤ) (j : ℕ) → j ≤ length xs → total (drop j (xs ++ x ∷ [])) ≡ total (drop j xs) +ℤ x
 end_of_push xs x j few = ap total (drop-append-le j xs (x ∷ []) few) ∙ total-push (drop j xs) x
 
--- or the element alone
+-- an ending of only the last element adds up to that element
 last_alone : (xs : List ℤ) (x : ℤ) → total (drop (length xs) (xs ++ x ∷ [])) ≡ x
 last_alone xs x = end_of_push xs x (length xs) (omega arith) ∙ ap (λ zs. total zs +ℤ x) (drop_all (length xs) xs (omega arith)) ∙ total-single x
 
@@ -84,7 +84,7 @@ module _ (xs : List ℤ) (r : RunTotals) (x : ℤ) (h : KeepsEnds xs r) where
         | inr inside ↦ rw (before_more j inside) (omega (arith, ints, clamps, h.begins_most j some inside))
       ]
 
-  -- so it is with the greatest ending
+  -- with one element more, some ending has the greatest total
   ends_more : (j : ℕ) × (j < length (xs ++ x ∷ [])) × (total (drop j (xs ++ x ∷ [])) ≡ int_max x (x +ℤ r.suffix))
   ends_more =
       elim (max_cases x (x +ℤ r.suffix)) [

@@ -11,7 +11,7 @@ pub record IsFirstEnd (sought : Sought) (xs : List ℤ) (lo hi end : ℕ) : Type
   pub met : Misses sought (slice_range xs lo end) → ⊥
   pub missed : Misses sought (slice_range xs lo (end - 1))
 
--- such an end, or none where the whole range has nothing of what is sought
+-- such an end, or none if the whole range has nothing of what is sought
 abbrev pub FindsEnd : Sought → List ℤ → ℕ → ℕ → Option ℕ → Type 0
 FindsEnd sought xs lo hi None = Misses sought (slice_range xs lo hi)
 FindsEnd sought xs lo hi (Some end) = IsFirstEnd sought xs lo hi end

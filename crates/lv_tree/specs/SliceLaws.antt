@@ -24,7 +24,7 @@ front_of_slice xs lo hi n inside =
     let wide : n ≡ lo + n - lo = omega arith in
     take-take n (hi - lo) (drop lo xs) inside ∙ ap (λ m. take m (drop lo xs)) wide
 
--- so is its back
+-- the back of a slice is a slice of the list
 pub back_of_slice : {A : Type 0} (xs : List A) (lo hi n : ℕ) → n ≤ hi - lo → drop n (slice_range xs lo hi) ≡ slice_range xs (lo + n) hi
 back_of_slice xs lo hi n inside =
     let whole : hi - lo ≡ n + (hi - lo - n) = omega arith in

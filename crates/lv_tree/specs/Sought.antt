@@ -1,4 +1,4 @@
--- What a search looks for, and what a summary by a kind tells of it.
+-- What a search looks for, and what a summary by a kind says of it.
 use Rattle.std.specs.Prelude.{ℕ, ℤ, ◌<◌, ◌≤◌, ◌<ℤ◌, Option, None, List, length, take, drop, All, slice_range}
 use Rattle.lv_bodies.specs.Plain.{total}
 use Rattle.lv_bodies.specs.declared.best.RunTotals.{RunTotals}
@@ -33,7 +33,7 @@ abbrev pub sought_within : Bound → Sought
 sought_within (bounds.AtLeast bound) = AtLeast bound
 sought_within (bounds.AtMost bound) = AtMost bound
 
--- what a summary tells, by three of the kinds
+-- the least element, the greatest element or the best run that a summary has, if it is of that kind
 abbrev pub least_in : KindSummary → Option ℤ
 least_in (Least s) = s
 least_in _ = None

@@ -1,4 +1,4 @@
--- That tests on the folds by which the kinds are kept tell whether a list has what is sought.
+-- That tests on the folds by which the kinds are kept say whether a list has what is sought.
 use Rattle.std.specs.Prelude.{◌≡◌, ℕ, ℤ, Bool, true, false, ◌+◌, ◌-◌, ◌<◌, ◌≤◌, ◌<ℤ◌, ◌≤ℤ◌, Option, Some, None, List, [], length, take, drop, slice_range, All, int_le, option_map, MatchOption}
 use Rattle.std.proofs.Common.{ap, sym, subst, ◌∙◌, inl, inr, arith}
 use Rattle.std.specs.Int.{int_min, int_max}
@@ -28,12 +28,12 @@ use Rattle.lv_tree.specs.declared.sought.Sought.TheVariants.{AtMost, AtLeast, Ru
 use Rattle.lv_tree.specs.RunEndLaws.{AreEnds, KeepsEnds, fold_of-ends}
 use Rattle.lv_tree.specs.SliceLaws.{nothing_here}
 
--- a test on the fold of some elements tells whether they have what is sought
+-- a test on the fold of some elements says whether they have what is sought
 pub record Tells {S : Type 0} (o : Operations S) (test : S → Bool) (sought : Sought) : Type 0 where
   pub missed : (xs : List ℤ) → 0 < length xs → All IsElement xs → test (fold_of o xs) ≡ false → Misses sought xs
   pub met : (xs : List ℤ) → 0 < length xs → All IsElement xs → test (fold_of o xs) ≡ true → Misses sought xs → ⊥
 
--- what a test of two numbers tells
+-- what a test of two numbers says
 pub not_most : (x y : ℤ) → int_le x y ≡ false → y <ℤ x
 not_most x y test = grind (arith, ints)
 
@@ -65,7 +65,7 @@ module _ (xs : List ℤ) (some : 0 < length xs) (elements : All IsElement xs) wh
   ends_are : KeepsEnds xs (fold_of runs_operations xs)
   ends_are = subst (AreEnds xs) (sym (runs-is-best xs some elements)) (fold_of-ends xs)
 
--- the lowest tells of the elements at most so great
+-- the lowest element says whether some element is at most so great
 pub at_most_told : (b : ℤ) → Tells lowest_operations (λ lowest. int_le lowest b) (AtMost b)
 at_most_told b = record {
   missed = λ xs some elements test.
@@ -78,7 +78,7 @@ at_most_told b = record {
       not_both r b (most r b test) (All-contains (λ x. b <ℤ x) xs r misses is.reached);
 }
 
--- the highest of those at least so great
+-- the highest element says whether some element is at least so great
 pub at_least_told : (b : ℤ) → Tells highest_operations (λ highest. int_le b highest) (AtLeast b)
 at_least_told b = record {
   missed = λ xs some elements test.
@@ -91,7 +91,7 @@ at_least_told b = record {
       not_both b r (most b r test) (All-contains (λ x. x <ℤ b) xs r misses is.reached);
 }
 
--- the best run of the runs
+-- the best run says whether some run adds up to so much
 pub run_told : (b : ℤ) → Tells runs_operations (λ runs. int_le b runs.best) (Run b)
 run_told b = record {
   missed = λ xs some elements test i j order few.
@@ -105,7 +105,7 @@ run_told b = record {
       not_both b r (most b r test) (subst (λ t. t <ℤ b) adds_up (misses i j order few));
 }
 
--- the greatest beginning of the beginnings
+-- the greatest beginning says whether some beginning adds up to so much
 pub beginning_told : (b : ℤ) → Tells runs_operations (λ runs. int_le b runs.prefix) (Beginning b)
 beginning_told b = record {
   missed = λ xs some elements test j least few.
@@ -119,7 +119,7 @@ beginning_told b = record {
       not_both b r (most b r test) (subst (λ t. t <ℤ b) adds_up (misses j least few));
 }
 
--- and the greatest ending of the endings
+-- the greatest ending says whether some ending adds up to so much
 pub ending_told : (b : ℤ) → Tells runs_operations (λ runs. int_le b runs.suffix) (Ending b)
 ending_told b = record {
   missed = λ xs some elements test j few.
@@ -159,7 +159,7 @@ module _ {S : Type 0} (o : Operations S) (test : S → Bool) (sought : Sought) (
   met_in a b apart inside passes = told.met (slice_range xs a b) (omega (arith, apart, length-slice_range xs a b (omega arith) inside)) (elements_of a b) passes
 
   module _ (lo hi : ℕ) (order : lo ≤ hi) (inside : hi ≤ length xs) where
-    -- where the test becomes true there is what is sought, and not with one element less
+    -- at the place at which the test becomes true there is what is sought, and not with one element less
     pub finds_end : (r : Option ℕ) → MatchOption r (HasNoEnd o test xs lo hi) (λ end. IsEndAt o test xs lo hi end) → FindsEnd sought xs lo hi r
     finds_end None none = missed_in lo hi order inside none
     finds_end (Some end) is = record {
@@ -178,7 +178,7 @@ module _ {S : Type 0} (o : Operations S) (test : S → Bool) (sought : Sought) (
       missed = missed_in (start + 1) hi (omega (arith, is.before)) inside is.after;
     }
 
--- what a summary tells of the least, the greatest and the best run is what is plain
+-- the least, the greatest and the best run that a summary has are the plain ones of its list
 module _ (table : List (List ℕ)) (xs : List ℤ) where
   pub least_told : (s : KindSummary) (r : Option ℤ) → r ≡ least_in s → s ≡ summary_by table kind.Least xs → IsPlainLeast xs r
   least_told s r told is = subst (IsPlainLeast xs) (sym (told ∙ ap least_in is ∙ least-part table xs ∙ fold_of-least xs)) (plain_least-is xs)

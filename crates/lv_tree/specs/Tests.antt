@@ -1,4 +1,4 @@
--- Where a test on joins becomes true, on the way up from the first of some leaves or down from the last.
+-- The place at which a test on joins becomes true, on the way up from the first of some leaves or down from the last.
 use Rattle.std.specs.Prelude.{◌≡◌, ℕ, Bool, true, false, ◌+◌, ◌-◌, ◌*◌, ◌^◌, ◌<◌, ◌≤◌, List, length, take, drop}
 use Rattle.lv_bodies.specs.Body.{Operations}
 use Rattle.lv_bodies.specs.Long.{CanJoinLong}
@@ -24,7 +24,7 @@ abbrev pub beyond : Bool → ℕ → ℕ → ℕ
 beyond false place width = place + width
 beyond true place width = place - width
 
--- where the way begins, and where it ends
+-- the place at which the way begins, and the one at which it ends
 abbrev pub begin_of : Bool → ℕ → ℕ → ℕ
 begin_of false from to = from
 begin_of true from to = to
@@ -33,7 +33,7 @@ abbrev pub end_of : Bool → ℕ → ℕ → ℕ
 end_of false from to = to
 end_of true from to = from
 
--- how far it is from a place to its end, and from where it begins
+-- how far it is from a place to the end of the way, and from the way's beginning to a place
 abbrev pub left_of : Bool → ℕ → ℕ → ℕ → ℕ
 left_of false from to place = to - place
 left_of true from to place = place - from
@@ -68,7 +68,7 @@ pub record TurnsAt {S : Type 0} (down : Bool) (o : Operations S) (test : S → B
   pub after : test (reached down o cells start from to (beyond down (node * width) width)) ≡ true
 
 -- a search has come to a place with what is reached there: the test does not become true up to it, and does with the cell that comes next
--- where one is left
+-- if one is left
 pub record HasComeTo {S : Type 0} (down : Bool) (o : Operations S) (test : S → Bool) (cells : List S) (start : S) (from to at : ℕ) (sum : S) : Type 0 where
   pub low : from ≤ at
   pub high : at ≤ to
@@ -100,7 +100,8 @@ pub record IsTurn {S : Type 0} (o : Operations S) (test : S → Bool) (start : S
 abbrev pub HasNoTurn : {S : Type 0} → Operations S → (S → Bool) → S → List S → Type 0
 HasNoTurn o test start leaves = 0 < length leaves → test (joined_on o start leaves) ≡ false
 
--- the same from the last leaf down, where `start` is behind them: with the leaf at place k, and not with those behind it
+-- going from the last leaf down, with `start` behind all leaves, the test becomes true with the leaf at place k, and not with only those behind
+-- it
 pub record IsLastTurn {S : Type 0} (o : Operations S) (test : S → Bool) (start : S) (leaves : List S) (k : ℕ) : Type 0 where
   pub inside : k < length leaves
   pub before : k + 1 < length leaves → test (o.join (joined_on o o.identity (drop (k + 1) leaves)) start) ≡ false

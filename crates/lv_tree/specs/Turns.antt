@@ -14,7 +14,7 @@ pub record IsEndAt {S : Type 0} (o : Operations S) (test : S → Bool) (xs : Lis
 abbrev pub HasNoEnd : {S : Type 0} → Operations S → (S → Bool) → List ℤ → ℕ → ℕ → Type 0
 HasNoEnd o test xs lo hi = lo < hi → test (fold_of o (slice_range xs lo hi)) ≡ false
 
--- the same of the start at which a test on the fold of a range up to hi becomes true
+-- the start at which a test on the fold of a range up to hi becomes true: it passes there, and not with one element less, unless that leaves none
 pub record IsStartAt {S : Type 0} (o : Operations S) (test : S → Bool) (xs : List ℤ) (lo hi start : ℕ) : Type 0 where
   pub inside : lo ≤ start
   pub before : start < hi

@@ -1,4 +1,4 @@
--- How far a walk over elements has come, on the way to where a test on their fold becomes true.
+-- How far a walk over elements has come, on the way to the place at which a test on their fold becomes true.
 use Rattle.std.specs.Prelude.{◌≡◌, ℕ, ℤ, Bool, false, ◌<◌, ◌≤◌, List, slice_range}
 use Rattle.lv_bodies.specs.Body.{Operations, fold_of}
 
@@ -8,7 +8,7 @@ pub record HasWalkedUp {S : Type 0} (o : Operations S) (test : S → Bool) (xs :
   pub sum_is : sum ≡ fold_of o (slice_range xs lo at)
   pub before : lo < at → test sum ≡ false
 
--- the same of a walk down from hi
+-- a walk down from hi has come to an index: the sum is the fold so far, and does not pass unless nothing was folded
 pub record HasWalkedDown {S : Type 0} (o : Operations S) (test : S → Bool) (xs : List ℤ) (at hi : ℕ) (sum : S) : Type 0 where
   pub order : at ≤ hi
   pub sum_is : sum ≡ fold_of o (slice_range xs at hi)

@@ -1,4 +1,5 @@
--- Where in a range of a list something stands. Indices are those of the whole list, and the end of a range is excluded.
+-- Positions in a range of a list: of its least and greatest element, its best run, and the like. Indices are those of the whole list, and the end
+-- of a range is excluded.
 use Rattle.std.specs.Prelude.{◌≡◌, ℕ, ℤ, ◌+◌, ◌<◌, ◌≤◌, ◌<ℤ◌, ◌≤ℤ◌, Option, Some, None, List, All, slice_get, slice_range}
 use Rattle.lv_bodies.specs.Plain.{total}
 use Rattle.lv_bodies.specs.declared.kinds.Kind.{Kind}
@@ -8,7 +9,7 @@ use Rattle.lv_tree.specs.declared.places.Bound.TheVariants.{AtLeast, AtMost}
 use Rattle.lv_tree.specs.declared.places.Placed.{Placed}
 use Rattle.lv_tree.specs.declared.places.Run.{Run}
 
--- the first least element of a range: it stands at the index, no element of the range is below it, and those before are above it
+-- the first least element of a range: it is at the index, no element of the range is below it, and those before it are above it
 pub record IsFirstLeast (xs : List ℤ) (lo hi index : ℕ) (value : ℤ) : Type 0 where
   pub from : lo ≤ index
   pub before : index < hi
@@ -24,8 +25,8 @@ pub record IsFirstGreatest (xs : List ℤ) (lo hi index : ℕ) (value : ℤ) : T
   pub greatest : All (λ x. x ≤ℤ value) (slice_range xs lo hi)
   pub first : All (λ x. x <ℤ value) (slice_range xs lo index)
 
--- the best run of a range, one element long at least: none adds up to more, all that end before it add up to less, and so does each
--- that ends with it and starts later
+-- the best run of a range, which has at least one element: no run adds up to more, every run that ends earlier adds up to less, and every run
+-- that ends with it and starts later adds up to less
 pub record IsBestRun (xs : List ℤ) (lo hi from to : ℕ) (sum : ℤ) : Type 0 where
   pub starts : lo ≤ from
   pub some : from < to
@@ -54,7 +55,7 @@ abbrev pub IsWithin : Bound → ℤ → Type 0
 IsWithin (AtLeast bound) x = bound ≤ℤ x
 IsWithin (AtMost bound) x = x ≤ℤ bound
 
--- it is not
+-- an element is outside a bound: it isn't within it
 abbrev pub IsOutside : Bound → ℤ → Type 0
 IsOutside (AtLeast bound) x = x <ℤ bound
 IsOutside (AtMost bound) x = bound <ℤ x
@@ -64,21 +65,21 @@ abbrev pub kind_within : Bound → Kind
 kind_within (AtLeast bound) = kind.Greatest
 kind_within (AtMost bound) = kind.Least
 
--- the first element within a bound of a range stands at the index: those of the range before it are outside
+-- the first element within a bound of a range is at the index: those of the range before it are outside
 pub record IsFirstWithin (bound : Bound) (xs : List ℤ) (lo hi index : ℕ) : Type 0 where
   pub from : lo ≤ index
   pub before : index < hi
   pub within : (x : ℤ) × (slice_get xs index ≡ Some x) × IsWithin bound x
   pub first : All (IsOutside bound) (slice_range xs lo index)
 
--- the last one does: those behind it are outside
+-- the last element within a bound of a range is at the index: those of the range behind it are outside
 pub record IsLastWithin (bound : Bound) (xs : List ℤ) (lo hi index : ℕ) : Type 0 where
   pub from : lo ≤ index
   pub before : index < hi
   pub within : (x : ℤ) × (slice_get xs index ≡ Some x) × IsWithin bound x
   pub last : All (IsOutside bound) (slice_range xs (index + 1) hi)
 
--- where the first least, the first greatest and the best run stand, or none where there are no elements
+-- the position of the first least element, of the first greatest one and of the best run, or none if the range is empty
 abbrev pub IsPlaceOfLeast : List ℤ → ℕ → ℕ → Option Placed → Type 0
 IsPlaceOfLeast xs lo hi None = lo ≡ hi
 IsPlaceOfLeast xs lo hi (Some p) = IsFirstLeast xs lo hi p.index p.value
@@ -91,7 +92,7 @@ abbrev pub IsPlaceOfBest : List ℤ → ℕ → ℕ → Option Run → Type 0
 IsPlaceOfBest xs lo hi None = lo ≡ hi
 IsPlaceOfBest xs lo hi (Some r) = IsBestRun xs lo hi r.from r.to r.sum
 
--- where a sum is reached, or none where up to no end, or from no start on, it is
+-- the end, or the start, at which a sum is reached; none if it is reached up to no end, or from no start on
 abbrev pub IsEndReached : List ℤ → ℕ → ℕ → ℤ → Option ℕ → Type 0
 IsEndReached xs lo hi sum None = (e : ℕ) → lo ≤ e → e ≤ hi → total (slice_range xs lo e) <ℤ sum
 IsEndReached xs lo hi sum (Some end) = IsReached xs lo hi sum end
@@ -100,7 +101,7 @@ abbrev pub IsStartReached : List ℤ → ℕ → ℕ → ℤ → Option ℕ → 
 IsStartReached xs lo hi sum None = (s : ℕ) → lo ≤ s → s ≤ hi → total (slice_range xs s hi) <ℤ sum
 IsStartReached xs lo hi sum (Some start) = IsReachedBack xs lo hi sum start
 
--- where the first, or the last, element within a bound stands, or none where no element of the range is
+-- the index of the first, or of the last, element within a bound, or none if no element of the range is within it
 abbrev pub IsFirstIndex : Bound → List ℤ → ℕ → ℕ → Option ℕ → Type 0
 IsFirstIndex bound xs lo hi None = All (IsOutside bound) (slice_range xs lo hi)
 IsFirstIndex bound xs lo hi (Some index) = IsFirstWithin bound xs lo hi index

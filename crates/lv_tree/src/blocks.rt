@@ -27,7 +27,7 @@ fn fold_block<B: LongBody>(body: &B, cells: &Edits, block: u32) -> B::S
     body.fold_eight(&copied)
 }
 
-// Folds the leaf of a block anew, where it has one.
+// Folds the leaf of a block anew, if it has one.
 #[inline(always)]
 fn renew<T: Tree>(tree: &mut T, cells: &Edits, block: u32)
     requires limits { IsLegalInLimits cells.now }
@@ -121,7 +121,7 @@ fn walk<T: Tree>(tree: &mut T, cells: &Edits, seen: usize, size: u32) -> bool
     true
 }
 
-// Follows a journal to its end. Where more was overwritten since than it would take to fold many of the blocks, no leaf is kept.
+// Follows a journal to its end. If more was overwritten since than it would take to fold many of the blocks, no leaf is kept.
 #[inline(never)]
 fn catch_up<T: Tree>(tree: &mut T, cells: &Edits, seen: usize, size: u32)
     requires limits { IsLegalInLimits cells.now }

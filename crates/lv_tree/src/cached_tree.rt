@@ -31,7 +31,7 @@ fn no_run<B: LongBody>(body: &B) -> CachedRun<B::S>
     }
 }
 
-/// A fold tree, and what the run of its leaves that was asked for last came to, while those leaves stand as they were.
+/// A fold tree, and the summary of the run of its leaves that was asked for last. That is remembered as long as those leaves are unchanged.
 #[derive(Drop)]
 pub struct CachedTree<B: LongBody> {
     tree: FoldTree<B>,
@@ -50,14 +50,14 @@ impl<B: LongBody> Model for CachedTree<B> {
 }
 
 impl<B: LongBody> CachedTree<B> {
-    /// No leaves, of which the first will have the number `first`. Takes no memory.
+    /// No leaves. The first one will have the number `first`. Takes no memory.
     pub fn new(alloc: Global, body: B, first: u64) -> CachedTree<B>
         ensures { result ≡ record { body = body; first = first; room = 0; sums = [] } }
     {
         CachedTree::of(FoldTree::new(alloc, body, first))
     }
 
-    /// A tree, of which nothing is remembered yet.
+    /// A tree for which no run is remembered yet.
     #[inline(always)]
     pub fn of(tree: FoldTree<B>) -> CachedTree<B>
         ensures { result ≡ tree }
@@ -82,7 +82,7 @@ impl<B: LongBody> CachedTree<B> {
         self.tree.body()
     }
 
-    /// The number of the first leaf, or of the next one where there is none.
+    /// The number of the first leaf, or of the next one if there is none.
     #[inline(always)]
     pub fn first(&self) -> u64
         ensures { result ≡ self.now.first }
@@ -101,7 +101,7 @@ impl<B: LongBody> CachedTree<B> {
     /// Adds a leaf behind the last one.
     ///
     /// # Errors
-    /// `NoMemory` where there is none, and nothing has changed then.
+    /// `NoMemory` if there is none, and nothing has changed then.
     #[inline(always)]
     pub fn push(&mut self, summary: B::S) -> Result<(), Refusal>
         requires folds { AreFolds (B.operations self.old.body) (self.old.sums ++ summary ∷ []) }
@@ -142,7 +142,7 @@ impl<B: LongBody> CachedTree<B> {
         self.run = no_run(&self.tree.body());
     }
 
-    /// Drops the leaves before a number, all of them where it is past the last one: the next leaf has that number then.
+    /// Drops the leaves before a number, all of them if it is past the last one: the next leaf has that number then.
     #[inline(always)]
     pub fn expire(&mut self, to: u64)
         requires { self.old.first ≤ to }
@@ -151,8 +151,8 @@ impl<B: LongBody> CachedTree<B> {
         self.tree.expire(to);
     }
 
-    /// The summary of the elements of the leaves from number `from` up to `to`: what is remembered, where that is the run. Any other takes
-    /// at most two joins for each doubling of its leaves, or of those behind the run that is remembered where that begins alike. Takes no
+    /// The summary of the elements of the leaves from number `from` up to `to`: the remembered one, if that is the run. Any other takes at most
+    /// two joins for each doubling of its leaves; if it begins where the remembered run does and is longer, of only those behind that. Takes no
     /// memory.
     #[inline(always)]
     pub fn ask(&mut self, from: u64, to: u64) -> B::S
@@ -173,7 +173,7 @@ impl<B: LongBody> CachedTree<B> {
         sum
     }
 
-    // What a run comes to, which goes on from what is remembered where that begins alike.
+    // What a run comes to. It is continued from the remembered run, if that begins alike.
     fn fold(&self, from: u64, to: u64) -> B::S
         requires folds { AreFolds (B.operations self.now.body) self.now.sums }
         requires first { self.now.first ≤ from }

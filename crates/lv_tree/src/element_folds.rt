@@ -1,4 +1,4 @@
-//! Folds of elements, where they are kept.
+//! Folds of elements without a tree.
 ghost use Rattle.std.specs.Prelude.{◌≡◌, ◌+◌, ◌*◌, ◌/◌, ◌≤◌, length};
 ghost use Rattle.std.specs.Int.{div_ceil};
 ghost use Rattle.std.specs.List.{slice_range};
@@ -7,7 +7,7 @@ ghost use Rattle.lv_bodies.specs.Body.{fold_of};
 use crate::elements::Elements;
 use lv_bodies::{LongBody, fold_long, long_laws};
 
-/// The fold of the elements from place `lo` up to `hi`, where they are kept.
+/// The fold of the elements from place `lo` up to `hi`, without a tree and without a copy.
 #[inline(always)]
 pub fn fold_elements<B: LongBody, E: Elements>(body: &B, elements: &E, lo: usize, hi: usize) -> B::S
     requires order { lo ≤ hi }
@@ -24,7 +24,7 @@ pub fn fold_elements<B: LongBody, E: Elements>(body: &B, elements: &E, lo: usize
     fold_in_turn(body, elements, lo, hi)
 }
 
-// The same, an element at a time: they are not all side by side.
+// The fold of the elements from place `lo` up to `hi`, computed an element at a time, since they are not all side by side.
 fn fold_in_turn<B: LongBody, E: Elements>(body: &B, elements: &E, lo: usize, hi: usize) -> B::S
     requires order { lo ≤ hi }
     requires inside { hi ≤ length (E.listed elements.now) }

@@ -16,8 +16,8 @@ pub trait Elements {
         requires { at < length (listed self.now) }
         ensures { result ≡ slice_index_or (listed self.now) at result };
 
-    /// Those from place `lo` on, before `hi`, lent where they are kept: as many as are side by side there. There may be none, and `read`
-    /// tells the element then.
+    /// The elements from place `lo` on, before `hi`, lent without a copy: as many as are side by side there. There may be none; `read` returns
+    /// the element then.
     fn run(&self, lo: usize, hi: usize) -> &[i64]
         requires order { lo < hi }
         requires inside { hi ≤ length (listed self.now) }
@@ -72,7 +72,7 @@ impl<'a> Model for Items<'a> {
 }
 
 impl<'a> Items<'a> {
-    /// Those of a slice. Copies nothing.
+    /// The elements of a slice. Copies nothing.
     #[inline(always)]
     pub fn new(items: &'a [i64]) -> Items<'a>
         requires { All IsElement items.now }

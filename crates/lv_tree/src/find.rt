@@ -1,4 +1,4 @@
-//! Where a test on joins becomes true, on the way up from the first of some leaves, or down from the last.
+//! The place at which a test on joins becomes true, on the way up from the first of some leaves, or down from the last.
 ghost use Rattle.std.specs.Prelude.{◌≡◌, ◌-◌, ◌+◌, ◌*◌, ◌^◌, ◌<◌, ◌≤◌, Bool, true, length, slice_index_or, MatchResult};
 ghost use Rattle.lv_tree.specs.Nodes.{IsTree};
 ghost use Rattle.lv_tree.specs.Parts.{run_of};
@@ -30,7 +30,7 @@ struct Turn<S> {
     width: usize,
 }
 
-// Where the way begins.
+// The place at which the way begins.
 #[inline(always)]
 fn first_place(from: usize, to: usize, down: bool) -> usize
     ensures { result ≡ begin_of down from to }
@@ -188,7 +188,7 @@ fn seek_narrower<S: Copy, B: Joins<S>, T: Test<S>>(
     Err(Reached { at: node, sum })
 }
 
-// The first place at which the largest node that comes next and lies between two places makes the test true, or the end of the way.
+// The first place at which the largest node that comes next, and is within the two ends, makes the test true; or the end of the way.
 fn seek<S: Copy, B: Joins<S>, T: Test<S>>(
     body: &B,
     cells: &[S],

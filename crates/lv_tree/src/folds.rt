@@ -1,4 +1,4 @@
-//! The join of a range of leaves, by the largest nodes that lie within.
+//! The join of a range of leaves, by the largest nodes that are within the range.
 ghost use Rattle.std.specs.Prelude.{◌≡◌, ◌+◌, ◌-◌, ◌/◌, ◌%◌, ◌^◌, ◌<◌, ◌≤◌, true, length, slice_index_or};
 ghost use Rattle.std.specs.Mem.{type_size};
 ghost use Rattle.lv_bodies.specs.Long.{CanJoinLong};
@@ -28,8 +28,8 @@ fn by_parity<S: Copy>(number: usize, even: S, odd: S) -> S
     both[number % 2]
 }
 
-// A summary joined with that of a node behind it, where the node is a right one of its two. A branch is taken only where it is likely to
-// be `foreseen`; else the summary is joined with nothing where there is no such node.
+// A summary joined with that of a node behind it, if the node is the right one of its two. A branch is taken only if it is likely to be
+// `foreseen`; else the summary is joined with nothing if there is no such node.
 #[inline(always)]
 fn with_node_behind<S: Copy, B: Joins<S>>(
     body: &B,
@@ -54,7 +54,8 @@ fn with_node_behind<S: Copy, B: Joins<S>>(
     body.joined(front, node)
 }
 
-// The same with the node before a place in front.
+// The summary of the node before a place joined with a summary behind it, if the node is the left one of its two; otherwise only the latter.
+// Branches are taken as in `with_node_behind`.
 #[inline(always)]
 fn with_node_before<S: Copy, B: Joins<S>>(
     body: &B,

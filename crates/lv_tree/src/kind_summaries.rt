@@ -1,4 +1,4 @@
-//! Summaries by one kind, of whichever kind it is.
+//! Summaries by one kind, which is known at run time only.
 ghost use Rattle.std.specs.Prelude.{◌≡◌, ℤ, List, [], ◌∷◌, ◌++◌};
 ghost use Rattle.lv_bodies.specs.Body.{CanFold};
 ghost use Rattle.lv_tree.specs.KindSummaries.{kind_of, part_of, shown_of, summary_of};

@@ -32,7 +32,7 @@ use lv_geometry::Refusal;
 use std::alloc::Global;
 use std::marker::Model;
 
-/// What a vector keeps of what it was asked, by kind. Who keeps it beside a vector tells it of each edit.
+/// What is kept of a vector's queries, by kind. Whoever keeps it together with a vector reports each edit to it.
 #[derive(Drop)]
 pub struct Kinds {
     // Each kind has room for so many blocks.
@@ -100,7 +100,8 @@ impl Kinds {
         self.grow(size)
     }
 
-    // The same where there isn't room yet. It grows in doublings, so that memory that nobody wrote to isn't copied often.
+    // Makes memory for all that can be asked of so many elements, if there isn't room yet. It grows by doubling, so that memory that nobody wrote
+    // to isn't copied often.
     #[inline(never)]
     fn grow(&mut self, size: u32) -> Result<(), Refusal>
         requires { size ≤ 1048568 }
@@ -126,7 +127,7 @@ impl Kinds {
         }
     }
 
-    /// Hears of an edit that was accepted, and answered so.
+    /// Takes note of an edit that was accepted and returned this receipt.
     #[inline(always)]
     pub fn follow_made(&mut self, edit: &Edit, receipt: &Receipt)
         ghost before: { History }
@@ -144,7 +145,7 @@ impl Kinds {
         }
     }
 
-    /// Hears of a write that was accepted.
+    /// Takes note of a write that was accepted.
     #[inline(always)]
     pub fn follow_write(&mut self, index: u32, before: i64, x: i64)
         ensures kept { (table : List (List ℕ)) (h : History) → IsWriteOver h index before → AreKept table h.journal self.old → AreKept table (with_edit h (Write index x)).journal self.new }
@@ -153,7 +154,7 @@ impl Kinds {
         self.last.follow_write(index, before, x);
     }
 
-    /// Hears that there may have been edits since, whichever they were.
+    /// Takes note that there may have been edits since, whichever they were.
     #[inline(always)]
     pub fn forget_sum(&mut self)
         ensures kept { (table : List (List ℕ)) (edits more : List AnEdit) → AreKept table edits self.old → AreKept table (edits ++ more) self.new }
@@ -162,9 +163,9 @@ impl Kinds {
         self.last = LastSum::none();
     }
 
-    /// Has the kinds follow the edits that have waited, where these have become many: 64, and one for each 512 elements. So no question has to
-    /// follow more than those. Sums alone wait on: the sum told last has no need of them, and a sum costs little to follow. Who keeps this
-    /// beside a vector calls it behind edits. Takes no memory.
+    /// Lets the kinds follow the edits that have waited, if these have become many: 64, and one for each 512 elements. So no query has to follow
+    /// more than those. Only sums continue to wait: the sum returned last doesn't need them, and a sum costs little to follow. Whoever keeps this
+    /// together with a vector calls it after edits. Takes no memory.
     #[inline(always)]
     pub fn follow_waiting(&mut self, cells: &Edits)
         requires kept { AreKept self.old.table cells.now.journal self.old }
@@ -195,8 +196,8 @@ impl Kinds {
         );
     }
 
-    /// The summary by a kind of the elements from index `lo` up to `hi`, with the number of the last edit. The kind follows all edits
-    /// first, unless the range is short or its sum was told last. Refused with `BadRange`, then `OutOfRange`: nothing has changed
+    /// The summary by a kind of the elements from index `lo` up to `hi`, with the number of the last edit. The kind follows all edits first,
+    /// unless the range is short or it is the one whose sum was returned last. Refused with `BadRange`, then `OutOfRange`: nothing has changed
     /// then. Takes no memory.
     #[inline(always)]
     pub fn ask(

@@ -1,4 +1,4 @@
-//! The sum that was told last: it is told again without a walk where its range is asked for again.
+//! The sum that was returned last: it is returned again, without a walk over the tree, if its range is asked for again.
 ghost use Rattle.std.specs.Prelude.{◌≡◌, ◌+◌, ◌≤◌, ◌++◌, ◌∷◌, [], List, Some, IfSome, length};
 ghost use Rattle.lv_edits.specs.declared.edit.Edit.{Edit as AnEdit};
 ghost use Rattle.lv_edits.specs.declared.edit.Edit.TheVariants.{Write};
@@ -16,7 +16,7 @@ pub struct LastSum {
 }
 
 impl LastSum {
-    /// That of no elements, which is one of every vector.
+    /// The sum of no elements, which every vector has.
     #[inline(always)]
     pub fn none() -> LastSum
         ensures { (edits : List AnEdit) → IsSumOfRange edits result }
@@ -28,7 +28,7 @@ impl LastSum {
         }
     }
 
-    /// That of a range.
+    /// The sum of a range.
     #[inline(always)]
     pub fn new(lo: u32, hi: u32, value: u64) -> LastSum
         ensures { result ≡ record { lo = lo; hi = hi; value = value } }
@@ -36,7 +36,7 @@ impl LastSum {
         LastSum { lo, hi, value }
     }
 
-    /// The sum, where it is that of this range.
+    /// The sum, if it is that of this range.
     #[inline(always)]
     pub fn of(&self, lo: u32, hi: u32) -> Option<u64>
         ensures sum { (edits : List AnEdit) → IsSumOfRange edits self.now → IfSome result (λ value. value ≡ sum_of_range edits lo hi) }
@@ -50,7 +50,7 @@ impl LastSum {
         }
     }
 
-    /// Hears of a write that was accepted: it takes the difference to the element before, where its range has the index.
+    /// Takes note of a write that was accepted: if the range has the index, the difference to the element before is added.
     #[inline(always)]
     pub fn follow_write(&mut self, index: u32, before: i64, x: i64)
         ensures { (h : History) → IsWriteOver h index before → IsSumOfRange h.journal self.old → IsSumOfRange (with_edit h (Write index x)).journal self.new }
@@ -60,7 +60,7 @@ impl LastSum {
         }
     }
 
-    /// Hears of an edit that was accepted: it is forgotten where the edit may change an element of its range.
+    /// Takes note of an edit that was accepted: the sum is forgotten if the edit may change an element of its range.
     #[inline(always)]
     pub fn follow(&mut self, edit: &Edit)
         ensures { (edits : List AnEdit) → replayed (edits ++ edit.now ∷ []) ≡ Some (list_of (edits ++ edit.now ∷ [])) → IsSumOfRange edits self.old → IsSumOfRange (edits ++ edit.now ∷ []) self.new }
@@ -78,7 +78,7 @@ impl LastSum {
     }
 }
 
-/// What is to be added to a sum where one element takes another's place.
+/// The number that is to be added to a sum when one element takes another's place.
 #[inline(always)]
 fn difference(before: i64, x: i64) -> u64
     ensures { IsDifference before x result }

@@ -52,7 +52,7 @@ impl<T: Tree> Late<T> {
         }
     }
 
-    /// What follows a journal follows it whichever edits come: an edit tells it nothing. Computes nothing.
+    /// A tree that follows a journal does so whichever edits come, without being told of them. Computes nothing.
     pub fn stays(&self)
         ensures { (edits more : List AnEdit) → IsLate (T.B.operations self.now.body) edits self.now → IsLate (T.B.operations self.now.body) (edits ++ more) self.now }
     {}
@@ -79,8 +79,9 @@ impl<T: Tree> Late<T> {
         self.size = cells.size();
     }
 
-    /// The fold of the elements from index `lo` up to `hi`, from left to right. A range of at most 64 is folded where it lies; before any
-    /// other the tree follows what was edited since, and takes in the blocks that are missing. There is room for all whole blocks.
+    /// The fold of the elements from index `lo` up to `hi`, from left to right. A range of at most 64 elements is folded directly, without the
+    /// tree. Before any other, the tree follows the edits made since, and takes in the blocks that are missing. There must be room for all whole
+    /// blocks.
     #[inline(always)]
     pub fn ask(&mut self, cells: &Edits, lo: u32, hi: u32) -> <T::B as Body>::S
         requires order { lo ≤ hi }
@@ -123,10 +124,10 @@ impl<T: Tree> Late<T> {
 }
 
 impl<B: LongBody> Late<FoldTree<B>> {
-    /// The least end of the range from index `lo` up to `hi` at which a test on the fold of the elements from `lo` on becomes true, if it
-    /// does. A smaller end passes only where the test is not monotone; one may then pass though none is found. A range of at most 64 is
-    /// walked an element at a time. Before any other the tree follows what was edited since, as in `ask`; the search then takes about two
-    /// joins for each doubling of the range, and reads at most 16 elements. Takes no memory: there is room for all whole blocks.
+    /// The least end of the range from index `lo` up to `hi` at which a test on the fold of the elements from `lo` on becomes true, if it does. A
+    /// smaller end can pass only if the test is not monotone; one may then pass though none is found. A range of at most 64 is walked an element
+    /// at a time. Before any other the tree follows what was edited since, as in `ask`; the search then takes about two joins for each doubling
+    /// of the range, and reads at most 16 elements. Takes no memory: there is room for all whole blocks.
     pub fn find_end<T: Test<B::S>>(
         &mut self,
         cells: &Edits,
@@ -160,7 +161,8 @@ impl<B: LongBody> Late<FoldTree<B>> {
         }
     }
 
-    /// The same from the other end: the greatest start of the range at which a test on the fold of the elements up to `hi` becomes true.
+    /// The greatest start of the range from index `lo` up to `hi` at which a test on the fold of the elements up to `hi` becomes true, if it
+    /// does. Cost and conditions are those of `find_end`, from the other end.
     pub fn find_start<T: Test<B::S>>(
         &mut self,
         cells: &Edits,

@@ -1,19 +1,18 @@
-//! Trees over summaries in order, of which any range is folded in few steps.
+//! Trees over summaries in order, which fold any range in few steps.
 //!
-//! `FoldTree` joins in at most two joins for each doubling of a range, for every body. `Prefixes` is for sums alone, whose ranges
-//! are the difference of two prefixes. The model of each is the summary of each leaf in order. Leaves are added and cut at the end
-//! and replaced; a `FoldTree` also drops them at the front, where the others keep their numbers, and finds the leaf with which a
-//! test on joins becomes true. How nodes lie is the crate's own affair.
-//! A `CachedTree` is such a tree that keeps what the run of leaves that was asked for last came to.
+//! `FoldTree` joins in at most two joins for each doubling of a range, for every body. `Prefixes` is for sums only: the sum of a range is the
+//! difference of two prefixes. The model of each is the summary of each leaf in order. Leaves are added and cut at the end and replaced. A
+//! `FoldTree` also drops them at the front, where the others keep their numbers, and finds the leaf with which a test on joins becomes true.
+//! Where nodes are stored is private to the crate. A `CachedTree` is such a tree that also keeps the summary of the run of leaves that was asked
+//! for last.
 //!
 //! Over the blocks of eight elements of any list (`Elements`), `fold_range` folds a range of the elements by such a tree, and `find_end` and
-//! `find_start` find the end or the start of one at which a test on the fold becomes true. `find_sought_end` and `find_sought_start` say of
-//! which elements a test tells, as the least, the greatest or the best run do.
+//! `find_start` find the end or the start of one at which a test on the fold becomes true. `find_sought_end` and `find_sought_start` say in terms
+//! of the elements what a test finds, such as the least, the greatest or the best run.
 //!
-//! A `Late` tree lies over the blocks of a vector and follows its journal at questions: an edit tells it nothing. It folds a range of the
-//! elements, and over a `FoldTree` finds the end or the start of one at which a test on the fold becomes true. `LastSum` is the sum that
-//! was told last. `Kinds` is such a tree a kind. `first_least` and its neighbours search by them where in a range
-//! something stands.
+//! A `Late` tree is over the blocks of a vector and follows its journal at queries, so an edit needn't be reported to it. It folds a range of the
+//! elements, and over a `FoldTree` finds the end or the start of one at which a test on the fold becomes true. `LastSum` is the sum that was
+//! returned last. `Kinds` has one such tree for each kind. `first_least` and its neighbours use them to search a range for a position.
 #![tactic(auto)]
 
 mod blocks;

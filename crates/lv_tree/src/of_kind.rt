@@ -1,5 +1,5 @@
-//! The bodies by which the kinds are kept. Those of the least, the greatest and the best run are bare: a fold of no elements isn't
-//! missing, so who asks says whether there are elements.
+//! The bodies by which the kinds are kept. Those of the least, the greatest and the best run are bare: a fold of no elements isn't missing, so
+//! the caller says whether there are elements.
 ghost use Rattle.std.specs.Prelude.{◌≡◌, ℕ, ℤ, List, All, length, nat_lt};
 ghost use Rattle.lv_geometry.specs.Elements.{IsElement};
 ghost use Rattle.lv_bodies.specs.Body.{fold_of};
@@ -8,14 +8,14 @@ ghost use Rattle.lv_tree.specs.KindSummaries.{summary_by};
 use crate::kind_summaries::KindSummary;
 use lv_bodies::{Affine, AffineMap, Automaton, Highest, LongBody, Lowest, RunTotals, Runs, Sum};
 
-/// A body whose folds tell one of the six kinds.
+/// A body whose folds give the summary by one of the six kinds.
 pub trait OfKind: LongBody {
     ghost use Rattle.lv_bodies.specs.declared.kinds.Kind.{Kind};
 
-    /// Which kind its folds tell.
+    /// The kind that its folds give.
     ghost told_kind: { Kind };
 
-    /// Whether they tell it with an automaton by a table.
+    /// Whether they give it with an automaton by a table.
     ghost fits: { Self → List (List ℕ) → Type 0 };
 
     /// The summary by that kind of the elements whose fold this is. `some` says whether there are any.

@@ -1,8 +1,8 @@
-//! Where in a range of a vector something stands: its first least and first greatest element, its best run, the first and the last element
-//! within a bound, and where a sum from its start on, or up to its end, is reached.
+//! Searches for a position in a range of a vector: that of its first least and first greatest element, of its best run, of the first and the last
+//! element within a bound, and the index at which a sum from the range's start on, or up to its end, is reached.
 //!
-//! Each answer is stated of the plain list of elements. A search asks the tree of one kind for the place at which a test on folds becomes
-//! true: once that tree has followed the edits, this takes O(log n) joins. It changes no element, and takes no memory.
+//! Each answer is stated in terms of the plain list of elements. A search asks the tree of one kind for the place at which a test on folds
+//! becomes true: once that tree has followed the edits, this takes O(log n) joins. It changes no element, and takes no memory.
 ghost use Rattle.std.specs.Prelude.{◌≡◌, ◌-◌, ◌<◌, ◌≤◌, None, Some, IfErr, IfOk, length};
 ghost use Rattle.lv_bodies.specs.declared.kinds.Kind.TheVariants as kind;
 ghost use Rattle.lv_edits.specs.History.{list_of};
@@ -20,7 +20,7 @@ use lv_bodies::{Kind, RunTotals};
 use lv_edits::{Edits, refusal_of};
 use lv_geometry::Refusal;
 
-/// An element, and the index at which it stands.
+/// An element with its index.
 #[derive(Clone, Copy, PartialEq, Eq)]
 pub struct Placed {
     pub index: u32,
@@ -28,7 +28,7 @@ pub struct Placed {
 }
 
 impl Placed {
-    /// An element that stands before an end.
+    /// The last element before an end.
     fn before(end: u32, value: i64) -> Placed
         requires { 0 < end }
         ensures { result ≡ record { index = end - 1; value = value } }
@@ -70,8 +70,8 @@ impl Bound {
     }
 }
 
-/// The first of the least elements from index `lo` up to `hi`, and where it stands; none where there are no elements. It is
-/// asked of the kind of the least. Refused with `BadRange`, then `OutOfRange`. Takes no memory.
+/// The first of the least elements from index `lo` up to `hi`, with its index; none if there are no elements. It uses the tree of the kind
+/// `Least`. Refused with `BadRange`, then `OutOfRange`. Takes no memory.
 pub fn first_least(
     cells: &Edits,
     kinds: &mut Kinds,
@@ -91,7 +91,7 @@ pub fn first_least(
     Ok(least_inside(cells, kinds, lo, hi))
 }
 
-// The same of a range that there is.
+// The first of the least elements of a range that the vector has.
 fn least_inside(cells: &Edits, kinds: &mut Kinds, lo: u32, hi: u32) -> Option<Placed>
     requires ready { AreReady kinds.old.table cells.now.journal kinds.old }
     requires limits { IsLegalInLimits cells.now }
@@ -110,8 +110,8 @@ fn least_inside(cells: &Edits, kinds: &mut Kinds, lo: u32, hi: u32) -> Option<Pl
     }
 }
 
-/// The first of the greatest elements, and where it stands; none where there are no elements. It is asked of the kind of the
-/// greatest, and refused as `first_least` is. Takes no memory.
+/// The first of the greatest elements from index `lo` up to `hi`, with its index; none if there are no elements. It uses the tree of the kind
+/// `Greatest`, and is refused as `first_least` is. Takes no memory.
 pub fn first_greatest(
     cells: &Edits,
     kinds: &mut Kinds,
@@ -131,7 +131,7 @@ pub fn first_greatest(
     Ok(greatest_inside(cells, kinds, lo, hi))
 }
 
-// The same of a range that there is.
+// The first of the greatest elements of a range that the vector has.
 fn greatest_inside(cells: &Edits, kinds: &mut Kinds, lo: u32, hi: u32) -> Option<Placed>
     requires ready { AreReady kinds.old.table cells.now.journal kinds.old }
     requires limits { IsLegalInLimits cells.now }
@@ -150,9 +150,9 @@ fn greatest_inside(cells: &Edits, kinds: &mut Kinds, lo: u32, hi: u32) -> Option
     }
 }
 
-/// The best run from index `lo` up to `hi`: elements side by side, one at least, that add up to the most. Of several it is the one that
-/// ends first, and of those the shortest. There is none where there are no elements. It is asked of the kind of the best run,
-/// and refused as `first_least` is. Takes no memory.
+/// The best run from index `lo` up to `hi`: elements side by side, one at least, that add up to the most. Of several it is the one that ends
+/// first, and of those the shortest. There is none if there are no elements. It uses the tree of the kind `Best`, and is refused as `first_least`
+/// is. Takes no memory.
 pub fn best_run(cells: &Edits, kinds: &mut Kinds, lo: u32, hi: u32) -> Result<Option<Run>, Refusal>
     requires ready { AreReady kinds.old.table cells.now.journal kinds.old }
     ensures ok { IfOk result (λ place. IsPlaceOfBest (list_of cells.now.journal) lo hi place) }
@@ -167,7 +167,7 @@ pub fn best_run(cells: &Edits, kinds: &mut Kinds, lo: u32, hi: u32) -> Result<Op
     Ok(best_inside(cells, kinds, lo, hi))
 }
 
-// The same of a range that there is.
+// The best run of a range that the vector has.
 fn best_inside(cells: &Edits, kinds: &mut Kinds, lo: u32, hi: u32) -> Option<Run>
     requires ready { AreReady kinds.old.table cells.now.journal kinds.old }
     requires limits { IsLegalInLimits cells.now }
@@ -191,7 +191,7 @@ fn best_inside(cells: &Edits, kinds: &mut Kinds, lo: u32, hi: u32) -> Option<Run
 }
 
 /// The least end, from `lo` to `hi`, up to which the elements from index `lo` on add up to `sum` at least, or none. Elements may be
-/// negative, and no sum wraps. It is asked of the kind of the best run, and refused as `first_least` is. Takes no memory.
+/// negative, and no sum wraps. It uses the tree of the kind `Best`, and is refused as `first_least` is. Takes no memory.
 pub fn reaches(
     cells: &Edits,
     kinds: &mut Kinds,
@@ -212,7 +212,7 @@ pub fn reaches(
     Ok(end_inside(cells, kinds, lo, hi, sum))
 }
 
-// The same of a range that there is.
+// The least end up to which the elements of a range that the vector has add up to `sum` at least, or none.
 fn end_inside(cells: &Edits, kinds: &mut Kinds, lo: u32, hi: u32, sum: i128) -> Option<u32>
     requires ready { AreReady kinds.old.table cells.now.journal kinds.old }
     requires limits { IsLegalInLimits cells.now }
@@ -228,8 +228,8 @@ fn end_inside(cells: &Edits, kinds: &mut Kinds, lo: u32, hi: u32, sum: i128) -> 
     kinds.find_end(cells, Sought::Beginning(sum), lo, hi)
 }
 
-/// The greatest start, from `hi` down to `lo`, from which on the elements up to `hi` add up to `sum` at least, or none. It is `hi` itself
-/// where `sum` is 0 or less. It is asked of the kind of the best run, and refused as `first_least` is. Takes no memory.
+/// The greatest start, from `hi` down to `lo`, from which on the elements up to `hi` add up to `sum` at least, or none. It is `hi` itself if
+/// `sum` is 0 or less. It uses the tree of the kind `Best`, and is refused as `first_least` is. Takes no memory.
 pub fn reaches_back(
     cells: &Edits,
     kinds: &mut Kinds,
@@ -250,7 +250,7 @@ pub fn reaches_back(
     Ok(start_inside(cells, kinds, lo, hi, sum))
 }
 
-// The same of a range that there is.
+// The greatest start from which on the elements of a range that the vector has add up to `sum` at least, or none.
 fn start_inside(cells: &Edits, kinds: &mut Kinds, lo: u32, hi: u32, sum: i128) -> Option<u32>
     requires ready { AreReady kinds.old.table cells.now.journal kinds.old }
     requires limits { IsLegalInLimits cells.now }
@@ -266,8 +266,8 @@ fn start_inside(cells: &Edits, kinds: &mut Kinds, lo: u32, hi: u32, sum: i128) -
     kinds.find_start(cells, Sought::Ending(sum), lo, hi)
 }
 
-/// The first index from `lo` up to `hi` whose element is within a bound, or none. An element that is at least so much is asked of the kind
-/// of the greatest, and one that is at most so much of the least. It is refused as `first_least` is. Takes no memory.
+/// The first index from `lo` up to `hi` whose element is within a bound, or none. A lower bound uses the tree of the kind `Greatest`, and an
+/// upper bound that of `Least`. It is refused as `first_least` is. Takes no memory.
 pub fn first_index(
     cells: &Edits,
     kinds: &mut Kinds,
@@ -328,7 +328,7 @@ fn summary(cells: &Edits, kinds: &mut Kinds, kind: Kind, lo: u32, hi: u32) -> Ki
     }
 }
 
-/// The least element that a summary tells; none where it is of another kind, or of no elements.
+/// The least element that a summary has; none if it is of another kind, or of no elements.
 pub fn least_of(summary: KindSummary) -> Option<i64>
     ensures { result ≡ least_in summary }
 {
@@ -338,7 +338,7 @@ pub fn least_of(summary: KindSummary) -> Option<i64>
     }
 }
 
-/// The greatest element that a summary tells; none where it is of another kind, or of no elements.
+/// The greatest element that a summary has; none if it is of another kind, or of no elements.
 pub fn greatest_of(summary: KindSummary) -> Option<i64>
     ensures { result ≡ greatest_in summary }
 {
@@ -348,7 +348,7 @@ pub fn greatest_of(summary: KindSummary) -> Option<i64>
     }
 }
 
-/// The best run that a summary tells; none where it is of another kind, or of no elements.
+/// The best run that a summary has; none if it is of another kind, or of no elements.
 pub fn best_of(summary: KindSummary) -> Option<RunTotals>
     ensures { result ≡ best_in summary }
 {

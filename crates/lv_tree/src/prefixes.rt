@@ -1,4 +1,4 @@
-//! Sums, of which any range is the difference of two prefixes.
+//! Sums: the sum of any range is the difference of two prefixes.
 ghost use Rattle.std.specs.Prelude.{◌≡◌, ℕ, ℤ, ◌+◌, ◌-◌, ◌≤◌, List, length, map, vec_capacity, IfSome};
 
 use crate::rows::{add_in, larger_rows, sum_before, take_in};
@@ -29,7 +29,7 @@ impl Model for Prefixes {
     ghost invariant = { λ a. AreKept a.room (vec_capacity a.leaves) a.leaves.items (map (λ r. r.items) a.rows.items) };
 }
 
-// The same leaves, in memory for so many.
+// A copy of some leaves, in memory for so many.
 fn larger_leaves(leaves: &Vec<u64>, room: usize) -> Option<Vec<u64>>
     ensures same { IfSome result (λ more. more.items ≡ leaves.now.items) }
     ensures room { IfSome result (λ more. room ≤ vec_capacity more) }

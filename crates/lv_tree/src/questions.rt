@@ -82,7 +82,7 @@ pub fn ask_sum(
     }
 }
 
-// The sum of a range: the one that was told last, or from the tree.
+// The sum of a range: the one that was returned last, or from the tree.
 #[inline(always)]
 fn sum_of(late: &mut Late<Prefixes>, last: &mut LastSum, cells: &Edits, lo: u32, hi: u32) -> u64
     requires order { lo ≤ hi }
@@ -102,8 +102,8 @@ fn sum_of(late: &mut Late<Prefixes>, last: &mut LastSum, cells: &Edits, lo: u32,
     }
 }
 
-// The sum of a range from the tree, which is then the one that was told last. It stands apart, so that a sum that was told last pays for
-// none of its room on the stack.
+// The sum of a range from the tree, which is then kept as the sum returned last. It is a function of its own, so that a call that returns the
+// last sum again doesn't pay for its room on the stack.
 #[inline(never)]
 fn sum_by_tree(
     late: &mut Late<Prefixes>,

@@ -1,5 +1,5 @@
-//! What a range of elements comes to, and where in it a test on the fold becomes true, by a tree over the blocks of eight elements. The
-//! leaf at place b of the tree is the fold of the elements from place 8 * b on, whichever its number.
+//! The fold of a range of elements, and the place in it at which a test on the fold becomes true, by a tree over the blocks of eight elements.
+//! The leaf at place b of the tree is the fold of the elements from place 8 * b on, whichever its number.
 ghost use Rattle.std.specs.Prelude.{◌≡◌, ◌+◌, ◌*◌, ◌/◌, ◌≤◌, length, MatchOption};
 ghost use Rattle.std.specs.List.{slice_range};
 ghost use Rattle.lv_bodies.specs.Body.{fold_of};
@@ -16,11 +16,11 @@ use crate::trees::FoldTree;
 use crate::turns::{end_by_blocks, end_in_turn, start_by_blocks, start_in_turn};
 use lv_bodies::{Body, LongBody};
 
-/// A range of at most so many elements is folded, or walked, where it is kept.
+/// A range of at most so many elements is folded, or walked, without the tree.
 pub const FEW: usize = 64;
 
-/// The fold of the elements from place `lo` up to `hi`, from left to right. A range of at most 64 is folded where it is kept; any other
-/// takes at most two joins for each doubling of its blocks, and reads at most 14 elements. Takes no memory.
+/// The fold of the elements from place `lo` up to `hi`, from left to right. A range of at most 64 is folded without the tree; any other takes at
+/// most two joins for each doubling of its blocks, and reads at most 14 elements. Takes no memory.
 #[inline(always)]
 pub fn fold_range<T: Tree, E: Elements>(
     tree: &T,
@@ -41,7 +41,7 @@ pub fn fold_range<T: Tree, E: Elements>(
     fold_by_blocks(tree, elements, lo, hi)
 }
 
-/// The same of a range of at least eight elements, however many they are.
+/// The fold of the elements from place `lo` up to `hi`, by the tree's blocks, of any range of at least eight elements.
 #[inline(always)]
 pub fn fold_by_blocks<T: Tree, E: Elements>(
     tree: &T,
@@ -61,7 +61,7 @@ pub fn fold_by_blocks<T: Tree, E: Elements>(
     join_ends(&body, elements, lo, hi, middle)
 }
 
-// The fold of the elements of the blocks from `from` up to `to`, all of which have leaves.
+// The fold of the elements of the blocks from `from` up to `to`. All these blocks have leaves.
 #[inline(always)]
 fn fold_leaves<T: Tree, E: Elements>(
     tree: &T,
@@ -78,9 +78,9 @@ fn fold_leaves<T: Tree, E: Elements>(
     tree.fold(from, to)
 }
 
-/// The least end of the range from place `lo` up to `hi` at which a test on the fold of the elements from `lo` on becomes true, if it
-/// does. A smaller end passes only where the test is not monotone; one may then pass though none is found. A range of at most 64 is walked
-/// an element at a time; any other takes about two joins for each doubling of its blocks, and reads at most 16 elements. Takes no memory.
+/// The least end of the range from place `lo` up to `hi` at which a test on the fold of the elements from `lo` on becomes true, if it does. A
+/// smaller end can pass only if the test is not monotone; one may then pass though none is found. A range of at most 64 is walked an element at a
+/// time; any other takes about two joins for each doubling of its blocks, and reads at most 16 elements. Takes no memory.
 pub fn find_end<B: LongBody, E: Elements, T: Test<B::S>>(
     tree: &FoldTree<B>,
     elements: &E,
@@ -102,7 +102,8 @@ pub fn find_end<B: LongBody, E: Elements, T: Test<B::S>>(
     end_by_blocks(tree, elements, test, lo, hi)
 }
 
-/// The same from the other end: the greatest start of the range at which a test on the fold of the elements up to `hi` becomes true.
+/// The greatest start of the range from place `lo` up to `hi` at which a test on the fold of the elements up to `hi` becomes true, if it does:
+/// `find_end` from the other end.
 pub fn find_start<B: LongBody, E: Elements, T: Test<B::S>>(
     tree: &FoldTree<B>,
     elements: &E,

@@ -18,7 +18,7 @@ fn join_below<S: Copy, B: Joins<S>>(body: &B, cells: &[S], node: usize) -> S
     body.joined(cells[2 * node], cells[2 * node + 1])
 }
 
-// Whether a node that was right before another summary came below it is right as it stands, and so are those above it.
+// Whether a node is known to keep its value after a leaf below it was replaced. If it is, this node and those above it are right already.
 #[inline(always)]
 fn settles<S: Copy, B: Joins<S>>(replaced: bool, was: S, is: S) -> bool
     ensures known { result ≡ true → replaced ≡ true }
@@ -27,7 +27,7 @@ fn settles<S: Copy, B: Joins<S>>(replaced: bool, was: S, is: S) -> bool
     replaced && B::stays(was, is)
 }
 
-// Whether a node over the leaves from a place on, as many as it is wide, lies over some that aren't there.
+// Whether a node covers places without leaves. It covers the leaves from a place on, as many as it is wide.
 #[inline(always)]
 fn is_past(lo: usize, hi: usize, start: usize, width: usize) -> bool
     requires { start ≤ hi }
@@ -38,8 +38,8 @@ fn is_past(lo: usize, hi: usize, start: usize, width: usize) -> bool
     start < lo || hi - start < width
 }
 
-// Makes each node over a leaf the join of the two below it, from the lowest to the last one all of whose leaves are there. Where
-// the leaf was `replaced`, and all nodes were right before, it ends at the first one that stays what it was.
+// Makes each node over a leaf the join of the two below it, from the lowest to the last one all of whose leaves are there. If the leaf was
+// `replaced`, and all nodes were right before, it ends at the first one that stays what it was.
 pub fn renew<S: Copy, B: Joins<S>>(
     body: &B,
     cells: &mut [S],

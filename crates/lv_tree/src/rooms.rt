@@ -1,5 +1,5 @@
-//! Room for leaves: in memory of which no cell is written before the first leaf comes. Where it is full the leaves move to the
-//! front of their cells if they fill at most three eighths, else to twice as many cells: so a window that slides keeps its cells.
+//! Room for leaves, in memory where no cell is written before the first leaf comes. When it is full, the leaves move to the front of their cells
+//! if they fill at most three eighths of them, and else to twice as many cells. So a window that slides keeps its cells.
 ghost use Rattle.std.specs.Prelude.{◌≡◌, ℕ, ◌+◌, ◌-◌, ◌*◌, ◌^◌, ◌<◌, ◌≤◌, [], length, drop, IfSome, MatchOption, vec_capacity};
 ghost use Rattle.lv_tree.specs.Folds.{AreFolds};
 ghost use Rattle.lv_tree.specs.Nodes.{HasCells, HasLeaves, HasRoom, HasRooms, IsTree};
@@ -24,7 +24,7 @@ fn build<S: Copy, B: Joins<S>>(body: &B, cells: &mut [S], lo: usize, hi: usize)
     }
 }
 
-// Moves all cells towards the front, so that what lay at place `lo` lies at place `to`.
+// Moves all cells towards the front, so that the cell at place `lo` comes to place `to`.
 fn slide<S: Copy>(cells: &mut [S], lo: usize, to: usize)
     requires back { to ≤ lo }
     requires inside { lo ≤ length cells.old }
@@ -48,7 +48,7 @@ fn close_up<S: Copy, B: Joins<S>>(body: &B, cells: &mut [S], lo: usize, hi: usiz
     build(body, cells, to, to + (hi - lo));
 }
 
-// Twice `room` cells, of which those from `room` on are some leaves, and the others say nothing yet.
+// Twice `room` cells: those from `room` on are copies of some leaves, and the others hold nothing of use yet.
 fn larger<S: Copy>(cells: &Vec<S>, lo: usize, hi: usize, room: usize, other: S) -> Option<Vec<S>>
     requires order { lo ≤ hi }
     requires inside { hi ≤ length cells.now.items }
@@ -63,7 +63,7 @@ fn larger<S: Copy>(cells: &Vec<S>, lo: usize, hi: usize, room: usize, other: S) 
     Some(more)
 }
 
-// Where the leaves begin, of which there is room for one more: where no cell is written yet, they are now.
+// The place of the first leaf, when there is room for one more. If no cell is written yet, they are written now.
 pub fn opened<S: Copy, B: Joins<S>>(
     _body: &B,
     cells: &mut Vec<S>,
@@ -89,7 +89,7 @@ pub fn opened<S: Copy, B: Joins<S>>(
     lo
 }
 
-// Makes room for a leaf more, and says where the leaves begin then; where there is no memory nothing has changed.
+// Makes room for one more leaf, and returns the place at which the leaves begin then; none if there is no memory, and nothing has changed then.
 pub fn with_room<S: Copy, B: Joins<S>>(
     body: &B,
     cells: &mut Vec<S>,
@@ -127,7 +127,7 @@ pub fn with_room<S: Copy, B: Joins<S>>(
     Some(more_room)
 }
 
-// Memory for twice `room` cells, of which none is written.
+// Memory for twice `room` cells. None is written yet.
 fn unwritten<S: Copy>(alloc: Global, room: usize) -> Option<Vec<S>>
     requires few { room ≤ 2 ^ 61 }
     ensures none { IfSome result (λ more. more.items ≡ []) }
@@ -136,8 +136,8 @@ fn unwritten<S: Copy>(alloc: Global, room: usize) -> Option<Vec<S>>
     Vec::with_capacity(alloc, 2 * room).ok()
 }
 
-// Takes memory for `room` leaves, to which those that are there move, and says where they begin then. Where there is none
-// nothing has changed.
+// Takes memory for `room` leaves, moves those that are there to it, and returns the place at which they begin then. None if there is no memory,
+// and nothing has changed then.
 pub fn with_rooms<S: Copy, B: Joins<S>>(
     body: &B,
     cells: &mut Vec<S>,

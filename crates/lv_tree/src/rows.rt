@@ -4,7 +4,7 @@ ghost use Rattle.lv_tree.specs.Rows.{AreAdded, AreAsLong, AreSums, HaveRoom, IsA
 
 use std::alloc::Global;
 
-// A number where it is wanted, else 0: it takes no branch.
+// A number if it is wanted, else 0: it takes no branch.
 #[inline(always)]
 fn where_wanted(is_wanted: bool, number: u64) -> u64
     ensures { result ≡ (if is_wanted then number else 0) }
@@ -44,7 +44,7 @@ fn put(row: &mut Vec<u64>, place: usize, number: u64)
     row[place] = number;
 }
 
-// Takes in the last leaf: where it is the last one of a group, the group behind that gets its number.
+// Takes in the last leaf: if it is the last one of a group, the group behind that gets its number.
 pub fn take_in(rows: &mut Vec<Vec<u64>>, leaves: &Vec<u64>)
     requires some { 0 < length leaves.now.items }
     requires room { HaveRoom (length leaves.now.items) (map (λ r. r.items) rows.old.items) }
@@ -79,7 +79,7 @@ pub fn sum_before(rows: &Vec<Vec<u64>>, end: usize) -> u64
     sum
 }
 
-// The numbers of a row, of which there are none where it is missing.
+// The numbers of a row, or none if the row is missing.
 fn numbers(rows: &Vec<Vec<u64>>, l: usize) -> &[u64]
     ensures { result.now ≡ row_of (map (λ r. r.items) rows.now.items) l }
 {
@@ -89,7 +89,7 @@ fn numbers(rows: &Vec<Vec<u64>>, l: usize) -> &[u64]
     &[]
 }
 
-// The same numbers, and 0 behind them up to a size.
+// A copy of some numbers, with 0 behind them up to a size.
 fn longer(alloc: Global, numbers: &[u64], size: usize) -> Option<Vec<u64>>
     ensures size { IfSome result (λ more. size ≤ length more.items) }
     ensures same { IfSome result (λ more. (m : ℕ) → slice_index more.items m ≡ slice_index numbers.now m) }
@@ -100,7 +100,7 @@ fn longer(alloc: Global, numbers: &[u64], size: usize) -> Option<Vec<u64>>
     Some(more)
 }
 
-// The same rows, with room for so many leaves.
+// A copy of some rows, with room for so many leaves.
 pub fn larger_rows(rows: &Vec<Vec<u64>>, room: usize) -> Option<Vec<Vec<u64>>>
     requires few { room ≤ 2 ^ 62 }
     ensures room { IfSome result (λ more. HaveRoom room (map (λ r. r.items) more.items)) }

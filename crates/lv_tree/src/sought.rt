@@ -1,4 +1,4 @@
-//! What a search looks for, and the tests on folds that tell whether it is there.
+//! What a search looks for, and the tests on folds that say whether it is there.
 ghost use Rattle.std.specs.Prelude.{int_le};
 ghost use Rattle.lv_tree.specs.declared.sought.Sought.{Sought as WhatIsSought};
 ghost use Rattle.lv_tree.specs.SoughtLaws.{Tells};
@@ -21,7 +21,7 @@ pub enum Sought {
     Ending(i128),
 }
 
-/// A test that tells by the fold of some elements by a body whether they have what is sought.
+/// A test that says, by the fold of some elements by a body, whether they have what is sought.
 pub trait TestFor<B: LongBody>: Test<B::S> {
     // What is sought.
     ghost seeks: { Self → WhatIsSought };

@@ -1,4 +1,4 @@
-//! What is asked of a tree over summaries, however its nodes lie.
+//! What every tree over summaries can do, however its nodes are stored.
 ghost use Rattle.std.specs.Prelude.{◌≡◌, ℕ, ℤ, ◌+◌, ◌^◌, ◌<◌, ◌≤◌, List, [], ◌∷◌, ◌++◌, length, take, slice_set, IfErr, OnOk};
 ghost use Rattle.std.specs.List.{slice_range};
 ghost use Rattle.lv_bodies.specs.Body.{fold_of};
@@ -8,7 +8,7 @@ use lv_bodies::{Body, LongBody};
 use lv_geometry::Refusal;
 use std::alloc::Global;
 
-/// Summaries of leaves in order, of which any range is folded in few steps. Room is made beforehand: no other call takes memory.
+/// Summaries of leaves in order. Any range of them is folded in few steps. Room is made beforehand: no other call takes memory.
 pub trait Tree: Drop {
     type B: LongBody;
 
@@ -37,7 +37,7 @@ pub trait Tree: Drop {
     /// Makes room for so many leaves in all.
     ///
     /// # Errors
-    /// `NoMemory` where there is none; what is kept stays.
+    /// `NoMemory` if there is none; what is kept stays.
     fn reserve(&mut self, leaves: usize) -> Result<(), Refusal>
         requires { leaves ≤ 2 ^ 40 }
         ensures sums { sums self.new ≡ sums self.old }

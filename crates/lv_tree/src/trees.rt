@@ -42,7 +42,7 @@ impl<B: LongBody> Model for FoldTree<B> {
 }
 
 impl<B: LongBody> FoldTree<B> {
-    /// No leaves, of which the first will have the number `first`. Takes no memory.
+    /// No leaves. The first one will have the number `first`. Takes no memory.
     pub fn new(alloc: Global, body: B, first: u64) -> FoldTree<B>
         ensures { result ≡ record { body = body; first = first; room = 0; sums = [] } }
     {
@@ -56,7 +56,7 @@ impl<B: LongBody> FoldTree<B> {
         }
     }
 
-    /// The number of the first leaf, or of the next one where there is none.
+    /// The number of the first leaf, or of the next one if there is none.
     #[inline(always)]
     pub fn first(&self) -> u64
         ensures { result ≡ self.now.first }
@@ -85,7 +85,7 @@ impl<B: LongBody> FoldTree<B> {
     /// Adds a leaf behind the last one.
     ///
     /// # Errors
-    /// `NoMemory` where there is none, and nothing has changed then.
+    /// `NoMemory` if there is none, and nothing has changed then.
     pub fn push(&mut self, summary: B::S) -> Result<(), Refusal>
         requires folds { AreFolds (B.operations self.old.body) (self.old.sums ++ summary ∷ []) }
         requires numbered { self.old.first + length self.old.sums + 1 < 2 ^ 64 }
@@ -145,7 +145,7 @@ impl<B: LongBody> FoldTree<B> {
         self.hi = self.lo + count;
     }
 
-    /// Drops the leaves before a number, all of them where it is past the last one: the next leaf has that number then.
+    /// Drops the leaves before a number, all of them if it is past the last one: the next leaf has that number then.
     pub fn expire(&mut self, to: u64)
         requires { self.old.first ≤ to }
         ensures { self.new ≡ record { body = self.old.body; first = to; room = self.new.room; sums = drop (to - self.old.first) self.old.sums } }
@@ -179,8 +179,8 @@ impl<B: LongBody> FoldTree<B> {
         )
     }
 
-    /// The first of the leaves from number `from` up to `to` with which a test on what `start` and the leaves from `from` on come to
-    /// becomes true, if it does: what comes before passes only where the test is not monotone. Takes no memory.
+    /// The first of the leaves from number `from` up to `to` with which a test on the join of `start` and the leaves from `from` on becomes true,
+    /// if it does. An earlier one can pass only if the test is not monotone. Takes no memory.
     pub fn find<T: Test<B::S>>(&self, from: u64, to: u64, start: B::S, test: &T) -> Option<u64>
         requires folds { AreInOrder (B.operations self.now.body) start (leaf_range self.now.first self.now.sums from to) }
         requires first { self.now.first ≤ from }
@@ -200,8 +200,8 @@ impl<B: LongBody> FoldTree<B> {
         Some(from + (place.at - a) as u64)
     }
 
-    /// The last of the leaves from number `from` up to `to` with which a test on what the leaves from there on and `end` come to
-    /// becomes true, if it does: what comes behind passes only where the test is not monotone. Takes no memory.
+    /// The last of the leaves from number `from` up to `to` with which a test on the join of the leaves from there on and `end` becomes true, if
+    /// it does. A later one can pass only if the test is not monotone. Takes no memory.
     pub fn find_last<T: Test<B::S>>(&self, from: u64, to: u64, end: B::S, test: &T) -> Option<u64>
         requires folds { AreBefore (B.operations self.now.body) (leaf_range self.now.first self.now.sums from to) end }
         requires first { self.now.first ≤ from }
@@ -221,8 +221,8 @@ impl<B: LongBody> FoldTree<B> {
         Some(from + (place.at - 1 - a) as u64)
     }
 
-    /// The place of the first of the leaves from place `from` up to `to` with which a test on what `start` and the leaves from `from`
-    /// on come to becomes true; `to` where it does not. With it what `start` and the leaves before that place come to. Takes no memory.
+    /// The place of the first of the leaves from place `from` up to `to` with which a test on the join of `start` and the leaves from `from` on
+    /// becomes true; `to` if it does not. With it the join of `start` and the leaves before that place. Takes no memory.
     pub(crate) fn turn_up<T: Test<B::S>>(
         &self,
         from: usize,
@@ -248,9 +248,8 @@ impl<B: LongBody> FoldTree<B> {
         }
     }
 
-    /// The place behind the last of the leaves from place `from` up to `to` with which a test on what the leaves from there on and
-    /// `end` come to becomes true; `from` where it does not. With it what the leaves from that place on and `end` come to. Takes no
-    /// memory.
+    /// The place behind the last of the leaves from place `from` up to `to` with which a test on the join of the leaves from there on and `end`
+    /// becomes true; `from` if it does not. With it the join of the leaves from that place on and `end`. Takes no memory.
     pub(crate) fn turn_down<T: Test<B::S>>(
         &self,
         from: usize,

@@ -1,4 +1,4 @@
-//! Where a test on the fold of elements becomes true, on the way up from the start of a range or down from its end.
+//! The place at which a test on the fold of elements becomes true, on the way up from the start of a range or down from its end.
 ghost use Rattle.std.specs.Prelude.{◌≡◌, ◌+◌, ◌*◌, ◌/◌, ◌≤◌, length, MatchOption, MatchResult};
 ghost use Rattle.lv_tree.specs.Blocks.{AreLeaves};
 ghost use Rattle.lv_tree.specs.Turns.{HasNoEnd, IsEndAt, IsStartAt};

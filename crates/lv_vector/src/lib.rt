@@ -1,4 +1,4 @@
-//! The vector as one crate: what a program that uses it names, each from the crate that has it. `CALLING.md` tells which call promises
+//! The vector as one crate: it re-exports what a program needs, each item from the crate that defines it. `CALLING.md` says which call promises
 //! what.
 #![tactic(auto)]
 

@@ -1,5 +1,5 @@
-//! A list that goes on: its elements and edits are bounded by memory only, and elements at its front may expire. Also such a list with a
-//! time for each element, and queries of both.
+//! A list without a limit: its elements and edits are bounded by memory only, and its first elements may expire. Also such a list with a time for
+//! each element, and queries of both.
 
 pub use lv_saved::{
     LoadRefusal, Loader, damage_shows, save, save_samples, saved_bytes, saved_samples_bytes,

@@ -134,7 +134,7 @@ fn replies_are_flushed(rt: HostRuntime) {
     }
 }
 
-// Puts the longest numbers and the shortest, with one space between.
+// Puts the longest numbers and the shortest one, with a space between them.
 fn put_numbers(held: &mut Vec<u8>)
     requires { HasRoom held.old 200 }
     ensures { KeepsRoom held.old held.new }
@@ -182,7 +182,7 @@ fn faults_have_numbers_and_texts(rt: HostRuntime) -> Result<(), Fail> {
     Ok(())
 }
 
-// Gives so many bytes `#`, and no LF.
+// Gives `left` bytes `#`, and no LF.
 #[derive(Drop)]
 struct Hashes {
     left: usize,
@@ -231,7 +231,7 @@ fn commands_are_printed(rt: HostRuntime) -> Result<(), Fail> {
     Ok(())
 }
 
-// Has a scan of 20,000 zeros put where the writer fails, and sees what it took.
+// Puts a scan of 20,000 zeros into a writer that fails, and checks what the writer took.
 fn check_scan(
     rt: &impl Abort,
     alloc: Global,

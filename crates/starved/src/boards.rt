@@ -47,7 +47,7 @@ fn push_each<R: Threads + Sync>(rt: &R, board: &Board<Sum>, seats: &mut [Seat<Su
     thread::for_each_mut(rt, seats, 1, &|_, seat| push(board, seat));
 }
 
-// Whether two edits were made, each a push of 4.
+// Whether two updates were made, each a push of 4.
 fn is_right(closed: &Closed) -> bool {
     closed.edit == 2 && closed.elements.as_slice() == [4, 4].as_slice()
 }
@@ -96,7 +96,7 @@ fn of_board<R: Threads + Eprint + Sync>(rt: &R, alloc: Global) -> Result<Told, R
     Ok(closed(rt, alloc, board, seats))
 }
 
-/// A board that is closed after a push by each seat. Where it is refused, board and seats come back, and it is closed again.
+/// A board is closed after a push by each seat. If that is refused, board and seats are returned, and it is closed again.
 pub fn close<R: Threads + Eprint + Sync>(rt: &R, alloc: Global) -> Told {
     match of_board(rt, alloc) {
         Ok(told) => told,

@@ -1,4 +1,4 @@
-//! Edits of a list, by their own calls and by `apply`, and of a live vector.
+//! Updates of a list, by their own calls and by `apply`, and of a live vector.
 
 use crate::rows::Row;
 use crate::told::{Told, again, begin, end, first};
@@ -8,7 +8,7 @@ use lv_geometry::{Limits, Refusal};
 use lv_live::Live;
 use std::alloc::Global;
 
-// Makes an edit by a call of its own, or by `apply`.
+// Makes an update by a call of its own, or by `apply`.
 fn make(edits: &mut Edits, edit: Edit, applies: bool) -> Result<Receipt, Refusal> {
     if applies {
         return edits.apply(edit);
@@ -23,7 +23,7 @@ fn make(edits: &mut Edits, edit: Edit, applies: bool) -> Result<Receipt, Refusal
     }
 }
 
-// What a list shows: its size, the last edit, the capacity, how long its journal is, and an element.
+// What is compared of a list: its size, its version, its capacity, the length of its journal, and an element.
 fn shown(edits: &Edits) -> (u32, u32, u32, usize, Result<i64, Refusal>) {
     (
         edits.size(),
@@ -51,7 +51,7 @@ fn try_edit<R: Eprint>(rt: &R, edits: &mut Edits, row: Row, applies: bool) -> To
     }
 }
 
-/// An edit of a list.
+/// An update of a list.
 pub fn edit_list<R: Eprint>(rt: &R, alloc: Global, row: Row, applies: bool) -> Told {
     let mut edits = Edits::new(alloc, Limits::greatest());
     let told = try_edit(rt, &mut edits, row, applies);
@@ -59,7 +59,7 @@ pub fn edit_list<R: Eprint>(rt: &R, alloc: Global, row: Row, applies: bool) -> T
     told
 }
 
-// What a vector shows: as a list does, and what a reduction of all reads.
+// What is compared of a vector: what is compared of a list, and what a reduction of all elements reads.
 fn shown_live(live: &Live<Sum>) -> (u32, u32, u32, usize, u64, u32, u32) {
     let (value, cells, summaries) = match live.reduce(0, live.size()) {
         Ok(answer) => (answer.value, answer.cells_read, answer.summaries_read),
@@ -76,7 +76,7 @@ fn shown_live(live: &Live<Sum>) -> (u32, u32, u32, usize, u64, u32, u32) {
     )
 }
 
-// A block is fresh before the edit, where there is one.
+// A block is valid before the update, if there is one.
 fn try_live<R: Eprint>(rt: &R, live: &mut Live<Sum>, row: Row) -> Told {
     for _ in 0..row.pushes {
         let _ = live.apply(Edit::Push(1));
@@ -95,7 +95,7 @@ fn try_live<R: Eprint>(rt: &R, live: &mut Live<Sum>, row: Row) -> Told {
     }
 }
 
-/// An edit of a live vector.
+/// An update of a live vector.
 pub fn edit_live<R: Eprint>(rt: &R, alloc: Global, row: Row) -> Told {
     let mut live = Live::new(alloc, Limits::greatest(), Sum);
     let told = try_live(rt, &mut live, row);

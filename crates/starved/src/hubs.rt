@@ -1,4 +1,4 @@
-//! Edits of a desk and of a hub, and a hub's scans.
+//! Updates of a desk and of a hub, and a hub's scans.
 
 ghost use Rattle.std.specs.Prelude.{◌≡◌, Some};
 
@@ -58,7 +58,7 @@ fn of_desk<N: WithBody<Sum>, R: Eprint>(
     told
 }
 
-/// An edit of a desk.
+/// An update of a desk.
 pub fn edit_desk<R: Eprint>(rt: &R, alloc: Global, row: Row) -> Told {
     let (limits, blank, opened) = (Limits::greatest(), Blank::new(1), Opened::new());
     of_desk::<Brand, R>(rt, alloc, limits, blank, opened, Sum, row)
@@ -86,7 +86,7 @@ fn try_hub<N: WithBody<Sum>, R: Wait + Eprint>(
     }
 }
 
-// The edit, how many values there are, and the last.
+// The version, how many values there are, and the last value.
 fn scan<N: WithBody<Sum>, R: Threads + Wait + Sync>(
     rt: &R,
     alloc: Global,
@@ -127,7 +127,7 @@ fn try_scan<N: WithBody<Sum>, R: Threads + Wait + Eprint + Sync>(
     }
 }
 
-// The edit of a row, or one of the two scans.
+// The update of a row, or one of the two scans.
 #[derive(Clone, Copy)]
 enum Ask {
     Edit(Row),
@@ -164,7 +164,7 @@ fn ask_hub<R: Threads + Wait + Eprint + Sync>(rt: &R, alloc: Global, ask: Ask) -
     of_hub::<Brand, R>(rt, alloc, limits, blank, opened, Sum, ask)
 }
 
-/// An edit of a hub.
+/// An update of a hub.
 pub fn edit_hub<R: Threads + Wait + Eprint + Sync>(rt: &R, alloc: Global, row: Row) -> Told {
     ask_hub(rt, alloc, Ask::Edit(row))
 }

@@ -1,5 +1,5 @@
-//! Calls that may want memory: `starved LAYER ROW` makes the call of that row and says what it came to. Without such a row it says
-//! nothing, and without words it makes each call once. tools/soak_memory refuses each request for memory of each call in turn.
+//! Calls that may run out of memory. `starved LAYER ROW` makes the call of that row and prints its result. If there is no such row, it prints
+//! nothing, and without arguments it makes each call once. `tools/soak_memory` makes each request for memory of each call fail in turn.
 #![tactic(auto)]
 
 mod boards;
@@ -27,7 +27,7 @@ fn main(rt: HostRuntime) -> ExitCode {
     }
 }
 
-/// Where the calls lie. Each layer has fewer rows than `ROWS`.
+/// The layers to which the calls belong. Each has fewer rows than `ROWS`.
 const LAYERS: [&str; 8] = [
     "Edits",
     "Edits::apply",
@@ -53,7 +53,7 @@ fn said<R: AllocGlobal + Env + Eprint + Print + Sync + Threads + Wait>(rt: &R) -
     }
 }
 
-// Makes each call, and says what it came to.
+// Makes each call, and prints its result.
 fn say_all<R: Eprint + Print + Sync + Threads + Wait>(rt: &R, alloc: Global) -> io::Result<()> {
     for layer in LAYERS {
         for number in 0..ROWS {
@@ -63,7 +63,7 @@ fn say_all<R: Eprint + Print + Sync + Threads + Wait>(rt: &R, alloc: Global) -> 
     Ok(())
 }
 
-// Makes the call of a layer's row, and says what it came to. Says nothing where there is no such row.
+// Makes the call of a layer's row, and prints its result. Prints nothing if there is no such row.
 fn say<R: Eprint + Print + Sync + Threads + Wait>(
     rt: &R,
     alloc: Global,
@@ -93,7 +93,7 @@ fn called<R: Eprint + Sync + Threads + Wait>(
     }
 }
 
-// Makes an edit in a layer.
+// Makes an update in a layer.
 fn edited<R: Eprint + Sync + Threads + Wait>(
     rt: &R,
     alloc: Global,
@@ -113,7 +113,7 @@ fn edited<R: Eprint + Sync + Threads + Wait>(
     Some((row.name, told))
 }
 
-// The calls that stand alone.
+// The calls of the layer `wholes`.
 fn whole<R: Eprint + Sync + Threads + Wait>(
     rt: &R,
     alloc: Global,

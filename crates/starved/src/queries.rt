@@ -1,4 +1,4 @@
-//! Edits under 64 standing queries, and the watch of one.
+//! Updates while 64 queries are registered, and the registration of a query.
 
 use crate::rows::Row;
 use crate::told::{Told, again, begin, end, first, right};
@@ -21,13 +21,13 @@ fn watch_all(standing: &mut Standing, count: u8) {
     }
 }
 
-// What is answered under a name.
+// The answer of a named query.
 fn asked(standing: &Standing, number: u8) -> Option<(u32, Shown)> {
     let answered = standing.answer(name(number)?).ok()?;
     Some((answered.edit, answered.value))
 }
 
-// What it shows: size, last edit, capacity, journal, and the answer of the first and the last query.
+// What is compared: the size, the version, the capacity, the journal, and the answers of the first and the last query.
 fn shown(
     standing: &Standing,
 ) -> (
@@ -49,7 +49,7 @@ fn shown(
     )
 }
 
-// The receipt of an edit, and how many notes it brought.
+// The receipt of an update, and how many notes came with it.
 fn make(standing: &mut Standing, alloc: Global, edit: Edit) -> Result<(Receipt, usize), Refusal> {
     let (receipt, notes) = standing.edit(alloc, edit)?;
     Ok((receipt, notes.len()))
@@ -78,7 +78,7 @@ fn try_edit<R: Eprint>(rt: &R, alloc: Global, standing: &mut Standing, row: Row)
     }
 }
 
-/// An edit under 64 queries, each of which it changes, unless it is a reserve or a swap of two equal elements.
+/// An update while 64 queries are registered. It changes the answer of each, unless it is a reserve or a swap of two equal elements.
 pub fn edit_under_queries<R: Eprint>(rt: &R, alloc: Global, row: Row) -> Told {
     let mut standing = Standing::new(alloc, Limits::greatest());
     let told = try_edit(rt, alloc, &mut standing, row);
@@ -103,7 +103,7 @@ fn try_watch<R: Eprint>(rt: &R, standing: &mut Standing, count: u8) -> Told {
     }
 }
 
-/// The watch of one query more.
+/// The registration of one more query.
 pub fn watch<R: Eprint>(rt: &R, alloc: Global, count: u8) -> Told {
     let mut standing = Standing::new(alloc, Limits::greatest());
     let told = try_watch(rt, &mut standing, count);

@@ -1,8 +1,8 @@
-//! The edits that each layer is asked for, with their receipts.
+//! The updates that each layer is asked for, with their receipts.
 
 use lv_edits::{Edit, Receipt};
 
-/// An edit that is asked for after some pushes of 1, and its receipt.
+/// An update that is made after some pushes of 1, and its receipt.
 #[derive(Clone, Copy)]
 pub struct Row {
     pub name: &'static str,
@@ -11,7 +11,7 @@ pub struct Row {
     pub receipt: Receipt,
 }
 
-/// The row of a number: those that open a bucket come first.
+/// The row with a number. Those that open a bucket come first.
 pub fn row_of(number: u32) -> Option<Row> {
     if number < 3 {
         opening_row(number)
@@ -20,7 +20,7 @@ pub fn row_of(number: u32) -> Option<Row> {
     }
 }
 
-// The row of an edit that opens a bucket.
+// The row of an update that opens a bucket.
 fn opening_row(number: u32) -> Option<Row> {
     match number {
         0 => row_with(
@@ -48,7 +48,7 @@ fn opening_row(number: u32) -> Option<Row> {
     }
 }
 
-// The row of an edit of eight elements that opens none.
+// The row of an update of eight elements that opens none.
 fn row_after_eight(number: u32) -> Option<Row> {
     let (name, edit, receipt) = match number {
         3 => ("a pop", Edit::Pop, Receipt::Popped { edit: 9, value: 1 }),

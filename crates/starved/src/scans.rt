@@ -13,10 +13,10 @@ use lv_summary::Summaries;
 use std::alloc::Global;
 use std::thread::Threads;
 
-/// How many elements there are, each 1: of three pieces.
+/// How many elements there are, each 1. They make three pieces.
 const COUNT: u32 = 20;
 
-// The edit of an answer, how many values it has, and the last.
+// The version of an answer, how many values it has, and the last value.
 type Seen = (u32, usize, Option<u64>);
 
 fn seen(edit: u32, values: &Values<u64>) -> Seen {
@@ -28,7 +28,7 @@ fn of_scan(scan: Result<Scan<u64>, Refusal>) -> Result<Seen, Refusal> {
     Ok(seen(scan.edit, &scan.values))
 }
 
-/// The calls that answer by a range of an unchanging list, and what each is to answer.
+/// The calls that return values of a range of an unchanging list, and the right result of each.
 pub fn name(number: u32) -> Option<(&'static str, Seen)> {
     match number {
         0 => Some(("scan_inclusive", (20, 20, Some(20)))),
@@ -154,7 +154,7 @@ fn of_live<R: Threads + Eprint + Sync>(rt: &R, alloc: Global, number: u32, wante
     told
 }
 
-/// The call of a number, and whether it is right that it answers this.
+/// The call with a number, and whether it returns this result.
 pub fn ask<R: Threads + Eprint + Sync>(rt: &R, alloc: Global, number: u32, wanted: Seen) -> Told {
     if number < 7 {
         return of_view(rt, alloc, number, wanted);

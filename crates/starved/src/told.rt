@@ -1,13 +1,13 @@
-//! What a call that may want memory came to.
+//! The result of a call that may run out of memory.
 
 use lv_geometry::Refusal;
 
-/// What a call came to.
+/// The result of a call.
 #[derive(Clone, Copy, Debug, PartialEq, Eq)]
 pub enum Told {
-    /// It met no want of memory, and answered as it should.
+    /// It did not run out of memory, and its result was right.
     Answered,
-    /// It was refused for want of memory, nothing had changed, and the same call then answered as it should.
+    /// It was refused because memory ran out, nothing had changed, and the result of the same call was then right.
     Refused,
     /// Something else.
     Wrong,
@@ -18,12 +18,12 @@ pub fn begin<R: Eprint>(rt: &R) {
     let _ = rt.eprintln("begin");
 }
 
-/// They are no longer.
+/// From here on they are no longer counted.
 pub fn end<R: Eprint>(rt: &R) {
     let _ = rt.eprintln("end");
 }
 
-/// How a first call ended, where this is wanted.
+/// How a first call ended, if this is the right result.
 pub fn first<T: Copy + PartialEq>(answer: Result<T, Refusal>, wanted: T) -> Told {
     match answer {
         Ok(value) => right(value == wanted, Told::Answered),
@@ -31,7 +31,7 @@ pub fn first<T: Copy + PartialEq>(answer: Result<T, Refusal>, wanted: T) -> Told
     }
 }
 
-/// How the same call ended when it was made again, where all was as before or not.
+/// How the same call ended when it was made again, depending on whether nothing had changed in between.
 pub fn again<T: Copy + PartialEq>(same: bool, answer: Result<T, Refusal>, wanted: T) -> Told {
     match answer {
         Ok(value) => right(same && value == wanted, Told::Refused),
@@ -39,7 +39,7 @@ pub fn again<T: Copy + PartialEq>(same: bool, answer: Result<T, Refusal>, wanted
     }
 }
 
-/// This, where all is right.
+/// This result, if everything is right.
 pub fn right(is_right: bool, told: Told) -> Told {
     if is_right {
         return told;

@@ -9,7 +9,7 @@ use lv_machine::{Call, Event as Turn, Machine, Outcome, Said};
 use lv_script::{Line, print_command, read_line};
 use std::alloc::Global;
 
-// 100 events: pushes, with a claim after each eighth of the lot.
+// 100 events: pushes, and a claim after each eighth push.
 fn events() -> [Event; 100] {
     let mut events = [Event::Edit(Edit::Push(1)); 100];
     for place in events.iter_mut().skip(8).step_by(9) {
@@ -18,7 +18,7 @@ fn events() -> [Event; 100] {
     events
 }
 
-// How many of the replies are receipts, and how many refusals for want of memory.
+// How many of the replies are receipts, and how many are the refusal `NoMemory`.
 fn counted(replies: &[ReplyOf<u64>]) -> (usize, usize) {
     let (mut receipts, mut refused) = (0usize, 0usize);
     for reply in replies {
@@ -31,7 +31,7 @@ fn counted(replies: &[ReplyOf<u64>]) -> (usize, usize) {
     (receipts, refused)
 }
 
-// Each event answers for itself: one push may be refused, and then there is an element less.
+// Each event has its own reply. One push may be refused, and then there is one element less.
 fn run_100(alloc: Global, world: &mut World<Sum>) -> Result<(bool, bool), Refusal> {
     let replies = run(alloc, world, &events())?;
     let (receipts, refused) = counted(replies.as_slice());
@@ -87,7 +87,7 @@ pub fn new_machine<R: Eprint>(rt: &R, alloc: Global) -> Told {
     }
 }
 
-// Whether a push by the actor 0 is the first edit.
+// Whether a push by the actor 0 is the first update.
 fn pushed(machine: &mut Machine<Sum>) -> Result<bool, Refusal> {
     let step = Turn::Step { actor: 0 };
     let call = Turn::Call {

@@ -1,4 +1,4 @@
-//! How the tests of several crates have lines served over readers and writers that fail, and over those that give or take little at once.
+//! How the tests of several crates serve lines over readers and writers that fail, and over those that give or take little at once.
 #![tactic(auto)]
 
 ghost use Rattle.std.specs.Prelude.{◌<◌};
@@ -8,10 +8,10 @@ use lv_script::devices::{FailingReader, FailingWriter, Failure};
 use std::alloc::{AllocError, Global};
 use std::test::Fail;
 
-/// How a writer takes bytes: at most how many at once, after how many it stops, and how.
+/// How a writer takes bytes: how many it takes at once at most, after how many it stops, and how it stops.
 pub type Takes = (usize, usize, Failure);
 
-/// A writer that takes all: at most so many bytes at once.
+/// A writer that takes all bytes, at most `step` of them at once.
 pub fn all(step: usize) -> Takes {
     (step, 1000, Failure::Refuses)
 }
@@ -27,7 +27,7 @@ pub fn writer(alloc: Global, takes: Takes) -> Result<FailingWriter, AllocError> 
     })
 }
 
-/// What reads lines and writes replies, as a test has it.
+/// Something that reads lines and writes replies.
 pub trait Server<R> {
     /// The lines that it reads.
     fn lines(&self) -> &'static [u8];
@@ -35,7 +35,7 @@ pub trait Server<R> {
     /// What it writes if it reads all of them.
     fn replies(&self) -> &'static [u8];
 
-    /// Serves once, and says how that ends.
+    /// Serves once, and returns how that ends.
     fn serve(
         &self,
         rt: &R,
@@ -45,7 +45,7 @@ pub trait Server<R> {
     ) -> Result<(), Fault>;
 }
 
-// Has the lines served, and sees that this ends so, with these bytes written.
+// Serves the lines, and checks that this ends as it should, with these bytes written.
 fn check<S: Server<R>, R>(
     rt: &R,
     alloc: Global,
@@ -73,7 +73,7 @@ fn check<S: Server<R>, R>(
     Err(Fail::new("it ends in another way, or writes other bytes"))
 }
 
-/// Sees that all replies come, however few bytes are read and written at once.
+/// Checks that all replies are written, however few bytes are read and written at once.
 pub fn check_all<S: Server<R>, R>(rt: &R, alloc: Global, server: &S) -> Result<(), Fail> {
     for step in [1, 3, 1000] {
         let replies = server.replies();
@@ -82,7 +82,7 @@ pub fn check_all<S: Server<R>, R>(rt: &R, alloc: Global, server: &S) -> Result<(
     Ok(())
 }
 
-/// Sees what is written where the reader fails. The table says after how many bytes it fails, and how many bytes of the replies come then.
+/// Checks what is written if the reader fails. The table says after how many bytes it fails, and how many bytes of the replies are written then.
 pub fn check_reads<S: Server<R>, R>(
     rt: &R,
     alloc: Global,
@@ -100,7 +100,7 @@ pub fn check_reads<S: Server<R>, R>(
     Ok(())
 }
 
-/// Sees that the replies are cut off where the writer fails, after any number of bytes and in either way.
+/// Checks that the replies are cut off where the writer fails, after any number of bytes and in either way.
 pub fn check_writes<S: Server<R>, R>(rt: &R, alloc: Global, server: &S) -> Result<(), Fail> {
     let replies = server.replies();
     for failure in [Failure::Refuses, Failure::Stalls] {

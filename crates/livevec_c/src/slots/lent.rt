@@ -1,4 +1,4 @@
-//! What a slot holds, lent to be read.
+//! The object in a slot, lent to be read.
 ghost use Rattle.std.specs.Prelude.{◌≡◌, IsSome, Some};
 ghost use Rattle.std.specs.Borrow.{sem};
 ghost use Rattle.livevec_c.specs.Kept.{Keeps};

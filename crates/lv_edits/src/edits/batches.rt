@@ -1,4 +1,4 @@
-//! Many pushes and many writes: all of them or none.
+//! Many pushes, or many writes, in one call, which makes all of them or none.
 ghost use Rattle.std.specs.Prelude.{◌≡◌, ℤ, List, length};
 ghost use Rattle.lv_edits.specs.Batches.{AnswersEdits, verdict_of_edits, writes_at};
 ghost use Rattle.lv_edits.specs.Kept.{IsLegalInLimits};
@@ -10,8 +10,8 @@ use crate::writing::make_writes;
 use lv_geometry::Refusal;
 
 impl Edits {
-    /// Pushes values in order, all of them or none, and tells the number of the last edit. Refused as the first push that would be
-    /// refused, with `Worn` or `Full`, then with `NoMemory`: nothing has changed then.
+    /// Pushes values in order, all of them or none, and returns the number of the last edit. Refused with the error of the first push
+    /// that would be rejected, `Worn` or `Full`, then with `NoMemory`. After an error nothing has changed.
     pub fn push_all(&mut self, values: &[i64]) -> Result<u32, Refusal>
         ensures answer { AnswersAll self.old values.now result self.new }
         ensures limits { IsLegalInLimits self.new }
@@ -23,7 +23,7 @@ impl Edits {
         }
     }
 
-    /// The refusal of the first push that would be refused, of pushes one after another, want of memory apart, or none.
+    /// The error of the first push that would be rejected if the values were pushed one after another and memory sufficed, or none.
     pub fn verdict_of_pushes(&self, values: &[i64]) -> Option<Refusal>
         ensures { result ≡ verdict_of_pushes self.now values.now }
     {
@@ -39,9 +39,9 @@ impl Edits {
         }
     }
 
-    /// Writes values at indices in order, all of them or none, and tells the number of the last edit. An index may come twice: the later
-    /// value stays. Refused as the first write that would be refused, with `Worn` or `OutOfRange`, then with `NoMemory`: nothing has
-    /// changed then.
+    /// Writes values at indices in order, all of them or none, and returns the number of the last edit. If an index comes twice, the
+    /// later value stays. Refused with the error of the first write that would be rejected, `Worn` or `OutOfRange`, then with
+    /// `NoMemory`. After an error nothing has changed.
     pub fn write_all(&mut self, indices: &[u32], values: &[i64]) -> Result<u32, Refusal>
         requires paired { length indices.now ≡ length values.now }
         ensures answer { AnswersEdits self.old (writes_at indices.now values.now) result self.new }
@@ -54,7 +54,8 @@ impl Edits {
         }
     }
 
-    /// The refusal of the first write that would be refused, of writes at indices one after another, want of memory apart, or none.
+    /// The error of the first write that would be rejected if writes were made at the indices one after another and memory sufficed,
+    /// or none.
     pub fn verdict_of_writes(&self, indices: &[u32]) -> Option<Refusal>
         ensures { (xs : List ℤ) → length indices.now ≡ length xs → result ≡ verdict_of_edits self.now (writes_at indices.now xs) }
     {

@@ -18,8 +18,8 @@ use lv_summary::Accepted;
 use std::alloc::{AllocError, Global};
 
 impl<B: Body> Live<B> {
-    /// Copies each block that is whole and not fresh, of at most so many from one on, so that its summary may be computed elsewhere. No
-    /// node is claimed by it: who asks for a range twice has its jobs twice. Refused with `NoMemory`; the room for all is made at once.
+    /// Copies each block that is whole and not fresh, of at most so many from one on, so that its summary may be computed elsewhere. No node is
+    /// claimed by it: if a range is copied twice, its jobs are handed out twice. Refused with `NoMemory`; the room for all is made at once.
     pub fn copy_blocks(&self, alloc: Global, first: u32, blocks: u32) -> Result<Batch<B>, Refusal>
         ensures ok { IfOk result (λ batch. batch ≡ due_jobs self.now.body (recorded self.now) first (min blocks (length (list_of self.now.history.journal) / 8 - first))) }
         ensures err { IfErr result (λ refusal. refusal ≡ Refusal.NoMemory) }
@@ -48,7 +48,7 @@ impl<B: Body> Live<B> {
         Ok(jobs)
     }
 
-    // Adds the job of a block, where it is whole and not fresh.
+    // Adds the job of a block, if it is whole and not fresh.
     #[inline(always)]
     fn push_due(&self, jobs: &mut Vec<BlockJob<B>>, number: u32) -> Result<(), AllocError>
         ensures { OnOk result (jobs.new.items ≡ jobs.old.items ++ due_at self.now.body (recorded self.now) number) }
@@ -65,7 +65,7 @@ impl<B: Body> Live<B> {
         Ok(())
     }
 
-    /// Takes each outcome in, in order, as `accept` would where `vet` says yes; one of another vector changes nothing. Takes no memory.
+    /// Takes each outcome in, in order, as `accept` would if `vet` says yes; one of another vector changes nothing. Takes no memory.
     pub fn accept_batch(&mut self, outcomes: &BatchOutcome<B>) -> Batched
         ensures delivers { DeliversEach (B.operations self.old.body) (λ body. B.meaning self.old.body ≡ B.meaning body) outcomes.now self.old self.new result }
         ensures body { self.new.body ≡ self.old.body }
@@ -74,7 +74,7 @@ impl<B: Body> Live<B> {
         self.accept_each(&outcomes.outcomes)
     }
 
-    // The same of outcomes in a row.
+    // Takes each of the outcomes in, in order, as `accept_batch` says.
     fn accept_each(&mut self, outcomes: &[BlockOutcome<B>]) -> Batched
         ensures delivers { DeliversEach (B.operations self.old.body) (λ body. B.meaning self.old.body ≡ B.meaning body) outcomes.now self.old self.new result }
         ensures body { self.new.body ≡ self.old.body }
@@ -92,7 +92,7 @@ impl<B: Body> Live<B> {
         told
     }
 
-    // Delivers an outcome, where it is vouched for, and counts what became of it.
+    // Delivers an outcome if it is vouched for, and counts what became of it.
     #[inline(always)]
     fn accept_next(&mut self, outcome: &BlockOutcome<B>, told: Batched) -> Batched
         requires { all_told told < 2 ^ 64 - 1 }
@@ -111,8 +111,8 @@ impl<B: Body> Live<B> {
         told
     }
 
-    // Whether an outcome may be accepted: its block isn't whole, or was touched by another edit last, or its elements stand here, and its
-    // body is the vector's. Elements are compared here, so that nothing has to be known of where it comes from.
+    // Whether an outcome may be accepted: its block isn't whole, or was touched by another edit last, or has these elements now while the
+    // outcome's body is the vector's. Elements are compared here, so that it doesn't matter where the outcome comes from.
     #[inline(always)]
     fn vet_block(&self, outcome: &BlockOutcome<B>) -> bool
         ensures { IsTrue result ↔ Vouched (B.operations self.now.body) (recorded self.now)

@@ -1,4 +1,4 @@
-//! Questions to a live vector: folds and running folds of a range, and what they cost.
+//! Queries of a live vector: folds and running folds of a range, and what they cost.
 ghost use Rattle.std.specs.Prelude.{◌≡◌, Some, IfOk, IfErr, true, false};
 ghost use Rattle.lv_edits.specs.Ranges.{range_refusal};
 ghost use Rattle.lv_refresh.specs.Record.{is_fresh};
@@ -25,9 +25,9 @@ impl<B: Body> Live<B> {
         lv_reduce::cost(self.view(), lo, hi)
     }
 
-    /// The fold of the elements from index `lo` up to `hi` by any body, with the number of the last edit. It folds the elements where
-    /// they lie and reads no summary, so it is meant for ranges that are so short that their summaries would cost more. Refused with
-    /// `BadRange`, then `OutOfRange`. Takes no memory.
+    /// The fold of the elements from index `lo` up to `hi` by any body, with the number of the last edit. It folds the elements themselves and
+    /// reads no summary, so it is meant for ranges that are so short that their summaries would cost more. Refused with `BadRange`, then
+    /// `OutOfRange`. Takes no memory.
     pub fn fold_by<K: Body>(&self, body: &K, lo: u32, hi: u32) -> Result<(u32, K::S), Refusal>
         ensures ok { IfOk result (λ answer. IsAnswerPair (K.operations body.now) self.now.history.journal lo hi answer) }
         ensures err { IfErr result (λ refusal. range_refusal self.now.history.journal lo hi ≡ Some refusal) }

@@ -28,8 +28,8 @@ impl<B: Body> Live<B> {
         self.claims.claim(&self.history, &self.table, self.body)
     }
 
-    /// Does jobs in place, the least first, at most so many: each is claimed, run and delivered. Tells how many it did; fewer than
-    /// it might where no node wants a job any longer. Takes no memory.
+    /// Does jobs in place, the least first, at most so many: each is claimed, run and delivered. Returns how many it did. These are fewer than
+    /// allowed only if no node wants a job any longer. Takes no memory.
     pub fn refresh(&mut self, jobs: u32) -> u32
         ensures turns { TakesTurns (B.operations self.old.body) self.old self.new result }
         ensures most { result ≤ jobs }
@@ -40,7 +40,7 @@ impl<B: Body> Live<B> {
         self.take_turns(jobs)
     }
 
-    // Completes what is pending, so that elements are folded where they lie.
+    // Completes what is pending, so that elements can be folded in their cells.
     fn complete(&mut self)
         ensures { self.new ≡ self.old }
     {
@@ -65,7 +65,7 @@ impl<B: Body> Live<B> {
         jobs
     }
 
-    // Takes turns of blocks, at most so many, while many that lie side by side want a job.
+    // Takes turns of blocks, at most so many, while many neighbouring blocks want a job.
     #[inline(always)]
     fn take_block_turns(&mut self, jobs: u32) -> u32
         ensures turns { TakesTurns (B.operations self.old.body) self.old self.new result }
@@ -76,8 +76,8 @@ impl<B: Body> Live<B> {
             .refresh_blocks(&self.history, &mut self.table, &self.body, jobs)
     }
 
-    // Claims the least node that wants a job, computes its summary where its contents lie, and installs that. Tells whether a node
-    // wanted one. No job is made, since jobs are wide.
+    // Claims the least node that wants a job, computes its summary without copying its contents, and installs it. Returns whether a node wanted
+    // one. No job is made, since jobs are wide.
     #[inline(always)]
     fn take_turn(&mut self) -> bool
         ensures turn { result ≡ true → TakesTurn self.old self.new }
@@ -97,8 +97,8 @@ impl<B: Body> Live<B> {
         self.claims.forget_claims();
     }
 
-    /// Whether an outcome may be accepted: its node isn't whole, or was touched by another edit last, or what it carries is
-    /// what stands here. Yes for each outcome of a job that this vector handed out. Takes no memory.
+    /// Whether an outcome may be accepted: its node isn't whole, or was touched by another edit last, or what it carries, its body included, is
+    /// what the vector has now. Yes for each outcome of a job that this vector handed out. Takes no memory.
     #[inline(always)]
     pub fn vet(&self, outcome: &Outcome<B>) -> bool
         ensures { IsTrue result ↔ Vouched (B.operations self.now.body) (recorded self.now)
@@ -132,8 +132,8 @@ impl<B: Body> Live<B> {
         accepted
     }
 
-    /// Delivers what a job of this vector gave, by the job's node and version alone: what it carried stands here still where its outcome
-    /// is to be installed, and so that is made anew. Takes no memory.
+    /// Delivers what a job of this vector gave, given only the job's node and version. If the outcome is to be installed, the vector still has
+    /// what the job carried, and so its summary is computed anew. Takes no memory.
     pub fn deliver(&mut self, node: Node, version: u32) -> Accepted
         requires { CanRemake (recorded self.old) node version }
         ensures accepted { result ≡ delivery_of (recorded self.old) node version }

@@ -17,8 +17,8 @@ use lv_refresh::{SUBTREE_BLOCKS, SUBTREE_ELEMENTS, SubtreeJob, SubtreeOutcome};
 use std::alloc::{AllocError, Global};
 
 impl<B: Body> Live<B> {
-    /// Copies the elements of a node of level 4, so that all summaries of it and of the nodes below it may be computed elsewhere: where it is
-    /// whole, and neither its first block nor its last is fresh. No node is claimed by it. Refused with `NoMemory`.
+    /// Copies the elements of a node of level 4, so that all summaries of it and of the nodes below it may be computed elsewhere, if it is whole,
+    /// and neither its first block nor its last is fresh. No node is claimed by it. Refused with `NoMemory`.
     pub fn copy_subtree(&self, alloc: Global, number: u32) -> Result<Option<SubtreeJob<B>>, Refusal>
         ensures ok { IfOk result (λ job. job ≡ subtree_job self.now.body (recorded self.now) number) }
         ensures err { IfErr result (λ refusal. refusal ≡ Refusal.NoMemory) }
@@ -53,9 +53,9 @@ impl<B: Body> Live<B> {
         self.table.whole(Node { level: 4, number })
     }
 
-    /// Keeps all summaries that a subtree's job gave, each with the number of the edit that touched its node last, where what the job carried
-    /// stands here still: then it tells yes, and the outcome is spent. Else it tells no, and nothing has changed. An outcome of another vector
-    /// may be given: its elements are compared. Takes no memory.
+    /// Keeps all summaries that a subtree's job gave, each with the number of the edit that touched its node last, if what the job carried is
+    /// still current: then it returns true, and the outcome is spent. Else it returns false, and nothing has changed. An outcome of another
+    /// vector may be given: its elements are compared. Takes no memory.
     pub fn accept_subtree(&mut self, outcome: &mut SubtreeOutcome<B>) -> bool
         ensures answer { IsTrue result ↔ CanTake (λ body. B.meaning self.old.body ≡ B.meaning body) self.old.history.journal outcome.old }
         ensures kept { result ≡ true → IfSome outcome.old (λ copied. HasSubtree self.old self.new copied.number) }
@@ -86,7 +86,7 @@ impl<B: Body> Live<B> {
         }
     }
 
-    // Whether what a subtree's job carried stands here.
+    // Whether what a subtree's job carried is current.
     fn subtree_stands(&self, job: &SubtreeJob<B>) -> bool
         ensures { IsTrue result ↔ SubtreeStands (λ body. B.meaning self.now.body ≡ B.meaning body) self.now.history.journal job.now }
     {

@@ -13,24 +13,23 @@ use std::mem::size_of_val;
 use std::thread;
 use std::thread::Threads;
 
-/// From how many elements on a row has two parts, however narrow its summaries are: nobody but the caller knows how long a `lift`
-/// takes. Where it takes no time, two threads fold so many sums in 27 microseconds, where one takes 11.
+/// The number of elements from which on a row has two parts, however narrow its summaries are: only the caller knows how long a `lift` takes. If
+/// it takes no time, two threads fold so many sums in 27 microseconds, while one takes 11.
 const WORTH_TWO: u32 = 1 << 16;
 
-/// How many bytes of summaries make a part that is worth a thread where they are folded. A thread takes about 10 microseconds to
-/// start and to end, and the second level of halves 15 more; a sum takes 20 microseconds for so many bytes, a best run 25. So two
-/// parts pay from 2 MiB on, and four from 4 MiB on. More parts than processors only cost.
+/// How many bytes of summaries make a part that is worth a thread, if they are only folded. A thread takes about 10 microseconds to start and to
+/// end, and the second level of halves 15 more; a sum takes 20 microseconds for so many bytes, a best run 25. So two parts pay from 2 MiB on, and
+/// four from 4 MiB on. More parts than processors only cost.
 pub const LEAST_FOLD: usize = 1 << 20;
 
-/// How many make a part that is worth a thread where each is kept, as in a scan by three and more. There one thread has to fill the
-/// room first, which is three quarters of a scan by one thread where summaries are wide; then all threads write it again. So it pays
-/// only where joins take long.
+/// How many bytes make a part that is worth a thread, if each summary is stored, as in a scan by three and more. There one thread has to fill the
+/// room first, which is three quarters of a scan by one thread if summaries are wide; then all threads write it again. So it pays only if joins
+/// take long.
 pub const LEAST_SCAN: usize = 1 << 25;
 
-/// Into how many parts a row of so many elements is cut: as many as have the least number of bytes of summaries that is worth a thread,
-/// and two where the row is worth two. More than two are at most one for each processor but one: where the machine has other work, all
-/// wait for the thread that gets no processor. Only for more than two is it asked how many processors there are, which takes 20
-/// microseconds.
+/// Into how many parts a row of so many elements is cut: as many as have the least number of bytes of summaries that is worth a thread, and two
+/// if the row is worth two. If they are more than two, they are at most one fewer than there are processors: when the machine has other work, all
+/// wait for the thread that gets no processor. The number of processors is asked for only then, since that takes 20 microseconds.
 pub fn parts_for<R: Threads, B: Body>(rt: &R, body: &B, len: u32, least: usize) -> usize
     requires { 0 < least }
     ensures { 0 < result }
@@ -43,7 +42,7 @@ pub fn parts_for<R: Threads, B: Body>(rt: &R, body: &B, len: u32, least: usize) 
     parts.min(current_num_threads(rt) - 1).max(two)
 }
 
-/// The fold of the elements of a part of a row, by so many threads, of which each has a part of it.
+/// The fold of the elements of a part of a row, by so many threads. Each folds a part of it.
 pub fn fold_halved<R: Threads + Sync, B: Body>(
     rt: &R,
     part: Part<'_>,
@@ -75,7 +74,7 @@ pub fn fold_halved<R: Threads + Sync, B: Body>(
     join(body, front, back)
 }
 
-/// Where the first few of so many parts of a range end, where a block begins if one does in them.
+/// The index at which the first few of so many parts of a range end. It is the start of a block, if one begins in them.
 pub fn cut(lo: u32, hi: u32, few: usize, parts: usize) -> u32
     requires order { lo ≤ hi }
     requires some { 0 < parts }

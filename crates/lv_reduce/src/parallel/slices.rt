@@ -1,4 +1,4 @@
-//! The two scans of elements where they lie: as one piece into a new vector, and by several threads into disjoint pieces of one.
+//! The two scans of elements that aren't copied: as one piece into a new vector, and by several threads into disjoint pieces of one.
 ghost use Rattle.std.specs.Prelude.{◌≡◌, ℕ, ◌+◌, ◌-◌, ◌*◌, ◌<◌, ◌≤◌, ◌^◌, ◌++◌, length, take, drop, vec_len, All, IfOk};
 ghost use Rattle.std.specs.List.{slice_range};
 ghost use Rattle.lv_geometry.specs.Elements.{IsElement};
@@ -66,8 +66,7 @@ pub fn scan_part<R: Threads + Sync, B: Body>(
     }
 }
 
-// One of the two scans of a part of a row, in so many pieces, of which each is folded and then scanned where it lies by a thread of
-// its own.
+// One of the two scans of a part of a row, in so many pieces. A thread of its own folds each piece and then scans it into its place.
 fn scan_by_pieces<R: Threads + Sync, B: Body>(
     rt: &R,
     alloc: Global,
@@ -144,7 +143,7 @@ fn fold_piece<B: Body>(part: Part<'_>, body: &B, size: usize, n: usize) -> B::S
     fold_range(part.row, body, from, from + count)
 }
 
-// Tells that the elements of a slice are of 64 bits. No step of it is left where it runs.
+// Proves to the checker that the elements of a slice are of 64 bits. The loop computes nothing, so that no code is left of it.
 pub fn tell_elements(xs: &[i64])
     ensures { All IsElement xs.now }
 {
@@ -153,7 +152,7 @@ pub fn tell_elements(xs: &[i64])
     }
 }
 
-// For each piece of so many elements the fold of all that stand before it.
+// For each piece of so many elements, the fold of all elements before it.
 fn befores_of<R: Threads + Sync, B: Body>(
     rt: &R,
     alloc: Global,
@@ -233,8 +232,8 @@ fn scan_piece<B: Body>(
     }
 }
 
-// Puts the scan of a range of a vector where its values belong, by runs of elements that lie side by side. What stands before it is the
-// fold from an earlier index on.
+// Puts the scan of a range of a vector where its values belong, by runs of neighbouring cells. `before` is the fold of the elements from an
+// earlier index up to the range.
 fn scan_cells<B: Body>(
     body: &B,
     inclusive: bool,
@@ -260,7 +259,8 @@ fn scan_cells<B: Body>(
     }
 }
 
-// Puts the scan of some elements, from what stands before them, where its values belong: from an index on. Gives what they lead to.
+// Puts the scan of some elements, continued from the summary `before`, where its values belong: from an index on. Returns the fold that it
+// reaches.
 fn scan_into<B: Body>(
     body: &B,
     inclusive: bool,

@@ -48,8 +48,8 @@ pub fn scan_by_two<R: Threads + Sync, B: Body>(
     }
 }
 
-// One of the two scans of two parts of a row that lie side by side, each by a thread. There is room for both in the first vector,
-// and room for the second part in the other.
+// One of the two scans of two neighbouring parts of a row, each by a thread. There is room for both in the first vector, and room for the second
+// part in the other.
 fn scan_both<R: Threads + Sync, B: Body>(
     rt: &R,
     first: Part<'_>,
@@ -124,7 +124,7 @@ fn push_part<B: Body>(part: Part<'_>, body: &B, inclusive: bool, values: &mut Ve
     }
 }
 
-// Pushes one of the two scans of a range of a vector, by runs of elements that lie side by side.
+// Pushes one of the two scans of a range of a vector, by runs of neighbouring cells.
 fn push_cells<B: Body>(
     body: &B,
     inclusive: bool,
@@ -154,7 +154,7 @@ fn push_cells<B: Body>(
     sum
 }
 
-// Pushes some values, each joined with what stands before it. There is room for all.
+// Pushes some values, each joined with the summary `before` in front of it. There is room for all.
 fn put_behind<B: Body>(body: &B, before: B::S, more: &[B::S], values: &mut Vec<B::S>)
     requires can { All (λ value. CanJoin (B.is_within body.now) before value) more.now }
     requires room { vec_len values.old + length more.now ≤ vec_capacity values.old }

@@ -12,7 +12,7 @@ use lv_edits::Edits;
 use lv_geometry::Node;
 use lv_summary::Summaries;
 
-/// The job of a node that wants one; none where one of its children is not fresh.
+/// The job of a node that wants one; none if one of its children is not fresh.
 #[inline(always)]
 pub fn job_of<B: Body>(
     history: &Edits,
@@ -54,7 +54,7 @@ fn block_job<B: Body>(
     Some(JobOf::new(node, version, Contents::Elements(elements), body))
 }
 
-// The job of a node above level 1; none where one of its children is not fresh.
+// The job of a node above level 1; none if one of its children is not fresh.
 #[inline(never)]
 fn parent_job<B: Body>(
     history: &Edits,

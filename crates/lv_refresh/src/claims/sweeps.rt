@@ -16,9 +16,9 @@ use lv_geometry::Node;
 use lv_summary::Summaries;
 
 impl Claims {
-    /// Refreshes blocks in the order of their numbers, at most so many: 64 at a time, while each of the next 64 is hinted at. Each is
-    /// the least node that wants a job then, and is refreshed as `refresh_next` would. Tells how many it refreshed; other nodes may
-    /// want a job after it. Takes no memory.
+    /// Refreshes blocks in the order of their numbers, at most so many: 64 at a time, while each of the next 64 is hinted at. Each is the least
+    /// node that wants a job then, and is refreshed as `refresh_next` would. Returns how many it refreshed; other nodes may want a job after it.
+    /// Takes no memory.
     #[inline(always)]
     pub fn refresh_blocks<B: Body>(
         &mut self,
@@ -96,8 +96,8 @@ impl Claims {
         done
     }
 
-    // Refreshes a block, if it wants it, where no block before it does, and leaves its hint. `near` is what lies side by side of the
-    // elements of its word. Tells whether it wanted it, by 1 or 0.
+    // Refreshes a block, if it wants it and no block before it does, and leaves its hint. `near` are those elements of its word that are in
+    // neighbouring cells. Returns 1 if the block wanted it, else 0.
     #[inline(always)]
     fn refresh_block<B: Body>(
         &mut self,

@@ -1,4 +1,4 @@
-//! What each command of a series' script is answered.
+//! The replies to each command of a series' script.
 ghost use Rattle.std.specs.Prelude.{◌≡◌, List, ℕ, ◌++◌, IfErr, OnOk, map, vec_capacity};
 ghost use Rattle.lv_bodies.specs.Plain.{program_table};
 ghost use Rattle.lv_lines.specs.Output.{HasRoom, KeepsRoom, Puts, PutsFront, SamePlaces};
@@ -116,7 +116,7 @@ fn put_front(series: &Series, held: &mut Vec<u8>)
     put_first(held, series.first(), series.edits());
 }
 
-// The index behind the last element, and the number of the last edit.
+// Puts the index after the last element, and the number of the last update.
 fn put_extent(series: &Series, held: &mut Vec<u8>)
     requires { HasRoom held.old ROOM }
     ensures text { held.new.items ≡ held.old.items ++ size_text (size_of series.now.held) series.now.edits }
@@ -134,7 +134,7 @@ fn put_element_at(series: &Series, i: u64, held: &mut Vec<u8>)
     put_value(held, series.get(i));
 }
 
-// The value of a kind over a range, or why the range is refused.
+// Puts the value of a kind over a range, or the error for the range.
 fn put_reduced(series: &mut Series, kind: Kind, lo: u64, hi: u64, held: &mut Vec<u8>)
     requires table { series.old.table ≡ program_table }
     requires room { HasRoom held.old ROOM }
@@ -149,7 +149,7 @@ fn put_reduced(series: &mut Series, kind: Kind, lo: u64, hi: u64, held: &mut Vec
     }
 }
 
-// A scan of a range, or why the range is refused.
+// Puts a scan of a range, or the error for the range.
 fn answer_scan<W: Write>(
     series: &Series,
     buffer: &mut ReplyBuffer<'_, W>,
@@ -194,7 +194,7 @@ fn put_index_of(series: &mut Series, sought: Search, lo: u64, hi: u64, held: &mu
     }
 }
 
-// Where the run of a range with the greatest sum is, or why there is no answer.
+// Puts the start and the end of the run of a range with the greatest sum, or the reason that there is none.
 fn put_run_of(series: &mut Series, lo: u64, hi: u64, held: &mut Vec<u8>)
     requires room { HasRoom held.old ROOM }
     ensures answer { (reply : List ℕ) × ((queries : List Asked) → Told (known_of series.old queries) (LongCommand.BestRun lo hi) reply (known_of series.new queries))
@@ -247,7 +247,7 @@ fn put_unwatch(queries: &mut QuerySet<Query>, name: Name, held: &mut Vec<u8>)
     }
 }
 
-// What a query answers: what it was told last.
+// Puts the answer of a query: the one that it reported last.
 fn put_named_answer(series: &Series, queries: &QuerySet<Query>, name: Name, held: &mut Vec<u8>)
     requires told { queries.now.told ≡ map (long_answer series.now.held) queries.now.queries }
     requires room { HasRoom held.old ROOM }

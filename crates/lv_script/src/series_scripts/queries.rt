@@ -15,8 +15,8 @@ use lv_geometry::Refusal;
 use lv_series::Series;
 use lv_standing::{Asks, Note, Query, QuerySet};
 
-/// Registers a query, which counts as told what it answers now, and makes room for a note of it. Refused with `BadRange`, `NameTaken`,
-/// `TooMany`, then `NoMemory`.
+/// Registers a query. Its present answer counts as reported, and there is room for a notification of it. The errors, in the order in which
+/// they are checked, are `BadRange`, `NameTaken`, `TooMany` and `NoMemory`.
 pub fn register(
     series: &mut Series,
     queries: &mut QuerySet<Query>,
@@ -46,7 +46,7 @@ pub fn register(
     queries.watch(query, told)
 }
 
-// What a query answers. The kind's tree is made first, where there is memory for it.
+// The answer of a query. The tree of its kind is made first, if there is memory for it.
 fn prepared_answer(series: &mut Series, query: &Query) -> Shown
     requires table { series.old.table ≡ program_table }
     ensures value { result ≡ long_answer series.old.held query.now }
@@ -56,7 +56,7 @@ fn prepared_answer(series: &mut Series, query: &Query) -> Shown
     answer(series, query)
 }
 
-// The same by the trees that there are.
+// The answer of a query, computed with the trees that there are.
 fn answer(series: &Series, query: &Query) -> Shown
     requires { series.now.table ≡ program_table }
     ensures { result ≡ long_answer series.now.held query.now }
@@ -65,7 +65,7 @@ fn answer(series: &Series, query: &Query) -> Shown
     query.answer_by(&mut asked)
 }
 
-/// Asks all queries once, and lists the notes that are due. What they answer counts as told then.
+/// Computes the answers of all queries once, and lists the notifications that are due. These answers count as reported then.
 pub fn tell(series: &mut Series, queries: &mut QuerySet<Query>, notes: &mut Vec<Note>)
     requires table { series.old.table ≡ program_table }
     requires room { length queries.old.queries ≤ vec_capacity notes.old }
@@ -80,7 +80,7 @@ pub fn tell(series: &mut Series, queries: &mut QuerySet<Query>, notes: &mut Vec<
     queries.mark_told();
 }
 
-// Asks all queries once. The trees of their kinds are made first, where there is memory for them.
+// Computes the answers of all queries once. The trees of their kinds are made first, if there is memory for them.
 fn ask_all(series: &mut Series, queries: &mut QuerySet<Query>)
     requires table { series.old.table ≡ program_table }
     ensures answers { queries.new ≡ with_answers queries.old (map (long_answer series.old.held) queries.old.queries) }
@@ -99,7 +99,7 @@ fn prepare_each(series: &mut Series, queries: &[Query])
     }
 }
 
-// Asks all queries once, by the trees that there are.
+// Computes the answers of all queries once, with the trees that there are.
 fn ask_prepared(series: &Series, queries: &mut QuerySet<Query>)
     requires { series.now.table ≡ program_table }
     ensures { queries.new ≡ with_answers queries.old (map (long_answer series.now.held) queries.old.queries) }

@@ -1,12 +1,12 @@
-//! Where something is in a range of a series.
+//! Searches in a range of a series.
 ghost use Rattle.lv_script.specs.Searched.{best_run, index_of};
 ghost use Rattle.lv_script.specs.Values.{Seeks};
 
 use crate::long_commands::Search;
 use lv_series::{LongRefusal, Series};
 
-/// The index of what is looked for in a range, if it is there. The tree of the kind by which it is looked for is made first. Refused with
-/// `BadRange`, then `OutOfRange`, then `NoMemory`.
+/// The index that a search in a range finds, if there is one. The tree of the kind that the search needs is made first. The errors, in the order in
+/// which they are checked, are `BadRange`, `OutOfRange` and `NoMemory`.
 #[tactic(auto, using(crate::proofs::FoundLaws::first_sought, crate::proofs::FoundLaws::last_sought, crate::proofs::FoundLaws::end_sought))]
 pub fn index_of(
     series: &mut Series,
@@ -31,7 +31,7 @@ pub fn index_of(
     }
 }
 
-/// From which index up to which the run of a range with the greatest sum is, if there are elements. It is refused as `index_of` is.
+/// The start and the end of the run of a range with the greatest sum, if there are elements. The errors are those of `index_of`.
 pub fn run_of(series: &mut Series, lo: u64, hi: u64) -> Result<Option<(u64, u64)>, LongRefusal>
     ensures { Seeks best_run series.old lo hi result series.new }
 {

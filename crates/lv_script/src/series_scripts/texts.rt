@@ -1,4 +1,4 @@
-//! Lines of reply: each is put behind what is held, in room that was made before.
+//! Lines of reply: each is put after what is held, in room that was made before.
 ghost use Rattle.std.specs.Prelude.{◌≡◌, ◌+◌, ◌≤◌, ◌++◌, codes, decimal, vec_len};
 ghost use Rattle.lv_lines.specs.Output.{HasRoom, KeepsRoom};
 ghost use Rattle.lv_lines.specs.Texts.{reply_line};
@@ -9,7 +9,7 @@ use lv_lines::{
 };
 use lv_series::{LongReceipt, LongRefusal};
 
-/// What an accepted edit answers, by the first index that is kept after it.
+/// Puts the reply to an accepted update, given the first index that is kept after it.
 pub fn put_receipt(held: &mut Vec<u8>, receipt: LongReceipt, first: u64)
     requires { HasRoom held.old LINE }
     ensures text { held.new.items ≡ held.old.items ++ long_receipt_text receipt first }

@@ -6,8 +6,8 @@ ghost use Rattle.lv_script.specs.Values.{ShowsValue, without_trees};
 use lv_bodies::{Kind, Shown};
 use lv_series::{LongRefusal, Series};
 
-/// The value of a kind over a range, or why the range is refused. The kind's tree is made first, where there is memory for it; otherwise
-/// the range is folded element by element.
+/// The value of a kind over a range, or the error for the range. The kind's tree is made first, if there is memory for it; otherwise the range is
+/// folded element by element.
 pub fn show_value(series: &mut Series, kind: Kind, lo: u64, hi: u64) -> Result<Shown, LongRefusal>
     requires table { series.old.table ≡ program_table }
     ensures value { ShowsValue series.old.held kind lo hi result }
@@ -20,7 +20,7 @@ pub fn show_value(series: &mut Series, kind: Kind, lo: u64, hi: u64) -> Result<S
     }
 }
 
-/// Makes the tree of a kind, where there is memory for it.
+/// Makes the tree of a kind, if there is memory for it.
 pub fn prepare(series: &mut Series, kind: Kind)
     ensures { without_trees series.new ≡ without_trees series.old }
 {

@@ -1,4 +1,4 @@
--- What the loop keeps in `feed`: pushes the readings of a sensor, in order.
+-- Loop invariants of `feed`: pushes the readings of a sensor, in order.
 use Rattle.alerts.specs.Followed.{HasFed}
 use Rattle.alerts.proofs.feeding.feed.Given as goal
 

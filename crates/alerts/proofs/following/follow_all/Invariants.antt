@@ -1,4 +1,4 @@
--- What the loop keeps in `follow_all`.
+-- Loop invariants of `follow_all`.
 use Rattle.alerts.specs.Followed.{KeepsFollowing}
 use Rattle.alerts.proofs.following.follow_all.Given as goal
 

@@ -1,4 +1,4 @@
--- Proof of `follow_once`: keeps what there is to tell next.
+-- Proof of `follow_once`: keeps the next notification.
 use Rattle.std.proofs.Common.{◌∙◌, ◌++◌, ◌∷◌, [], ap, subst}
 use Rattle.lv_vector.specs.Notes.{IsToldIf}
 use Rattle.alerts.proofs.TellingLaws.{keeps_more}

@@ -1,4 +1,4 @@
--- Proof of `watch_all`: registers questions in order, where there are none yet.
+-- Proof of `watch_all`: registers questions in order, for a subscriber that has none yet.
 use Rattle.std.proofs.Common.{◌∙◌, refl, arith, rules}
 use Rattle.alerts.proofs.WatchingLaws.{watches_next, watches_none}
 use Rattle.alerts.proofs.following.watch_all.Goals as goal

@@ -1,4 +1,4 @@
--- What the loop keeps in `watch_all`: registers questions in order, where there are none yet.
+-- Loop invariants of `watch_all`: registers questions in order, for a subscriber that has none yet.
 use Rattle.std.proofs.Common.{◌≡◌, take}
 use Rattle.alerts.specs.Followed.{IsWatching}
 use Rattle.alerts.proofs.following.watch_all.Given as goal

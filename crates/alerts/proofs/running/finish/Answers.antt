@@ -1,4 +1,4 @@
--- Proof of `finish`: closes the hub, and lets the subscriber tell its last.
+-- Proof of `finish`: closes the hub, and has the subscriber make its last notification.
 use Rattle.std.proofs.Common.{◌∙◌}
 use Rattle.alerts.proofs.TellingLaws.{tells_last}
 use Rattle.alerts.proofs.running.finish.Goals as goal

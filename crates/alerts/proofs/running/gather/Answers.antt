@@ -1,4 +1,4 @@
--- Proof of `gather`: runs all threads at a hub that has no edits yet, and joins what they leave.
+-- Proof of `gather`: runs all threads at a hub that has no updates yet, and merges what they leave.
 use Rattle.alerts.proofs.TellingLaws.{follows_so}
 use Rattle.alerts.proofs.running.gather.Goals as goal
 

@@ -1,4 +1,4 @@
--- The ghosts that are handed on in `run`: two sensors push their readings onto one empty vector of these limits, and a subscriber asks these questions.
+-- Ghost arguments passed in `run`: two sensors push their readings onto one empty vector of these limits, and a subscriber asks these questions.
 use Rattle.std.proofs.Common.{Some, true}
 use Rattle.alerts.proofs.running.run.Given as goal
 

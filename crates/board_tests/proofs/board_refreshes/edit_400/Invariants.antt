@@ -1,4 +1,4 @@
--- What the loop keeps in `edit_400`: makes 400 tries.
+-- Loop invariants of `edit_400`: makes 400 tries.
 use Rattle.lv_board.specs.Closing.{IsStill}
 use Rattle.board_tests.proofs.board_refreshes.edit_400.Given as goal
 

@@ -1,4 +1,4 @@
--- What the loop keeps in `push_eight`: pushes 1 to 8.
+-- Loop invariants of `push_eight`: pushes 1 to 8.
 use Rattle.lv_board.specs.Closing.{IsStill}
 use Rattle.board_tests.proofs.board_refreshes.push_eight.Given as goal
 

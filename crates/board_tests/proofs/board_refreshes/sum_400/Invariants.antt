@@ -1,4 +1,4 @@
--- What the loop keeps in `sum_400`: does so 400 times.
+-- Loop invariants of `sum_400`: does this 400 times.
 use Rattle.lv_board.specs.Closing.{IsStill}
 use Rattle.board_tests.proofs.board_refreshes.sum_400.Given as goal
 

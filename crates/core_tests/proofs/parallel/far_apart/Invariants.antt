@@ -1,4 +1,4 @@
--- What the loop keeps in `far_apart`: 65,536 elements, of which the first is 1, the last is 2 and all others 0.
+-- What the loop keeps in `far_apart`, which makes 65,536 elements: the first is 1, the last is 2, and all others are 0.
 use Rattle.std.proofs.Common.{◌≡◌, ◌+◌, vec_len}
 use Rattle.core_tests.proofs.parallel.far_apart.Given as goal
 

@@ -1,4 +1,4 @@
--- The ghosts that are handed on in `at_hub`: whose ledger, names and body the hub has.
+-- Ghost arguments passed in `at_hub`: runs a test at a hub with this monoid instance, and closes the hub.
 use Rattle.std.proofs.Common.{Some, true}
 use Rattle.lv_history.specs.Numbering.{from_the_first}
 use Rattle.hub_tests.proofs.common.at_hub.Given as goal

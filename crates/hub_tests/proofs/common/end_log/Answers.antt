@@ -1,4 +1,4 @@
--- Proof of `end_log`: closes a hub, and ends its log by all edits.
+-- Proof of `end_log`: closes a hub, and ends its log with all updates.
 use Rattle.std.proofs.Common.{◌++◌, ◌∙◌, append_assoc, ap, sym}
 use Rattle.hub_tests.proofs.common.end_log.Goals as goal
 

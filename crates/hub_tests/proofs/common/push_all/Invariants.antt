@@ -1,4 +1,4 @@
--- What the loop keeps in `push_all`: pushes equal elements in turn, and sees that each is accepted.
+-- Loop invariants of `push_all`: pushes equal elements in turn, and checks that each is accepted.
 use Rattle.std.proofs.Common.{◌≡◌}
 use Rattle.hub_tests.proofs.common.push_all.Given as goal
 

@@ -1,4 +1,4 @@
--- Proof of `hold_counted`: a hub with a log at which a session is held beside an update of another client, closed.
+-- Proof of `hold_counted`: does this at a hub with a log, which it closes, and ends the log.
 use Rattle.std.proofs.Common.{◌∙◌, ap, arith, is_some, subst, sym}
 use Rattle.lv_transcript.specs.Logs.{MayGoOn, edits_there}
 use Rattle.hub_tests.proofs.counted_flushes.hold_counted.Goals as goal

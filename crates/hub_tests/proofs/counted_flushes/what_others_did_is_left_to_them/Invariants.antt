@@ -1,4 +1,4 @@
--- The ghosts that are handed on in `what_others_did_is_left_to_them`: whose ledger, names and body the hub has, and what its log's file says that it has.
+-- Ghost arguments passed in `what_others_did_is_left_to_them`: the ledger, names and monoid instance of the hub, and what its log's file says that it has.
 use Rattle.std.proofs.Common.{None, Some, true}
 use Rattle.lv_history.specs.Numbering.{from_the_first}
 use Rattle.hub_tests.proofs.counted_flushes.what_others_did_is_left_to_them.Given as goal

@@ -1,4 +1,4 @@
--- The ghosts that are handed on in `hold_new`: whose ledger, names and body the hub has.
+-- Ghost arguments passed in `hold_new`: runs a session at a hub that is made here.
 use Rattle.std.proofs.Common.{Some, true}
 use Rattle.lv_history.specs.Numbering.{from_the_first}
 use Rattle.hub_tests.proofs.failing_streams.hold_new.Given as goal

@@ -1,4 +1,4 @@
--- Proof of `hold_logged`: a hub with a log at which a session is held, and which is asked meanwhile, closed.
+-- Proof of `hold_logged`: a hub with a log, at which a session runs and which is asked meanwhile, is closed.
 use Rattle.std.proofs.Common.{◌∙◌, ap, arith, is_some, subst, sym}
 use Rattle.lv_transcript.specs.Logs.{MayGoOn, edits_there}
 use Rattle.hub_tests.proofs.held_logs.hold_logged.Goals as goal

@@ -1,4 +1,4 @@
--- The ghosts that are handed on in `nothing_is_written_under_the_lock`: whose ledger, names and body the hub has, and what its log's file says that it has.
+-- Ghost arguments passed in `nothing_is_written_under_the_lock`: the ledger, names and monoid instance of the hub, and what its log's file says that it has.
 use Rattle.std.proofs.Common.{None, Some, true}
 use Rattle.lv_history.specs.Numbering.{from_the_first}
 use Rattle.hub_tests.proofs.held_logs.nothing_is_written_under_the_lock.Given as goal

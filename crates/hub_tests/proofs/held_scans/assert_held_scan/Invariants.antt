@@ -1,4 +1,5 @@
--- The ghosts that are handed on in `assert_held_scan`: whose ledger, names and body the hub has.
+-- Ghost arguments passed in `assert_held_scan`: checks that a push during a held scan waits for nothing, and that the scan's version is that
+-- before the push.
 use Rattle.std.proofs.Common.{Some, true}
 use Rattle.lv_history.specs.Numbering.{from_the_first}
 use Rattle.hub_tests.proofs.held_scans.assert_held_scan.Given as goal

@@ -1,4 +1,4 @@
--- The ghosts that are handed on in `a_late_worker`: whose ledger, names and body the hub has.
+-- Ghost arguments passed in `a_late_worker`: the ledger, names and monoid instance of the hub.
 use Rattle.std.proofs.Common.{Some, true}
 use Rattle.lv_history.specs.Numbering.{from_the_first}
 use Rattle.hub_tests.proofs.late_workers.a_late_worker.Given as goal

@@ -1,4 +1,4 @@
--- Proof of `begin`: makes a hub whose vector may be made anew, and its log, behind one without entries.
+-- Proof of `begin`: makes such a hub of two parts.
 use Rattle.std.proofs.Common.{◌∙◌, All, List, [], ap, arith, is_some, subst, sym, take}
 use Rattle.std.proofs.lemmas.List.Elements.{All-nil}
 use Rattle.lv_transcript.specs.Fronts.{Entry, IsPush}

@@ -1,4 +1,4 @@
--- The ghosts that are handed on in `sessions_do_not_notice_a_new_vector`: whose ledger, names and body the hub has, and what its log's file says that it has.
+-- Ghost arguments passed in `sessions_do_not_notice_a_new_vector`: the ledger, names and monoid instance of the hub, and what its log's file says that it has.
 use Rattle.std.proofs.Common.{None, Some, [], false}
 use Rattle.lv_hub.specs.Renewing.{lasting}
 use Rattle.hub_tests.proofs.renewed_vectors.sessions_do_not_notice_a_new_vector.Given as goal

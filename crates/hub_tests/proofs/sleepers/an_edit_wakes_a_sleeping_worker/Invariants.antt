@@ -1,4 +1,4 @@
--- The ghosts that are handed on in `an_edit_wakes_a_sleeping_worker`: whose ledger, names and body the hub has.
+-- Ghost arguments passed in `an_edit_wakes_a_sleeping_worker`: the ledger, names and monoid instance of the hub.
 use Rattle.std.proofs.Common.{Some, true}
 use Rattle.lv_history.specs.Numbering.{from_the_first}
 use Rattle.hub_tests.proofs.sleepers.an_edit_wakes_a_sleeping_worker.Given as goal

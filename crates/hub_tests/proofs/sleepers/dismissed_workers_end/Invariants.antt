@@ -1,4 +1,4 @@
--- The ghosts that are handed on in `dismissed_workers_end`: whose ledger, names and body the hub has.
+-- Ghost arguments passed in `dismissed_workers_end`: the ledger, names and monoid instance of the hub.
 use Rattle.std.proofs.Common.{Some, true}
 use Rattle.lv_history.specs.Numbering.{from_the_first}
 use Rattle.hub_tests.proofs.sleepers.dismissed_workers_end.Given as goal

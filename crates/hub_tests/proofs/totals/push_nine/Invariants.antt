@@ -1,4 +1,4 @@
--- What the loop keeps in `push_nine`: the parts of the share.
+-- Loop invariants of `push_nine`: the parts of the share.
 use Rattle.std.proofs.Common.{◌≡◌}
 use Rattle.hub_tests.proofs.totals.push_nine.Given as goal
 

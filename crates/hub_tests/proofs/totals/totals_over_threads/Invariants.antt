@@ -1,4 +1,4 @@
--- The ghosts that are handed on in `totals_over_threads`: whose ledger, names and body the hub has.
+-- Ghost arguments passed in `totals_over_threads`: the ledger, names and monoid instance of the hub.
 use Rattle.std.proofs.Common.{Some, true}
 use Rattle.lv_history.specs.Numbering.{from_the_first}
 use Rattle.hub_tests.proofs.totals.totals_over_threads.Given as goal

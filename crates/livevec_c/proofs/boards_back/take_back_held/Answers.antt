@@ -1,4 +1,4 @@
--- Proof of `take_back_held`: takes back the seat that lay behind a slot, which is empty now, where it is one.
+-- Proof of `take_back_held`: takes back the object that was taken out of the seat's slot, if it is a seat of this board.
 use Rattle.std.proofs.Common.{◌∙◌, Some, ap, inr, refl, sym}
 use Rattle.livevec_c.proofs.boards_back.take_back_held.Goals as goal
 

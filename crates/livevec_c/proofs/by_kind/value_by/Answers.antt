@@ -1,4 +1,4 @@
--- Proof of `value_by`: the same by whichever kind.
+-- Proof of `value_by`: a value of a vector by any kind.
 use Rattle.std.proofs.Common.{ap, sym, ◌∙◌}
 use Rattle.livevec_c.specs.Valued.{value_of}
 use Rattle.livevec_c.proofs.by_kind.value_by.Goals as goal

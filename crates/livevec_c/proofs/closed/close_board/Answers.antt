@@ -1,4 +1,4 @@
--- Proof of `close_board`: what lies behind the slot of a board after its close, and what that answers.
+-- Proof of `close_board`: closes a board, and returns the object for its slot and the answer.
 use Rattle.std.proofs.Common.{refl, inl, inr}
 use Rattle.livevec_c.proofs.closed.close_board.Goals as goal
 

@@ -1,4 +1,4 @@
--- Proof of `close_object`: what is left of an object that is closed, if it is a board, and what that answers.
+-- Proof of `close_object`: closes an object, if it is a board.
 use Rattle.livevec_c.proofs.Others.{other_closes}
 use Rattle.livevec_c.proofs.closed.close_object.Goals as goal
 

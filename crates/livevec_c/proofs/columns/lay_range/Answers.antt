@@ -1,4 +1,4 @@
--- Proof of `lay_range`: puts the cells of one of the two scans of a range into a column of as many places, by runs of elements that lie side by side.
+-- Proof of `lay_range`: puts the cells of one of the two scans of a range into a column that has exactly as many places.
 use Rattle.std.proofs.Common.{◌≡◌, ◌+◌, ◌-◌, ◌++◌, length, map, take, refl, sym, ap, ◌∙◌, arith}
 use Rattle.std.proofs.lemmas.List.{map-append, take_all}
 use Rattle.lv_edits.specs.History.{list_of}

@@ -1,11 +1,11 @@
--- What the loop keeps in `lay_range`: puts the cells of one of the two scans of a range into a column of as many places, by runs of elements that lie side by side.
+-- What the loop keeps in `lay_range`, which puts the cells of a scan of a range into a column that has exactly as many places.
 use Rattle.std.proofs.Common.{◌-◌, ◌≡◌, ◌≤◌, length, map, take}
 use Rattle.lv_bodies.specs.Body.{fold_of}
 use Rattle.lv_edits.specs.Ranges.{slice_of}
 use Rattle.lv_reduce.specs.Answer.{scan_of}
 use Rattle.livevec_c.proofs.columns.lay_range.Given as goal
 
--- the cells of the scan of what was read so far, and what it leads to
+-- the cells of the scan of what was read so far, and the summary that it leads to
 abbrev pub invariant-loop-at : goal.invariant-loop-at
 invariant-loop-at g l =
     let o = g.B.Body.operations l.body in

@@ -1,4 +1,4 @@
--- Proof of `lay_run`: puts the cells of the scan of some elements, from what stands before them, into a column from a place on.
+-- Proof of `lay_run`: puts the cells of the scan of some elements into a column, from a place on.
 use Rattle.std.proofs.Common.{◌≡◌, ◌+◌, ◌<◌, ◌++◌, ◌∷◌, [], append-nil, append_assoc, pos, length, map, slice_index_or, slice_range, slice_set, take, if◌then◌else◌, rules, refl, subst, sym, ap, ◌∙◌, arith}
 use Rattle.std.specs.Int.{w64}
 use Rattle.std.proofs.lemmas.Int.{to_z-of_z}

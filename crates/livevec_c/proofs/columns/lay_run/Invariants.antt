@@ -1,9 +1,9 @@
--- What the loop keeps in `lay_run`: puts the cells of the scan of some elements, from what stands before them, into a column from a place on.
+-- What the loop keeps in `lay_run`, which puts the cells of the scan of some elements into a column, from a place on.
 use Rattle.std.proofs.Common.{◌≡◌, ◌+◌, ◌++◌, ◌^◌, ◌≤◌, ℕ, length, map, slice_range, take}
 use Rattle.lv_reduce.specs.Running.{reached, scan_from}
 use Rattle.livevec_c.proofs.columns.lay_run.Given as goal
 
--- the cells of the scan of the elements so far, behind what was there, and what they lead to, which may take the rest
+-- the cells of the scan of the elements so far, after what was there, and the summary that they lead to, which may take the rest
 abbrev pub invariant-loop-k : goal.invariant-loop-k
 invariant-loop-k g l =
     let body = l.body in

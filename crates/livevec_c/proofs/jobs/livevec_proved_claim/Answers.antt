@@ -1,4 +1,4 @@
--- Proof of `livevec_proved_claim`: puts a job for the least node that wants one into an empty slot.
+-- Proof of `livevec_proved_claim`: puts a job for the least node that needs one into an empty slot.
 use Rattle.std.proofs.Common.{◌∙◌, Some, ap, sym}
 use Rattle.livevec_c.proofs.Empty.{is_none-None}
 use Rattle.livevec_c.proofs.jobs.livevec_proved_claim.Goals as goal

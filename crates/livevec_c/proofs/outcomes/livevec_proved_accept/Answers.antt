@@ -1,4 +1,4 @@
--- Proof of `livevec_proved_accept`: delivers an outcome, where vetting says yes.
+-- Proof of `livevec_proved_accept`: delivers an outcome, if vetting says yes.
 use Rattle.std.proofs.Common.{◌∙◌, Some, ap, sym}
 use Rattle.livevec_c.proofs.outcomes.livevec_proved_accept.Goals as goal
 

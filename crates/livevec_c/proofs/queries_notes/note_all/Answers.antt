@@ -1,4 +1,4 @@
--- Proof of `note_all`: notes each question whose value is another than it was told, at the front of the notes' places, and tells how many these are.
+-- Proof of `note_all`: notes each question for whose value a note is due, in the first of the notes' places, and returns how many these are.
 use Rattle.std.proofs.Common.{arith, rules}
 use Rattle.livevec_c.proofs.NotingLaws.{all_noted, next_noted, none_noted}
 use Rattle.livevec_c.proofs.queries_notes.note_all.Goals as goal

@@ -1,4 +1,5 @@
--- What the loop keeps in `note_all`: notes each question whose value is another than it was told, at the front of the notes' places, and tells how many these are.
+-- What the loop keeps in `note_all`, which notes each question for whose value a note is due, in the first of the notes' places, and returns how
+-- many these are.
 use Rattle.std.proofs.Common.{take}
 use Rattle.livevec_c.specs.Queried.{NotesInto}
 use Rattle.livevec_c.proofs.queries_notes.note_all.Given as goal

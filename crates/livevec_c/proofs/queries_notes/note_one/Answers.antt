@@ -1,4 +1,4 @@
--- Proof of `note_one`: notes a question if a note of its value is due, behind so many notes, and tells how many there are then.
+-- Proof of `note_one`: notes a question if a note of its value is due, after `count` other notes, and returns how many there are then.
 use Rattle.std.proofs.Common.{[], refl, sym, inl, arith}
 use Rattle.std.proofs.lemmas.List.{take-append-drop}
 use Rattle.livevec_c.proofs.NotingLaws.{noted_one}

@@ -1,4 +1,4 @@
--- Proof of `put_note`: puts a note at a place, where there is such a place.
+-- Proof of `put_note`: puts a note at a place, if there is such a place.
 use Rattle.std.proofs.Common.{◌≡◌, ◌+◌, ◌<◌, ◌≤◌, ℕ, suc, List, ◌∷◌, ◌++◌, length, take, drop, refl, ap, ◌∙◌, arith}
 use Rattle.std.specs.Prelude.{slice_set}
 use Rattle.std.proofs.lemmas.List.{length-set, set_split}

@@ -1,4 +1,4 @@
--- Proof of `lay_runs`: puts the elements of a range into a buffer of as many places, by runs of elements that lie side by side.
+-- Proof of `lay_runs`: puts the elements of a range into a buffer that has exactly as many places.
 use Rattle.std.proofs.Common.{◌≡◌, ◌+◌, ◌-◌, ◌++◌, length, take, sym, ap, ◌∙◌, arith}
 use Rattle.std.proofs.lemmas.List.{take_all}
 use Rattle.lv_edits.specs.History.{list_of}

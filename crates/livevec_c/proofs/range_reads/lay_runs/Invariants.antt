@@ -1,4 +1,4 @@
--- What the loop keeps in `lay_runs`: puts the elements of a range into a buffer of as many places, by runs of elements that lie side by side.
+-- What the loop keeps in `lay_runs`, which puts the elements of a range into a buffer that has exactly as many places.
 use Rattle.std.proofs.Common.{◌-◌, ◌≡◌, ◌≤◌, length, take}
 use Rattle.lv_edits.specs.Ranges.{slice_of}
 use Rattle.livevec_c.proofs.range_reads.lay_runs.Given as goal

@@ -1,4 +1,4 @@
--- Proof of `six_held`: a reduction by all six kinds of what lies behind a slot.
+-- Proof of `six_held`: a reduction by all six kinds of the object in a slot.
 use Rattle.std.proofs.Common.{◌∙◌, Some, ap, sym}
 use Rattle.livevec_c.proofs.PlainAnswers.{six_plain}
 use Rattle.livevec_c.proofs.reads.six_held.Goals as goal

@@ -1,4 +1,4 @@
--- Proof of `six_values`: the plain values of a range of which the sum is known: the others are asked by their kinds.
+-- Proof of `six_values`: the plain values of a range whose sum is known. The others are asked by their kinds.
 use Rattle.livevec_c.proofs.AskedLaws.{six_put}
 use Rattle.livevec_c.proofs.reads.six_values.Goals as goal
 

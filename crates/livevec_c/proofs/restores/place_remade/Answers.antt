@@ -1,4 +1,4 @@
--- Proof of `place_remade`: the same at an object that then goes into an empty slot, where all edits were made.
+-- Proof of `place_remade`: makes edits at an object, one after the other, and puts the object into an empty slot if all were made.
 use Rattle.std.proofs.Common.{sym}
 use Rattle.livevec_c.proofs.restores.place_remade.Goals as goal
 

@@ -8,7 +8,7 @@ use Rattle.livevec_c.specs.Written.{accepted_before}
 use Rattle.livevec_c.proofs.RemadeLaws.{count_next, left_next, made_all, made_next, stopped_at}
 use Rattle.livevec_c.proofs.restores.remake.Goals as goal
 
--- what stands past the end
+-- the edit that is read at a place past the end
 abbrev first : Edit
 first = Push (pos 0)
 

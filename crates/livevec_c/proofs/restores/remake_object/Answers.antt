@@ -1,4 +1,4 @@
--- Proof of `remake_object`: the same at an object.
+-- Proof of `remake_object`: makes edits at an object, one after the other, if it is a vector.
 use Rattle.std.proofs.Common.{refl}
 use Rattle.livevec_c.proofs.restores.remake_object.Goals as goal
 

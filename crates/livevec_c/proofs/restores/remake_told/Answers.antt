@@ -1,4 +1,4 @@
--- Proof of `remake_told`: the same, and tells how many were made.
+-- Proof of `remake_told`: makes edits at a vector, one after the other. If one is refused, it returns how many edits the vector has then.
 use Rattle.std.proofs.Common.{length, ap, ◌∙◌}
 use Rattle.livevec_c.specs.Behind.{State}
 use Rattle.livevec_c.proofs.RemadeLaws.{told_at}

@@ -1,4 +1,5 @@
--- Proof of `restore_found`: puts a vector that is made anew from what was found of a text into an empty slot, where that is a front.
+-- Proof of `restore_found`: puts a vector that is made anew from what was found of a text into an empty slot, if the text is a prefix of a
+-- transcript.
 use Rattle.std.proofs.Common.{List, subst}
 use Rattle.lv_edits.specs.declared.edit.Edit.{Edit}
 use Rattle.livevec_c.specs.Restores.{RestoresEdits}

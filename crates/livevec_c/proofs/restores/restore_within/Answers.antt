@@ -1,4 +1,4 @@
--- Proof of `restore_within`: the same within limits that may be none.
+-- Proof of `restore_within`: puts a vector that is made anew from a text into an empty slot, within limits that may not be allowed.
 use Rattle.std.proofs.Common.{refl, inr, subst}
 use Rattle.livevec_c.specs.Restores.{RestoresAt}
 use Rattle.livevec_c.proofs.restores.restore_within.Goals as goal

@@ -1,4 +1,4 @@
--- Proof of `call_held`: a call of what lies behind a slot.
+-- Proof of `call_held`: a call of the seat that a slot holds.
 use Rattle.std.proofs.Common.{◌∙◌, Some, ap, sym}
 use Rattle.livevec_c.proofs.seats.call_held.Goals as goal
 

@@ -1,4 +1,4 @@
--- Proof of `ask_held`: a reduction of what has a series, which makes the tree of each kind first.
+-- Proof of `ask_held`: a reduction of something that has a series. The tree of each kind is made first.
 use Rattle.std.proofs.Common.{None, sym, ap, ◌∙◌}
 use Rattle.lv_series.specs.Series.{range_refused}
 use Rattle.livevec_c.specs.SeriesBehind.{with_all}

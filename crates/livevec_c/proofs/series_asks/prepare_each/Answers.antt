@@ -1,4 +1,4 @@
--- Proof of `prepare_each`: makes the tree of each kind, where there is none, and says whether there was memory for it.
+-- Proof of `prepare_each`: makes the missing trees of all kinds, and returns whether there was memory for them.
 use Rattle.std.proofs.Common.{refl, sym, ap, take, ◌∙◌}
 use Rattle.std.proofs.lemmas.List.{take_all}
 use Rattle.lv_bodies.specs.declared.kinds.Kind.TheVariants.{Sum}

@@ -1,4 +1,4 @@
--- What the loop keeps in `prepare_each`: makes the tree of each kind, where there is none, and says whether there was memory for it.
+-- What the loop keeps in `prepare_each`, which makes the missing trees of all kinds, and returns whether there was memory for them.
 use Rattle.std.proofs.Common.{◌≡◌, take}
 use Rattle.livevec_c.proofs.HeldLaws.{each_kind, with_trees}
 use Rattle.livevec_c.proofs.series_asks.prepare_each.Given as goal

@@ -1,4 +1,4 @@
--- Proof of `lay_piece`: puts the running values of some elements into the front of a column, which keeps what it has behind.
+-- Proof of `lay_piece`: puts the running values of some elements at the start of a column, which keeps what it has after them.
 use Rattle.std.proofs.Common.{◌+◌, ◌++◌, length, drop, map, sym, ap, subst, ◌∙◌, arith}
 use Rattle.std.proofs.lemmas.List.{length-take-le, take_all}
 use Rattle.lv_reduce.specs.Running.{scan_from}

@@ -1,4 +1,4 @@
--- Proof of `find_held`: what is looked for in a range of what has a series.
+-- Proof of `find_held`: searches a range of something that has a series.
 use Rattle.std.proofs.Common.{ap, ◌∙◌}
 use Rattle.lv_series.specs.Series.{with_kind}
 use Rattle.livevec_c.specs.SeriesHeld.{Long}

@@ -57,7 +57,7 @@ use Rattle.livevec_c.proofs.series_lent.livevec_proved_series_lend.Code as code
 abbrev Into : Slot 2
 Into = mut_ref_to (1 ∷ []) tt (plain (λ κs. Lent.the_row (named_lft 2 0 tt κs)))
 
--- it is handed on: what its last value is, is told
+-- it is handed on, and its last value is known then
 abbrev handed : Stay Into yes
 handed = record { fit = λ κs x w. Unit {0}; has = λ κs x w vs. left ((Into.row κs).exit yes) x w }
 

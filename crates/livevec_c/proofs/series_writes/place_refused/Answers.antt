@@ -1,4 +1,4 @@
--- Proof of `place_refused`: which of writes under indices, one after another, is the first that would be refused; 0 where none would be.
+-- Proof of `place_refused`: the place of the first of some writes, one after another, that would be refused; 0 if none would be.
 use Rattle.std.proofs.Common.{◌-◌, true, false, get_or, sym, ap, ◌∙◌, arith}
 use Rattle.std.specs.Prelude.{is_err}
 use Rattle.lv_series.specs.Series.{size_of}

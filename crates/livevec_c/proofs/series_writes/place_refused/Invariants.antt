@@ -1,4 +1,4 @@
--- What the loop keeps in `place_refused`: which of writes under indices, one after another, is the first that would be refused; 0 where none would be.
+-- What the loop keeps in `place_refused`, which returns the place of the first write that would be refused; 0 if none would be.
 use Rattle.lv_series.specs.Series.{size_of}
 use Rattle.livevec_c.proofs.SeriesWriteLaws.{AreFreeBefore}
 use Rattle.livevec_c.proofs.series_writes.place_refused.Given as goal

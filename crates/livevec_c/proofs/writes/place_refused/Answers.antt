@@ -1,4 +1,5 @@
--- Proof of `place_refused`: which of writes at indices, one after another, is the first that would be refused, want of memory apart; 0 where none would be.
+-- Proof of `place_refused`: the place of the first of some writes, one after another, that would be refused for another reason than out of memory;
+-- 0 if none would be.
 use Rattle.std.proofs.Common.{◌≡◌, ℤ, List, ap, subst, sym, ◌∙◌, length, cond, is_some, arith}
 use Rattle.lv_edits.specs.Batches.{writes_at}
 use Rattle.lv_edits.specs.History.{list_of}

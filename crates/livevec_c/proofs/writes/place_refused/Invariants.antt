@@ -1,4 +1,5 @@
--- What the loop keeps in `place_refused`: which of writes at indices, one after another, is the first that would be refused, want of memory apart; 0 where none would be.
+-- What the loop keeps in `place_refused`, which returns the place of the first write that would be refused for another reason than out of memory; 0
+-- if none would be.
 use Rattle.livevec_c.proofs.WrittenLaws.{AreFreeBefore}
 use Rattle.livevec_c.proofs.writes.place_refused.Given as goal
 

@@ -1,4 +1,4 @@
--- What the loop keeps in `collect`: the vector has the elements so far, and room for the others.
+-- Loop invariants of `collect`: puts the elements that the last words show into a vector that has room for them.
 use Rattle.std.specs.Prelude.{◌≡◌, ◌≤◌, map, vec_capacity, length}
 use Rattle.std.specs.List.{range_with_len}
 use Rattle.std.specs.Mem.Slots.{slots_items}

@@ -1,4 +1,4 @@
--- Proof of `exchange`: the exchange of the descriptor from the look to the one after an edit, at the seat's own table.
+-- Proof of `exchange`: the compare-and-swap of the descriptor from the look to the descriptor after an update, at the seat's own table.
 use Rattle.std.proofs.Common.{◌≡◌, ℕ, ◌∷◌, nat_eq, refl, ap, ◌∙◌, subst, arith}
 use Rattle.std.specs.Prelude.{MatchBool}
 use Rattle.std.proofs.lemmas.Bool.{eq-eqb, ne_eqb}
@@ -17,7 +17,7 @@ compare_exchange-found-requires g c = (
   exchanges_at_key g.B.BoardBody.folding c.args.seat.now.terms c.args.table.now.shared.key c.requires.key c.args.table.now.shared.table_id.slots c.args.seat.now.token.id c.args.seat.now.look c.args.new c.args.edit c.args.seat.now.token.me c.args.seat.now.sits c.args.seat.now.looks.shown c.requires.after c.requires.short c.requires.ready c.requires.free,
 )
 
--- what the table's step told, by the test of what it found
+-- what the table's step guarantees, depending on what it found
 told_true : (P Q : Type 0) (m n : ℕ) → m ≡ n → MatchBool (nat_eq m n) P Q → P
 told_true P Q m n is told = subst (λ b. MatchBool b P Q) (eq-eqb m n is) told
 

@@ -1,4 +1,4 @@
--- Proof of `install`: installs a part of the summary of a block that is whole where the seat looked, at the seat's own table.
+-- Proof of `install`: installs a part of the aggregate of a block that is full as the seat sees it, at the seat's own table.
 use Rattle.std.proofs.Common.{◌≡◌, ℕ, ◌+◌, ◌-◌, ◌<◌, List, ◌∷◌, refl, sym, ap, ◌∙◌, arith}
 use Rattle.lv_machine.specs.declared.moves.Move.TheVariants.{Install}
 use Rattle.lv_machine.specs.Layout.{block_at, row_at}

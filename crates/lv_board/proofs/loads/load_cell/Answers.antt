@@ -1,4 +1,4 @@
--- Proof of `load_cell`: the element in a cell, as the seat looked, or the later edit that wrote there since.
+-- Proof of `load_cell`: the element in a cell, as the seat sees it, or the later update that has since written there.
 use Rattle.std.proofs.Common.{rules, ◌≤◌, refl, ap, ◌∙◌, length, arith}
 use Rattle.std.specs.Int.{w64}
 use Rattle.std.proofs.lemmas.Int.{to_z-of_z}

@@ -1,4 +1,4 @@
--- Proof of `load_descriptor`: the descriptor of the seat's own table: the look becomes what is loaded.
+-- Proof of `load_descriptor`: loads the descriptor of the seat's own table, which becomes the look.
 use Rattle.std.proofs.Common.{refl, sym, ap, ◌∙◌, subst, arith}
 use mathlib.Core.Option.{none}
 use Rattle.atomic_table.specs.Table.{Allows, step}

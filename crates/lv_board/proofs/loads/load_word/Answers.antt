@@ -1,4 +1,4 @@
--- Proof of `load_word`: another word of the seat's own table than the descriptor.
+-- Proof of `load_word`: loads another word of that table.
 use Rattle.std.proofs.Common.{refl, sym, ap, subst, arith}
 use mathlib.Core.Option.{none}
 use Rattle.atomic_table.specs.Table.{Allows, step}

@@ -1,4 +1,4 @@
--- Proof of `lay`: a board with no edits, and the token that deals its seats.
+-- Proof of `lay`: a board with no updates, and the token that deals its seats.
 use Rattle.std.proofs.Common.{◌≡◌, ◌*◌, [], ◌∷◌, replicate, ap, ◌∙◌, arith}
 use Rattle.lv_machine.specs.History.{descriptor_of}
 use Rattle.lv_machine.specs.Terms.{blocks_of}

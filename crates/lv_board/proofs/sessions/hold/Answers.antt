@@ -1,4 +1,4 @@
--- Proof of `hold`: holds a session of a seat of a body, whose lines an answerer answers.
+-- Proof of `hold`: runs a session with a seat.
 use Rattle.std.proofs.Common.{rules}
 use Rattle.lv_board.proofs.Sittings.{ended_as}
 use Rattle.lv_board.proofs.sessions.hold.Goals as goal

@@ -1,4 +1,5 @@
--- Proof of `run_board_session`: answers the lines of a session by a seat: pushes, pops, writes, reads, sizes.
+-- Proof of `run_board_session`: answers the lines of a session with a seat: pushes, pops, writes, reads, sizes, reductions by the board's kind
+-- and refreshes, with one try each.
 use Rattle.std.proofs.Common.{◌∙◌}
 use Rattle.lv_machine.specs.declared.events.Call.{Call}
 use Rattle.lv_lines.specs.declared.lines.Line.{Line}

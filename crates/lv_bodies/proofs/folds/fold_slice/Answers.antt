@@ -1,4 +1,4 @@
--- Proof of `fold_slice`: the left fold of a slice, where it lies.
+-- Proof of `fold_slice`: the left fold of a slice, without a copy of it.
 use Rattle.std.proofs.Common.{◌≡◌, pos, rules, arith, take, All, slice_index_or, ap, sym, subst, ◌∙◌, w64}
 use Rattle.std.proofs.lemmas.Int.{to_z-of_z}
 use Rattle.std.proofs.lemmas.List.{take_all}

@@ -1,4 +1,4 @@
--- What the loop keeps in `fold_slice`: the left fold of a slice, where it lies.
+-- What the loop keeps in `fold_slice`: the left fold of a slice, without a copy of it.
 use Rattle.std.proofs.Common.{◌≡◌, take, All}
 use Rattle.lv_geometry.specs.Elements.{IsElement}
 use Rattle.lv_bodies.specs.Body.{fold_of}

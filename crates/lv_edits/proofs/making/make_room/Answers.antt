@@ -15,7 +15,7 @@ record Readied (s t : StoreState) (cells : ℕ) (r : Result (Unit {0}) Refusal) 
   buckets : OnOk r ((k : ℕ) → AreFewest cells k → t.buckets ≡ max s.buckets k)
   closed : OnErr r (t.buckets ≡ s.buckets)
 
--- settling keeps what is read and how many buckets are open, and so does opening that was refused
+-- settling keeps what is read and how many buckets are open, and opening buckets that was rejected keeps both too
 readied : (s t : StoreState) (cells : ℕ) (r : Result (Unit {0}) Refusal) → IsStore s → OnOk r (Opens (settled s) t cells) → OnErr r (t ≡ settled s) → Readied s t cells r
 readied s t cells (Ok done) sound opens same =
     let (alike, buckets, pending) = settled_alike s sound in
@@ -34,12 +34,12 @@ readied s t cells (Err refusal) sound opens same =
       closed = rw same buckets;
     }
 
--- what holds where a call succeeds holds where it doesn't fail
+-- a statement that holds if a call succeeds holds if the call doesn't fail
 kept_where_no_err : {T E : Type 0} (r : Result T E) (P : Type 0) → is_err r ≡ false → OnOk r P → P
 kept_where_no_err (Ok done) P no_err p = p
 kept_where_no_err (Err error) P no_err p = absurd (cc)
 
--- what holds holds also where a call succeeds
+-- a statement that holds also holds if a call succeeds
 kept_where_ok : {T E : Type 0} (r : Result T E) (P : Type 0) → P → OnOk r P
 kept_where_ok (Ok done) P p = p
 kept_where_ok (Err error) P p = tt

@@ -1,4 +1,4 @@
--- What the loop keeps in `append_pushes`: puts pushes behind edits, where there is room for them.
+-- The loop invariant of `append_pushes`: pushes of the values so far were appended, and there is room for the rest.
 use Rattle.std.proofs.Common.{◌≡◌, ◌-◌, ◌≤◌, ◌++◌, length, map, take}
 use Rattle.lv_edits.specs.Inner.{noted, room}
 use Rattle.lv_edits.specs.declared.edit.Edit.TheVariants.{Push}

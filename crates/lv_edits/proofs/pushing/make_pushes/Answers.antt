@@ -1,4 +1,4 @@
--- Proof of `make_pushes`: makes pushes that the verdict allows, so that they are refused with `NoMemory` alone.
+-- Proof of `make_pushes`: makes pushes that the verdict allows, so that the only error is `NoMemory`.
 use Rattle.std.proofs.Common.{◌+◌, ◌++◌, ap, arith, length, map, subst, sym, ◌∙◌}
 use Rattle.lv_store.proofs.PushLaws.{pushed_all_is}
 use Rattle.lv_edits.specs.declared.edit.Edit.TheVariants.{Push}

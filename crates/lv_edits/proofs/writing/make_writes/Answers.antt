@@ -1,4 +1,4 @@
--- Proof of `make_writes`: makes writes that the verdict allows, so that they are refused with `NoMemory` alone.
+-- Proof of `make_writes`: makes writes that the verdict allows, so that the only error is `NoMemory`.
 use Rattle.std.proofs.Common.{◌≡◌, ap, length, ◌∙◌, arith}
 use Rattle.lv_edits.specs.Batches.{writes_at}
 use Rattle.lv_edits.specs.Inner.{history_of, noted}

@@ -1,4 +1,4 @@
--- Proof of `write_each`: makes writes that the verdict allows, one after another, where the journal has room for them.
+-- Proof of `write_each`: makes writes that the verdict allows, one after another. The journal has room for them.
 use Rattle.std.proofs.Common.{◌≡◌, ◌+◌, ◌<◌, None, pos, get_or, ap, subst, sym, ◌∙◌, drop, length, refl, arith, rules}
 use Rattle.std.specs.Int.{w64}
 use Rattle.std.proofs.lemmas.Int.{to_z-of_z}

@@ -1,10 +1,10 @@
--- What the loop keeps in `write_each`: makes writes that the verdict allows, one after another, where the journal has room for them.
+-- The loop invariant of `write_each`, which makes writes that the verdict allows, one after another.
 use Rattle.std.proofs.Common.{◌≡◌, ◌-◌, ◌≤◌, None, drop, length}
 use Rattle.lv_edits.specs.Batches.{verdict_of_edits, with_edits, writes_at}
 use Rattle.lv_edits.specs.Inner.{HoldsReplay, history_of, noted, room}
 use Rattle.lv_edits.proofs.writing.write_each.Given as goal
 
--- the writes that are left lead where all do, nothing refuses one of them, and the journal has room for them
+-- the remaining writes lead to the history after all writes, no error applies to any of them, and the journal has room for them
 abbrev pub invariant-loop-place : goal.invariant-loop-place
 invariant-loop-place l = record {
   held : HoldsReplay l.store (noted l.journal);

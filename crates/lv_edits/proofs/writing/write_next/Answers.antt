@@ -1,4 +1,4 @@
--- Proof of `write_next`: makes a write that the verdict allows, where the journal has room for it.
+-- Proof of `write_next`: makes a write that the verdict allows. The journal has room for it.
 use Rattle.std.proofs.Common.{◌++◌, ◌∷◌, [], ap, arith}
 use Rattle.std.specs.Int.{w64}
 use Rattle.std.proofs.lemmas.Int.{to_z-of_z}

@@ -1,4 +1,4 @@
--- Proof of `index`: the index that lies at a place: the inverse of `place`.
+-- Proof of `index`: the index that is stored at a place. It is the inverse of `place`.
 use Rattle.lv_geometry.proofs.HighestBits.{place_of_cell}
 use Rattle.lv_geometry.proofs.cells.index.Goals as goal
 

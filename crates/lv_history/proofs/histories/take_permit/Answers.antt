@@ -1,4 +1,4 @@
--- Proof of `take_permit`: a new permit, by which nothing was added up to what is seen then.
+-- Proof of `take_permit`: a new permit, with which nothing was added in the book as it is seen then.
 use Rattle.std.proofs.Common.{ap, sym, ◌∙◌}
 use Rattle.lv_history.proofs.StepLaws.{grants_moves}
 use Rattle.lv_history.proofs.histories.take_permit.Goals as goal

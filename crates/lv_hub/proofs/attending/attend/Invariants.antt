@@ -1,4 +1,5 @@
--- What the loop keeps in `attend`: refreshes a hub for a number of turns, as `work` does, and sleeps where no node wants a job, until an edit wakes it.
+-- Loop invariants of `attend`: precomputes the aggregates of a hub for a number of turns, as `work` does, and sleeps while no node needs a job,
+-- until an update wakes it.
 use Rattle.std.proofs.Common.{◌≡◌, ◌+◌, ◌≤◌}
 use Rattle.lv_hub.proofs.attending.attend.Given as goal
 

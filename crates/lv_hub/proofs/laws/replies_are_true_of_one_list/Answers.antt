@@ -1,4 +1,4 @@
--- Proof of `replies_are_true_of_one_list`: sessions have one list of edits: what a session is answered is true of each list that goes on from what it has seen, so of all that the hub accepts.
+-- Proof of `replies_are_true_of_one_list`: sessions share one list of updates.
 use Rattle.lv_hub.proofs.AsScriptsLaws.{as_scripts}
 use Rattle.lv_hub.proofs.PlainSessionLaws.{lines_go_on, lines_true}
 use Rattle.lv_hub.proofs.laws.replies_are_true_of_one_list.Goals as goal

@@ -1,4 +1,4 @@
--- Proof of `leave_all`: takes the parts of subscribers back, and gathers what they leave, where nothing is gathered yet.
+-- Proof of `leave_all`: takes the parts of subscribers back, and collects what they leave in `room`, which is empty.
 use Rattle.std.proofs.Common.{◌∙◌, refl, ap, sym, subst, arith, length}
 use Rattle.std.proofs.lemmas.Iterator.Adapters.{YieldsList-from_vec}
 use Rattle.std.proofs.lemmas.Iterator.Consumers.{YieldsList-turn, YieldsList-end}

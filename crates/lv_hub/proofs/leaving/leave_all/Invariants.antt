@@ -1,4 +1,4 @@
--- What the loop keeps in `leave_all`: takes the parts of subscribers back, and gathers what they leave, where nothing is gathered yet.
+-- Loop invariants of `leave_all`: takes the parts of subscribers back, and collects what they leave in `room`, which is empty.
 use Rattle.std.proofs.Common.{◌≡◌, length, vec_capacity, vec_len}
 use Rattle.lv_hub.specs.Watchers.{TakesWatchers}
 use Rattle.lv_hub.proofs.leaving.leave_all.Given as goal

@@ -1,4 +1,4 @@
--- Proof of `put_all`: puts the lines of notes at an edit.
+-- Proof of `put_all`: puts the lines of notes at an edit number.
 use Rattle.std.proofs.Common.{◌∙◌}
 use Rattle.std.proofs.lemmas.Result.{err_from_is_err_and}
 use Rattle.lv_hub.proofs.NoticeLaws.{Writes-note, WritesFront-notes}

@@ -1,4 +1,4 @@
--- What the loop keeps in `put_all`: puts the lines of notes at an edit.
+-- Loop invariants of `put_all`: puts the lines of notes at an edit number.
 use Rattle.std.proofs.Common.{take}
 use Rattle.lv_lines.specs.Output.{Puts, SamePlaces}
 use Rattle.lv_hub.specs.Noticing.{notes_at}

@@ -1,4 +1,4 @@
--- Proof of `write_told`: writes the lines of what was told.
+-- Proof of `write_told`: writes the lines of a notification.
 use Rattle.std.proofs.lemmas.Result.{IfErr-weaker, err_from_is_err_and, on_ok_weaker}
 use Rattle.lv_hub.proofs.NoticeLaws.{sent_all, sent_front, told_front, told_writes}
 use Rattle.lv_hub.proofs.notices.write_told.Goals as goal

@@ -1,4 +1,4 @@
--- Proof of `finish`: writes what is held, and a transcript's last line behind it.
+-- Proof of `finish`: writes what is buffered, and a transcript's last line.
 use Rattle.lv_transcript.specs.Transcribing.{state_with}
 use Rattle.lv_hub.proofs.LogLaws.{finished_log, finished_transcript}
 use Rattle.lv_hub.proofs.operation_log.finish.Goals as goal

@@ -1,4 +1,4 @@
--- Proof of `finish_log`: writes what is held behind a log.
+-- Proof of `finish_log`: writes what is buffered for a log.
 use Rattle.std.proofs.Common.{sym, ◌∙◌}
 use Rattle.lv_transcript.specs.Transcribing.{state_with}
 use Rattle.lv_hub.proofs.LogLaws.{log_unfinished, log_finished}

@@ -7,7 +7,7 @@ use Rattle.lv_hub.specs.Logging.{entry_of}
 use Rattle.lv_transcript.proofs.TranscribedFronts.{adds_next}
 use Rattle.lv_hub.proofs.operation_log.give_all.Goals as goal
 
--- what stands past the end
+-- the value that is taken for an entry past the end
 abbrev past : LogEntry
 past = logged.Edit (Push (pos 0))
 

@@ -1,4 +1,4 @@
--- What the loop keeps in `give_all`: gives entries to a transcript writer.
+-- Loop invariants of `give_all`: gives entries to a transcript writer.
 use Rattle.std.proofs.Common.{map, take}
 use Rattle.lv_transcript.specs.Transcribing.{Adds, state_with}
 use Rattle.lv_hub.specs.Logging.{entry_of}

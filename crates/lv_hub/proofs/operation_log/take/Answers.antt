@@ -1,4 +1,4 @@
--- Proof of `take`: gives what came to a transcript writer that was given what came before, and has it written.
+-- Proof of `take`: gives what came to a transcript writer, has it written, and returns true, if it continues what the writer was given before.
 use Rattle.std.proofs.Common.{◌≡◌, ◌+◌, ◌∙◌, ℕ, arith, length, map, subst, true}
 use Rattle.std.proofs.lemmas.List.{length-map}
 use Rattle.lv_transcript.specs.Transcribing.{WritingState, state_with}

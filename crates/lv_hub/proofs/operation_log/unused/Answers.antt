@@ -1,4 +1,4 @@
--- Proof of `unused`: what writes a transcript from its first line on, or goes on behind a log.
+-- Proof of `unused`: a transcript writer that was given nothing yet.
 use Rattle.std.proofs.lemmas.Result.{IfOk-weaker}
 use Rattle.lv_hub.proofs.LogLaws.{unused_log, unused_transcript}
 use Rattle.lv_hub.proofs.operation_log.unused.Goals as goal

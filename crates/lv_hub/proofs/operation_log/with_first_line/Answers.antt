@@ -1,4 +1,4 @@
--- Proof of `with_first_line`: what writes a transcript or a log, once the first line of a transcript is written.
+-- Proof of `with_first_line`: the transcript writer of `unused`, after it has written a transcript's first line.
 use Rattle.std.proofs.Common.{[]}
 use Rattle.lv_transcript.specs.Logs.{heading_of, there_of}
 use Rattle.lv_hub.proofs.operation_log.with_first_line.Goals as goal

@@ -1,4 +1,4 @@
--- Proof of `renewed`: a vector that has these elements, each as the push of it.
+-- Proof of `renewed`: a vector that has these elements, each as a push, and no tree yet for any kind.
 use Rattle.std.proofs.Common.{◌∙◌, [], ap, subst, sym}
 use Rattle.lv_edits.specs.Pushes.{with_pushes}
 use Rattle.lv_edits.proofs.PushLaws.{keeps_limits}

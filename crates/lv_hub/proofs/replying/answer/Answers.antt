@@ -1,9 +1,9 @@
--- Proof of `answer`: answers a command, which is bad unless it is an edit, a reduction or a scan.
+-- Proof of `answer`: answers a command, which is bad unless it is an update, a reduction or a scan.
 use Rattle.std.proofs.Common.{Result, Ok, Err, OnOk, IfErr}
 use Rattle.lv_lines.proofs.OutputLemmas.{Writes-put}
 use Rattle.lv_hub.proofs.replying.answer.Goals as goal
 
--- what follows where it succeeded, and where it failed
+-- the consequences of a success, and of a failure
 on_ok : {T E A B : Type 0} (result : Result T E) → OnOk result A → (A → B) → OnOk result B
 on_ok (Ok x) holds then = then holds
 on_ok (Err e) holds then = holds

@@ -1,4 +1,4 @@
--- Proof of `answer_line`: answers a line of a session, on a hub: its share counts what is accepted, and `answers` lists the reductions.
+-- Proof of `answer_line`: answers a line of a session, on a hub.
 use Rattle.std.proofs.Common.{[], refl, sym}
 use Rattle.std.proofs.lemmas.List.{append-nil}
 use Rattle.lv_lines.specs.declared.lines.Line.TheVariants.{Do}

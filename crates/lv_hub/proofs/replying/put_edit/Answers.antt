@@ -1,4 +1,4 @@
--- Proof of `put_edit`: makes an edit, and tells its receipt or its refusal.
+-- Proof of `put_edit`: makes an update, and puts its receipt or its refusal.
 use Rattle.std.proofs.Common.{◌++◌, ◌∙◌, Ok, Err, refl, ap, arith, length}
 use Rattle.lv_lines.specs.Texts.{numbered, receipt_text}
 use Rattle.lv_history.specs.Numbering.{told_number}

@@ -1,4 +1,4 @@
--- Proof of `put_recorded_scan`: tells the values of a scan of elements, once all is recorded.
+-- Proof of `put_recorded_scan`: puts the values of a scan of elements at an edit number.
 use Rattle.std.proofs.Common.{◌++◌, ◌∙◌, refl}
 use Rattle.std.proofs.lemmas.Result.{err_from_is_err_and}
 use Rattle.lv_bodies.specs.Plain.{plain_value}
@@ -7,7 +7,7 @@ use Rattle.lv_lines.proofs.OutputLemmas.{Writes-put}
 use Rattle.lv_script.specs.PlainScript.{scan_by}
 use Rattle.lv_hub.proofs.replying.put_recorded_scan.Goals as goal
 
--- it couldn't be recorded, and nothing went out
+-- it couldn't be recorded, and nothing was sent
 pub returns-in_err-record-clause-fault : goal.returns-in_err-record-clause-fault
 returns-in_err-record-clause-fault g c =
     let p = err_from_is_err_and c.from_residual.result c.from_residual.ensures.1 in

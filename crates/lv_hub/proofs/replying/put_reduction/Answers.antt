@@ -1,4 +1,4 @@
--- Proof of `put_reduction`: reduces a range, and lists the answer.
+-- Proof of `put_reduction`: reduces a range, and lists the answer if answers are listed.
 use Rattle.std.proofs.Common.{◌≡◌, ◌++◌, Ok, Err, List, length, refl, ap, ap₂, sym, ◌∙◌, inl, inr}
 use Rattle.lv_geometry.specs.declared.refusals.Refusal.TheVariants.{NoMemory}
 use Rattle.lv_lines.specs.Texts.{answer_text, refused_text}
@@ -9,7 +9,7 @@ use Rattle.lv_hub.specs.Replying.{listed_of, up_to}
 use Rattle.lv_hub.specs.Session.{listed_if, session_at}
 use Rattle.lv_hub.proofs.replying.put_reduction.Goals as goal
 
--- a state whose share saw more, and whose list became this
+-- a state whose share has seen more, and with this list
 seen_and_listed : (old new : ShareState) (answers listed : List Claimed) → new ≡ record old { seen = new.seen } → session_at new listed ≡ record (up_to (session_at old answers) new.seen) { answers = listed }
 seen_and_listed old new answers listed is = ap (λ h. session_at h listed) is
 

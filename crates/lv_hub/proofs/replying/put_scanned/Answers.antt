@@ -1,4 +1,4 @@
--- Proof of `put_scanned`: scans a range, and tells the values.
+-- Proof of `put_scanned`: scans a range, and puts the values.
 use Rattle.std.proofs.Common.{◌≡◌, ℕ, ℤ, Ok, List, length, ap, ap₂, arith}
 use Rattle.std.proofs.lemmas.Result.{IfErr-weaker, on_ok_weaker}
 use Rattle.lv_bodies.specs.Plain.{plain_value}

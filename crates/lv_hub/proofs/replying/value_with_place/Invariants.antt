@@ -1,4 +1,4 @@
--- What the loop keeps in `value_with_place`.
+-- Loop invariants of `value_with_place`.
 use Rattle.std.specs.Prelude.{◌≡◌}
 use Rattle.lv_hub.proofs.replying.value_with_place.Given as goal
 

@@ -1,4 +1,4 @@
--- Proof of `hold`: holds a session with a share, and gives the share back with the reductions that were answered.
+-- Proof of `hold`: runs a session with a share, and returns the share with the reductions that were answered.
 use Rattle.std.proofs.Common.{◌∙◌, List, ap, refl, subst, sym}
 use Rattle.std.proofs.lemmas.Result.{on_ok_weaker}
 use Rattle.lv_lines.specs.Replies.{LinesServed}

@@ -1,4 +1,4 @@
--- Proof of `in_order`: puts the reductions of several sessions in the order of their edits, for a transcript; those at one edit stay in theirs.
+-- Proof of `in_order`: sorts the reductions of several sessions by their versions, for a transcript.
 use Rattle.std.proofs.Common.{◌≡◌, rules, Result, Ok, Err, OnOk}
 use Rattle.std.proofs.lemmas.List.Sorted.{IsNonDecreasingBy-from_sort_by_key}
 use Rattle.std.proofs.lemmas.Fn.{always_returns_same}

@@ -29,13 +29,13 @@ returns-clause-plain g c =
     let lines_served = returns-clause-lines_served g c in
     session_plain g.N.Naming.limits g.N.Naming.numbers g.N.Naming.lists _ lines_served.0 _ _ _ _ _ lines_served.1
 
--- all that replies tell is recorded
+-- all that replies report is recorded
 pub returns-clause-recorded : goal.returns-clause-recorded
 returns-clause-recorded g c =
     let sees : c.hold-back.result.0.seen ≡ c.back.inside.prefix = ap (λ h. h.seen) (sym c.back.view_is) in
     rw (← sees) (done_as ((entry : ℕ) × g.L.SessionLog.has_recorded c.args.log.now c.hold-back.result.0.seen entry) c.hold-back.result.2 c.hold-back.result.1 c.listed.result c.listed.ensures c.hold-back.ensures.recorded)
 
--- what the session's state keeps, its share does
+-- the share is that of the session's state
 pub returns-clause-seen : goal.returns-clause-seen
 returns-clause-seen g c =
     let saw : c.again.result ≡ c.args.share.now.seen = search rules in
@@ -57,7 +57,7 @@ returns-clause-order g c =
     let rises : AreInOrder c.hold-back.result.1.items = keeps.order (All-nil (IsTrueAnswer c.again.result)) (IsNonDecreasingBy-short (λ claim. claim.edit) [] (omega arith)) in
     given_as (λ answers. AreInOrder answers.items) c.hold-back.result.2 c.hold-back.result.1 c.listed.result c.listed.ensures rises
 
--- and no more than there may be
+-- and there are no more than the maximum
 pub returns-clause-few : goal.returns-clause-few
 returns-clause-few g c =
     given_as (λ answers. vec_len answers ≤ most_listed c.args.place.keeps) c.hold-back.result.2 c.hold-back.result.1 c.listed.result c.listed.ensures c.hold-back.ensures.few

@@ -1,4 +1,4 @@
--- The ghosts that are handed on in `run_session`.
+-- Ghost arguments passed in `run_session`.
 use Rattle.lv_hub.specs.Session.{most_listed}
 use Rattle.lv_hub.proofs.sessions.run_session.Given as goal
 

@@ -18,7 +18,7 @@ loop-question-preserved g c =
       told = told_more c.args.questions.now c.loop-question.subscriber.told c.watch.new.self.told c.loop-question.question-index _ q c.loop-question-test.true c.question-item.is i.told c.in_ok-watch.ensures.ok.2;
     }
 
--- the first that is refused tells why
+-- the reason is that of the first one that is refused
 pub returns-in_err-watch-clause-refused : goal.returns-in_err-watch-clause-refused
 returns-in_err-watch-clause-refused g c =
     let i = c.loop-question.invariant in

@@ -1,4 +1,4 @@
--- Proof of `subscribe_all`: gives each subscriber a part of the hub that has seen what a prefix has.
+-- Proof of `subscribe_all`: gives each subscriber a part of the hub that has seen what the prefix has, which is no updates.
 use Rattle.std.proofs.Common.{◌≡◌, ◌∙◌, is_ok, true, refl, ap, sym, map, rules, arith}
 use Rattle.std.proofs.lemmas.Iterator.Adapters.{YieldsList-from_vec}
 use Rattle.std.proofs.lemmas.Iterator.Consumers.{YieldsList-end, YieldsList-so_far, YieldsList-turn}
@@ -27,7 +27,7 @@ loop-watch-preserved g c =
       all_more (λ w. w.questions.items) c.loop-watch.yielded c.in-Some.watch i.6 c.in_ok-watcher.ensures.fit,
     )
 
--- each that is still to come has a part, and the share has one besides
+-- there is a part for each one that is still to come, and one more for the share
 pub split_at-requires : goal.split_at-requires
 split_at-requires g c =
     let gives = c.into_iter-watch-iterator.ensures.into_iter_gives in
@@ -61,7 +61,7 @@ returns-clause-fit g c =
     let end = YieldsList-end (YieldsList-from_vec c.args.watches.items gives.0 (gives.1 ∙ c.args.watches.ok.0)) c.loop-watch.yielded c.loop-watch.watch-iterator c.loop-watch.yielded_by c.next.result c.next.new.self c.in-None.is c.next.ensures.steps in
     ap (λ watches. refusal_of_all (map (λ w. w.questions.items) watches)) (sym (sym (map-id c.loop-watch.yielded) ∙ end.0)) ∙ c.loop-watch.invariant.6
 
--- the first that is refused tells why
+-- the reason is that of the first one that is refused
 pub returns-in_err-watcher-clause-refused : goal.returns-in_err-watcher-clause-refused
 returns-in_err-watcher-clause-refused g c =
     let gives = c.into_iter-watch-iterator.ensures.into_iter_gives in

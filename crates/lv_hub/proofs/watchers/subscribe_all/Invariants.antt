@@ -1,4 +1,4 @@
--- What the loop keeps in `subscribe_all`: gives each subscriber a part of the hub that has seen what a prefix has.
+-- Loop invariants of `subscribe_all`: gives each subscriber a part of the hub that has seen what the prefix has, which is no updates.
 use Rattle.std.proofs.Common.{◌≡◌, ◌+◌, None, length, map}
 use Rattle.lv_hub.specs.Asking.{refusal_of_all}
 use Rattle.lv_hub.specs.Watchers.{watcher_at}

@@ -1,4 +1,4 @@
--- What the loop keeps in `work`: refreshes a hub for a number of turns.
+-- Loop invariants of `work`: precomputes the aggregates of a hub for a number of turns.
 use Rattle.std.proofs.Common.{◌≡◌, ◌+◌, ◌≤◌}
 use Rattle.lv_hub.proofs.workers.work.Given as goal
 

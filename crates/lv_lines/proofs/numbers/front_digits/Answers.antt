@@ -1,4 +1,4 @@
--- Proof of `front_digits`: what the digits at the front of a text stand for, and how many they are: of more than 18 the first 18.
+-- Proof of `front_digits`: the number that the digits at the start of a text denote, and how many they are; of more than 18 the first 18.
 use Rattle.std.proofs.Common.{◌<◌, length, take, arith}
 use Rattle.std.proofs.lemmas.List.{length-take}
 use Rattle.lv_lines.proofs.ReadDigits.{room_for_digit}

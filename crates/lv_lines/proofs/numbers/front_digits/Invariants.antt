@@ -1,4 +1,4 @@
--- What the loop keeps in `front_digits`: what the digits at the front of a text stand for, and how many they are: of more than 18 the first 18.
+-- What the loop keeps in `front_digits`: the number that the digits so far denote, and how many they are, at most 18.
 use Rattle.std.proofs.Common.{◌≡◌, ℕ, ◌^◌, ◌-◌, ◌<◌, ◌≤◌, false, List, ◌++◌, take, get_or}
 use Rattle.lv_lines.specs.Words.{is_space}
 use Rattle.lv_lines.proofs.ReadDigits.{numeral_from}

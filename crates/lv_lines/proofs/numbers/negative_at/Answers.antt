@@ -1,4 +1,4 @@
--- Proof of `negative_at`: the element at the front of a text that begins with `-`.
+-- Proof of `negative_at`: the element at the start of a text that begins with `-`.
 use Rattle.std.proofs.Common.{ℕ, List, ◌<◌, Some, drop, take, pos, neg_ℤ, sym, ap, ◌∙◌, arith}
 use Rattle.std.specs.Int.{w64}
 use Rattle.std.proofs.lemmas.Int.{to_z-of_z}

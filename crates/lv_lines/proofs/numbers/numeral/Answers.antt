@@ -1,4 +1,4 @@
--- Proof of `numeral`: what one or more digits stand for, where it has 64 bits.
+-- Proof of `numeral`: the number that one or more digits denote, if it fits into 64 bits.
 use Rattle.std.proofs.Common.{arith, ◌∙◌, sym}
 use Rattle.lv_lines.proofs.ReadDigits.{overflow}
 use Rattle.lv_lines.proofs.numbers.numeral.Goals as goal

@@ -1,4 +1,4 @@
--- What the loop keeps in `numeral`: what one or more digits stand for, where it has 64 bits.
+-- What the loop keeps in `numeral`: the number that the digits so far denote, which fits into 64 bits.
 use Rattle.std.proofs.Common.{◌≡◌, ◌^◌, ◌<◌, drop}
 use Rattle.lv_lines.specs.Numbers.{numeral_in}
 use Rattle.lv_lines.proofs.ReadDigits.{numeral_from}

@@ -1,4 +1,4 @@
--- Proof of `positive_at`: the element at the front of a text that begins with a digit.
+-- Proof of `positive_at`: the element at the start of a text that begins with a digit.
 use Rattle.std.proofs.Common.{ℕ, List, ◌<◌, Some, drop, take, pos, refl, sym, ap, ◌∙◌, arith}
 use Rattle.std.specs.Int.{w64}
 use Rattle.std.proofs.lemmas.Int.{to_z-of_z}

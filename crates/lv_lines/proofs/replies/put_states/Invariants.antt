@@ -3,7 +3,7 @@ use Rattle.std.proofs.Common.{◌≡◌, ◌+◌, ◌*◌, ◌≤◌, ◌∷◌,
 use Rattle.std.specs.List.{flat_map}
 use Rattle.lv_lines.proofs.replies.put_states.Given as goal
 
--- each state read so far is behind a space
+-- each state read so far is after a space
 abbrev pub invariant-loop-state : goal.invariant-loop-state
 invariant-loop-state l = record {
   text : l.held.items ≡ l.initial.held.items ++ flat_map (λ q. 32 ∷ decimal q) (take l.state-index l.state-items);

@@ -1,4 +1,4 @@
--- Proof of `from_word`: the bytes from the first word on, or nothing where there are no words.
+-- Proof of `from_word`: the bytes from the first word on, or nothing if there are no words.
 use Rattle.std.proofs.Common.{◌≡◌, drop, sym, ap, ◌∙◌, rules, tests}
 use Rattle.std.proofs.lemmas.Iterator.{YieldsList-from_slice}
 use Rattle.std.proofs.lemmas.Iterator.Search.{position_from_yields_List}

@@ -1,4 +1,4 @@
--- Proof of `next_word`: the first word and the bytes after it, or nothing where there are no words.
+-- Proof of `next_word`: the first word and the bytes after it, or nothing if there are no words.
 use Rattle.std.proofs.Common.{◌≡◌, drop, sym, ap, ◌∙◌, rules, tests}
 use Rattle.std.proofs.lemmas.Iterator.{YieldsList-from_slice}
 use Rattle.std.proofs.lemmas.Iterator.Search.{position_from_yields_List}

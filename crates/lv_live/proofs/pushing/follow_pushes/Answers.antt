@@ -1,4 +1,5 @@
--- Proof of `follow_pushes`: hears of pushes that were made from an index on, after so many edits: once for each block that they touched, of the last of them there.
+-- Proof of `follow_pushes`: takes note of pushes that were made from an index on, after so many edits: once for each block that they touched, by
+-- the last of them there.
 use Rattle.std.proofs.Common.{◌≡◌, ◌+◌, ◌-◌, ◌/◌, ◌<◌, refl, arith}
 use Rattle.lv_live.proofs.PushedLaws.{PushesFollow-more, PushesFollow-none}
 use Rattle.lv_live.proofs.pushing.follow_pushes.Goals as goal

@@ -1,4 +1,5 @@
--- What the loop keeps in `follow_pushes`: hears of pushes that were made from an index on, after so many edits: once for each block that they touched, of the last of them there.
+-- What the loop keeps in `follow_pushes`: takes note of pushes that were made from an index on, after so many edits: once for each block that
+-- they touched, by the last of them there.
 use Rattle.std.proofs.Common.{◌-◌, ◌≤◌}
 use Rattle.lv_live.specs.Pushed.{PushesFollow}
 use Rattle.lv_live.proofs.pushing.follow_pushes.Given as goal

@@ -1,4 +1,5 @@
--- Proof of `answers_are_plain`: in every run edits and queries are answered by the edits alone.
+-- Proof of `answers_are_plain`: in every run in which no reply is `NoMemory`, edits and queries are answered as the edits accepted before them
+-- decide.
 use Rattle.lv_live.proofs.RunLaws.{run_is_plain}
 use Rattle.lv_live.proofs.theorems.answers_are_plain.Goals as goal
 

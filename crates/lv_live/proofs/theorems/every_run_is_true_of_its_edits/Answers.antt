@@ -1,4 +1,5 @@
--- Proof of `every_run_is_true_of_its_edits`: every run, also one that meets want of memory, leaves the edits that there were and then those that it accepted, in order.
+-- Proof of `every_run_is_true_of_its_edits`: every run, also one in which memory runs out, leaves the edits that there were and then those that
+-- it accepted, in order.
 use Rattle.lv_live.proofs.EveryRunLaws.{run_edits, run_true}
 use Rattle.lv_live.proofs.theorems.every_run_is_true_of_its_edits.Goals as goal
 

@@ -1,4 +1,4 @@
--- Proof of `honest_outcomes_are_vouched_for`: what is honest is vouched for, where the body is the vector's.
+-- Proof of `honest_outcomes_are_vouched_for`: what is honest is vouched for, if the body is the vector's.
 use Rattle.lv_edits.proofs.HistoryLaws.{list_of_legal}
 use Rattle.lv_refresh.proofs.HonestyLaws.{vouched_of_honest}
 use Rattle.lv_live.proofs.theorems.honest_outcomes_are_vouched_for.Goals as goal

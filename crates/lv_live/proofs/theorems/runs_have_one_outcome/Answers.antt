@@ -1,4 +1,4 @@
--- Proof of `runs_have_one_outcome`: where memory is never wanted, a run has one outcome.
+-- Proof of `runs_have_one_outcome`: if no reply is `NoMemory`, a run has one outcome.
 use Rattle.std.proofs.Common.{sym, subst}
 use Rattle.lv_live.specs.Step.{Run}
 use Rattle.lv_live.proofs.OneOutcomeLaws.{one_outcome, one_record, same_of}

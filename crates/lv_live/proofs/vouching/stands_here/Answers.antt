@@ -1,4 +1,4 @@
--- Proof of `stands_here`: whether contents are what stands at a whole node now.
+-- Proof of `stands_here`: whether contents are those that a whole node has now.
 use Rattle.lv_live.proofs.vouching.stands_here.Goals as goal
 
 pub returns-then-node-gt1 : goal.returns-then-node-gt1

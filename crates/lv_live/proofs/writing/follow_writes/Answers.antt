@@ -1,4 +1,4 @@
--- Proof of `follow_writes`: hears of writes that were made at indices, after so many edits: of each of them.
+-- Proof of `follow_writes`: takes note of writes that were made at indices, after so many edits, one by one.
 use Rattle.std.proofs.Common.{◌≡◌, ◌+◌, ◌∷◌, [], ◌++◌, sym, subst, take, get_or, length, arith}
 use Rattle.std.proofs.lemmas.List.{length-take-le, take_all, take_more}
 use Rattle.lv_live.specs.Follows.{TableFollows}

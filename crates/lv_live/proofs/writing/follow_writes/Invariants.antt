@@ -1,4 +1,4 @@
--- What the loop keeps in `follow_writes`: hears of writes that were made at indices, after so many edits: of each of them.
+-- What the loop keeps in `follow_writes`: takes note of writes that were made at indices, after so many edits, one by one.
 use Rattle.std.proofs.Common.{take}
 use Rattle.lv_live.specs.Written.{WritesFollow}
 use Rattle.lv_live.proofs.writing.follow_writes.Given as goal

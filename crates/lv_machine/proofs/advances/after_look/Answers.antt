@@ -1,4 +1,4 @@
--- Proof of `after_look`: what becomes of a call after its look.
+-- Proof of `after_look`: how a call proceeds after its look.
 use Rattle.std.proofs.Common.{refl}
 use Rattle.lv_machine.proofs.advances.after_look.Goals as goal
 

@@ -1,4 +1,4 @@
--- Proof of `descriptors_tell_the_edit`: the edit between two descriptors that follow one another is told by them alone.
+-- Proof of `descriptors_tell_the_edit`: the update between two successive descriptors is determined by these descriptors.
 use Rattle.lv_machine.proofs.ReadLaws.{between}
 use Rattle.lv_machine.proofs.laws.descriptors_tell_the_edit.Goals as goal
 

@@ -1,11 +1,11 @@
--- Proof of `actor_at`: what an actor has, if there is one.
+-- Proof of `actor_at`: the state of an actor, if there is one.
 use Rattle.std.proofs.Common.{◌≡◌, ◌<◌, ◌≤◌, ℕ, Option, Some, None, option_map, List, length, refl, sym, ◌∙◌, get_or}
 use Rattle.std.specs.Prelude.{IfSome, MatchOption, slice_get}
 use Rattle.std.specs.List.{HoldsAt}
 use Rattle.std.proofs.lemmas.Option.{slice_get_past, slice_get_read}
 use Rattle.lv_machine.proofs.machines.actor_at.Goals as goal
 
--- what a look into a row tells of the element, if there is one
+-- the result of a look into a row, if there is an element
 looked_up : {X R : Type 0} (value : R → X) (found : Option R) (xs : List X) (k : ℕ) → IfSome found (λ x. value x ≡ get_or xs k (value x))
     → MatchOption found (length xs ≤ k) (λ x. (k < length xs) × HoldsAt (λ y. value x ≡ y) xs k) → option_map value found ≡ slice_get xs k
 looked_up value None xs k _ past = sym (slice_get_past xs k past)

@@ -1,4 +1,4 @@
--- Proof of `aim_edit`: an edit of an element, if that fits 16 bits.
+-- Proof of `aim_edit`: an update of an element, if that fits into 16 bits.
 use Rattle.std.proofs.Common.{sym, ap, ◌∙◌, w64}
 use Rattle.std.proofs.lemmas.Bool.{cond-false, cond-true}
 use Rattle.std.proofs.lemmas.Int.{to_z-of_z}

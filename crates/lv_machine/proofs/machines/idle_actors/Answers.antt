@@ -1,4 +1,4 @@
--- Proof of `idle_actors`: so many actors at the start.
+-- Proof of `idle_actors`: this many actors at the start.
 use Rattle.std.proofs.Common.{◌≡◌, ◌∙◌, ap, replicate, arith}
 use Rattle.lv_machine.specs.Machine.{idle}
 use Rattle.lv_machine.proofs.ListLaws.{idle_more}

@@ -1,4 +1,5 @@
--- Proof of `every_event_is_one_move`: a list of events from the start has one history: the edits whose exchange found the actor's look.
+-- Proof of `every_event_is_one_move`: a list of events from the start has one history: the updates whose compare-and-swap found the actor's look,
+-- each with its actor.
 use Rattle.lv_bodies.specs.Parts.{HasParts}
 use Rattle.lv_machine.proofs.ScheduleLaws.{every_event_moves, histories_grow}
 use Rattle.lv_machine.proofs.schedules.every_event_is_one_move.Goals as goal

@@ -1,4 +1,4 @@
--- Proof of `first_words`: the words for so many elements.
+-- Proof of `first_words`: the words for this many elements: the descriptor, and a zero for each cell, part and mark.
 use Rattle.std.proofs.Common.{◌∙◌, ap, ◌+◌, ◌*◌, ◌∷◌, replicate, slice_set, arith}
 use Rattle.lv_machine.proofs.ListLaws.{first_written}
 use Rattle.lv_machine.proofs.start.first_words.Goals as goal

@@ -1,4 +1,5 @@
--- Proof of `cells_from`: how many cells up to the next index where a node can begin and end at or before `hi`: those of the block that begins here, or this one alone.
+-- Proof of `cells_from`: how many cells there are up to the next index where a node can begin and end at or before `hi`: those of the block that
+-- begins here, or only this one.
 use Rattle.std.proofs.Common.{◌≤◌, refl, inr, arith}
 use Rattle.lv_reduce.proofs.BlockWalks.{block_fits}
 use Rattle.lv_reduce.proofs.costs.cells_from.Goals as goal

@@ -1,4 +1,5 @@
--- Proof of `greatest_level`: the greatest level of which a node begins at index `at` and ends at or before `hi`, at most 6; 0 stands for a cell.
+-- Proof of `greatest_level`: the greatest level, at most 6, at which a node begins at index `at` and ends at or before `hi`; 0 means a single
+-- cell.
 use Rattle.std.proofs.Common.{◌/◌, arith}
 use Rattle.lv_reduce.proofs.Zeros.{bits_by_fits, fits_by_bits}
 use Rattle.lv_reduce.proofs.reductions.greatest_level.Goals as goal

@@ -1,4 +1,4 @@
--- What the loop keeps in `fold_cells`: the fold of a range of a vector, by runs of elements that lie side by side.
+-- What the loop keeps in `fold_cells`: the fold of a range of a vector, by runs of neighbouring cells.
 use Rattle.std.proofs.Common.{◌≡◌, ◌-◌, ◌≤◌}
 use Rattle.lv_bodies.specs.Body.{fold_of}
 use Rattle.lv_edits.specs.Ranges.{slice_of}

@@ -1,4 +1,4 @@
--- Proof of `fold_on`: a fold that goes on over the elements of a slice.
+-- Proof of `fold_on`: a fold that is continued over the elements of a slice.
 use Rattle.std.proofs.Common.{◌≡◌, ◌+◌, ◌<◌, pos, length, slice_index_or, rules, refl, subst, ap, ◌∙◌, arith}
 use Rattle.std.specs.Int.{w64}
 use Rattle.std.proofs.lemmas.Int.{to_z-of_z}

@@ -1,4 +1,4 @@
--- What the loop keeps in `fold_on`: a fold that goes on over the elements of a slice.
+-- What the loop keeps in `fold_on`: a fold that is continued over the elements of a slice.
 use Rattle.std.proofs.Common.{◌≡◌, ◌+◌, ◌^◌, ◌≤◌, ℕ, length, take}
 use Rattle.lv_reduce.specs.Running.{reached}
 use Rattle.lv_reduce.proofs.rows.fold_on.Given as goal

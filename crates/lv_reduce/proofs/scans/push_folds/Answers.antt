@@ -1,4 +1,5 @@
--- Proof of `push_folds`: puts the scan of some elements, from what stands before them, behind the values that are there, and gives what they lead to.
+-- Proof of `push_folds`: puts the scan of some elements, continued from a summary, behind the values that are there, and returns the fold that it
+-- reaches.
 use Rattle.std.proofs.Common.{◌≡◌, ◌+◌, ◌<◌, ◌++◌, ◌∷◌, [], pos, length, slice_index_or, take, if◌then◌else◌, append-nil, append_assoc, rules, refl, subst, sym, ap, ◌∙◌, arith}
 use Rattle.std.specs.Int.{w64}
 use Rattle.std.proofs.lemmas.Int.{to_z-of_z}

@@ -1,9 +1,10 @@
--- What the loop keeps in `push_folds`: puts the scan of some elements, from what stands before them, behind the values that are there, and gives what they lead to.
+-- What the loop keeps in `push_folds`: puts the scan of some elements, continued from a summary, behind the values that are there, and returns
+-- the fold that it reaches.
 use Rattle.std.proofs.Common.{◌≡◌, ◌+◌, ◌^◌, ◌≤◌, ◌++◌, ℕ, length, take, vec_capacity, vec_len}
 use Rattle.lv_reduce.specs.Running.{reached, scan_from}
 use Rattle.lv_reduce.proofs.scans.push_folds.Given as goal
 
--- the scan of the elements so far stands behind what was there, and what they lead to may take the rest
+-- the scan of the elements so far comes behind the values that were there, and the fold that it reaches may take in the rest
 abbrev pub invariant-loop-x : goal.invariant-loop-x
 invariant-loop-x g l =
     let body = l.body in

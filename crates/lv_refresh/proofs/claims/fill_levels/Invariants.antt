@@ -1,4 +1,5 @@
--- What the loop keeps in `fill_levels`: adds rows on each level that were not claimed and are not hinted at, so that there are so many in all, where there are fewer.
+-- What the loop keeps in `fill_levels`: adds rows on each level that were not claimed and are not hinted at, so that there are so many in all, if
+-- there are fewer.
 use Rattle.std.proofs.Common.{◌≡◌, ℕ, ◌<◌, ◌≤◌}
 use Rattle.lv_geometry.specs.Levels.{thing_at}
 use Rattle.lv_refresh.specs.Inner.{FillsClaims}

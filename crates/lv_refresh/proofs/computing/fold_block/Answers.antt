@@ -1,4 +1,4 @@
--- Proof of `fold_block`: the fold of the elements of a whole block, where they lie unless a write is pending among them.
+-- Proof of `fold_block`: the fold of the elements of a whole block, which are only copied if a write among them is pending.
 use Rattle.std.proofs.Common.{◌+◌, ◌*◌, ◌^◌, ◌≤◌, arith}
 use Rattle.std.proofs.lemmas.Bool.{and_parts, leb-true}
 use Rattle.lv_geometry.specs.Nodes.{is_below, is_node}

@@ -1,4 +1,4 @@
--- Proof of `children_of`: the summaries of a whole node's children; none where one of them is not fresh.
+-- Proof of `children_of`: the summaries of a whole node's children; none if one of them is not fresh.
 use Rattle.std.proofs.Common.{◌∙◌}
 use Rattle.std.proofs.lemmas.Bool.{and_from, and_left, and_right}
 use Rattle.lv_geometry.proofs.NodeLaws.{at_each_child}

@@ -1,4 +1,4 @@
--- Proof of `four_children_of`: the summaries of four of a whole node's children, from one on; none where one of them is not fresh.
+-- Proof of `four_children_of`: the summaries of four of a whole node's children, from one on; none if one of them is not fresh.
 use Rattle.std.proofs.Common.{ap, sym, ◌∙◌}
 use Rattle.std.proofs.lemmas.Bool.{and_parts}
 use Rattle.lv_summary.specs.Table.{entry_in}

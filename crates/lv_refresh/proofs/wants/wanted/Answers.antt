@@ -1,4 +1,4 @@
--- Proof of `wanted`: the number of the edit that touched a node last, where the node wants a job; none where it wants none.
+-- Proof of `wanted`: the number of the edit that touched a node last, if the node wants a job; none if it wants none.
 use Rattle.std.proofs.lemmas.Bool.{and_parts}
 use Rattle.lv_geometry.specs.Nodes.{is_below, is_node}
 use Rattle.lv_refresh.proofs.RowLaws.{row_of_node}

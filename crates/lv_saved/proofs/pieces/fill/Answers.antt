@@ -1,4 +1,4 @@
--- Proof of `fill`: the bytes of so many numbers, at the front of a buffer.
+-- Proof of `fill`: the bytes of so many numbers, at the start of a buffer.
 use Rattle.std.proofs.Common.{◌≡◌, ◌+◌, ◌*◌, ◌<◌, ◌≤◌, ◌∙◌, drop, length, refl, sym, ap, arith, length-drop}
 use Rattle.std.specs.Int.{w64, to_le_bytes}
 use Rattle.std.proofs.lemmas.List.{get_or-drop, length_push}

@@ -1,4 +1,4 @@
--- Proof of `read_behind`: what bytes say behind their front.
+-- Proof of `read_behind`: what bytes say after their front.
 use Rattle.lv_saved.proofs.ReadLaws.{not_sound}
 use Rattle.lv_saved.proofs.reading.read_behind.Goals as goal
 

@@ -1,4 +1,4 @@
--- Proof of `put_reads`: how many reads a reduction makes, or why its range is refused.
+-- Proof of `put_reads`: how many reads a reduction makes, or why its range is rejected.
 use Rattle.std.proofs.Common.{Err}
 use Rattle.lv_script.proofs.EventLaws.{tells_cost, tells_reads}
 use Rattle.lv_script.proofs.answers.put_reads.Goals as goal

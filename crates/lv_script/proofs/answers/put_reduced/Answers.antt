@@ -1,4 +1,4 @@
--- Proof of `put_reduced`: the value of a kind over a range, of which the vector keeps what it computes, or why the range is refused.
+-- Proof of `put_reduced`: puts the value of a kind over a range, or the error for the range.
 use Rattle.std.proofs.Common.{◌++◌, ◌∙◌, ap}
 use Rattle.lv_lines.specs.Texts.{answer_text}
 use Rattle.lv_script.proofs.EventLaws.{reduced_ok}

@@ -1,4 +1,4 @@
--- Proof of `put_delivery`: delivers the outcome of a job, where there is one of that number.
+-- Proof of `put_delivery`: delivers the outcome of a job, if there is one of that number.
 use Rattle.std.proofs.Common.{Err, Ok}
 use Rattle.lv_script.proofs.EventLaws.{tells_delivery}
 use Rattle.lv_script.proofs.job_answers.put_delivery.Goals as goal

@@ -1,4 +1,4 @@
--- Proof of `a_front_of_the_input_gives_a_front_of_the_text`: its lines are answered with a front of the text.
+-- Proof of `a_front_of_the_input_gives_a_front_of_the_text`: the lines of a prefix of an input are answered with a prefix of the text.
 use Rattle.std.proofs.Common.{◌++◌, map, take, ap, ◌∙◌}
 use Rattle.std.proofs.lemmas.List.{map-append}
 use Rattle.lv_lines.specs.Input.{lines_of, unended_of, whole_lines_of}

@@ -1,4 +1,4 @@
--- Proof of `a_front_of_the_input_has_its_first_lines`: the lines that a front of an input ends are the first lines of the input.
+-- Proof of `a_front_of_the_input_has_its_first_lines`: the lines that a prefix of an input ends are the first lines of the input.
 use Rattle.lv_lines.proofs.InputLemmas.{lines_of-append, lines_of-ended, lines_of-parts, whole_lines_of-append}
 use Rattle.lv_script.proofs.laws.a_front_of_the_input_has_its_first_lines.Goals as goal
 

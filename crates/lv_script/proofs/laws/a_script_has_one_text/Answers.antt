@@ -1,4 +1,4 @@
--- Proof of `a_script_has_one_text`: where memory is never wanted, a script has one text.
+-- Proof of `a_script_has_one_text`: if memory is never wanted, a script has one text.
 use Rattle.std.proofs.Common.{sym, subst}
 use Rattle.lv_lines.specs.Replies.{Answered}
 use Rattle.lv_script.specs.OneText.{StepWithRoom}

@@ -1,4 +1,4 @@
--- Proof of `a_script_is_answered_plainly`: where no line tells that memory was wanting, a text is the plain interpreter's.
+-- Proof of `a_script_is_answered_plainly`: if no line reports `NoMemory`, a text is the reference interpreter's.
 use Rattle.lv_script.specs.PlainScript.{vector_script}
 use Rattle.lv_script.proofs.InterpreterLaws.{room_text}
 use Rattle.lv_script.proofs.PlainRunLaws.{room_answers}

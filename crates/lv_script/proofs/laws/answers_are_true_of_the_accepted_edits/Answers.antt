@@ -1,4 +1,4 @@
--- Proof of `answers_are_true_of_the_accepted_edits`: also where memory is wanting.
+-- Proof of `answers_are_true_of_the_accepted_edits`: replies agree with the accepted updates, even if memory runs out.
 use Rattle.std.proofs.Common.{subst}
 use Rattle.lv_lines.specs.Replies.{Answered}
 use Rattle.lv_script.specs.PlainRuns.{TrueStep}

@@ -1,4 +1,4 @@
--- Proof of `make_all`: makes edits that are accepted one after the other, unless memory is wanting.
+-- Proof of `make_all`: makes updates that are accepted one after the other; the only error is `NoMemory`.
 use Rattle.std.proofs.Common.{ap, arith, get_or, pos, ◌∙◌}
 use Rattle.lv_edits.specs.declared.edit.Edit.{Edit}
 use Rattle.lv_edits.specs.declared.edit.Edit.TheVariants.{Push}
@@ -6,7 +6,7 @@ use Rattle.lv_edits.specs.History.{History, with_edit}
 use Rattle.lv_script.proofs.RestoredLaws.{accepted_at, with_more}
 use Rattle.lv_script.proofs.restored.make_all.Goals as goal
 
--- what stands past the end
+-- a default for an index past the end
 abbrev first : Edit
 first = Push (pos 0)
 

@@ -1,4 +1,4 @@
--- What the loop keeps in `make_all`: makes edits that are accepted one after the other, unless memory is wanting.
+-- What the loop keeps in `make_all`: the updates so far were made one after the other; the only error is `NoMemory`.
 use Rattle.std.proofs.Common.{◌≡◌, take}
 use Rattle.lv_edits.specs.Kept.{IsLegalInLimits}
 use Rattle.lv_live.specs.State.{SameRefresh}

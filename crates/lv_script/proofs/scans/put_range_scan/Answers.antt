@@ -1,4 +1,4 @@
--- Proof of `put_range_scan`: the scan of a range that lies in the vector.
+-- Proof of `put_range_scan`: puts the scan of a range that is within the vector.
 use Rattle.lv_script.proofs.EventLaws.{can_fold_slice}
 use Rattle.lv_script.proofs.scans.put_range_scan.Goals as goal
 

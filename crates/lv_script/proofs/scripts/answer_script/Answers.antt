@@ -1,4 +1,4 @@
--- Proof of `answer_script`: answers a script by a vector with standing queries, of which no job was claimed, and at most so many may be.
+-- Proof of `answer_script`: answers a script on a vector with standing queries; no task has been claimed, and at most so many may be.
 use Rattle.std.proofs.Common.{[], refl, arith}
 use Rattle.std.proofs.lemmas.List.Elements.{All-nil}
 use Rattle.lv_bodies.specs.Six.{six_operations}

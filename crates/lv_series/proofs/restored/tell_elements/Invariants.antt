@@ -1,4 +1,4 @@
--- What the loop keeps in `tell_elements`: tells that the elements of a slice are of 64 bits.
+-- What the loop keeps in `tell_elements`: proves that the elements of a slice are of 64 bits.
 use Rattle.std.proofs.Common.{All, take}
 use Rattle.lv_geometry.specs.Elements.{IsElement}
 use Rattle.lv_series.proofs.restored.tell_elements.Given as goal

@@ -1,4 +1,4 @@
--- Proof of `value_by`: the fold of a range tells the summary of its kind.
+-- Proof of `value_by`: the fold of a range gives the summary of its kind.
 use Rattle.std.proofs.Common.{slice_range}
 use Rattle.lv_bodies.specs.Automata.{table_of}
 use Rattle.lv_series.proofs.LayerLaws.{range_elements, some_in_range}

@@ -1,4 +1,4 @@
--- Proof of `hold_all`: holds them at a board, by its seats.
+-- Proof of `hold_all`: runs the sessions at a board, with its seats.
 use Rattle.std.proofs.iter.Serving.{serving}
 use Rattle.lv_server.proofs.board_sessions.hold_all.Goals as goal
 

@@ -1,4 +1,4 @@
--- Proof of `hold_at`: holds them at a board of a body.
+-- Proof of `hold_at`: runs the sessions at a board with this monoid instance.
 use Rattle.std.proofs.Common.{◌≡◌}
 use Rattle.lv_board.specs.Rule.{newcomer}
 use Rattle.lv_board.specs.Tells.{IsAt, actor_of}

@@ -1,4 +1,4 @@
--- What the loop keeps in `seat_each`: gives each session a seat.
+-- Loop invariants of `seat_each`: gives each session a seat.
 use Rattle.std.specs.Prelude.{All}
 use Rattle.lv_board.specs.Tells.{IsAt}
 use Rattle.lv_server.proofs.board_sessions.seat_each.Given as goal

@@ -1,4 +1,4 @@
--- Proof of `begin_all`: gives each session and each subscriber a part of the hub.
+-- Proof of `begin_all`: gives each session a part of the hub that has seen what the share has.
 use Rattle.std.proofs.Common.{◌≡◌, map, subst}
 use Rattle.lv_server.specs.Tasks.{begun_at}
 use Rattle.lv_server.proofs.clients.begin_all.Goals as goal

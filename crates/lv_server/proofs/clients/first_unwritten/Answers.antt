@@ -1,4 +1,4 @@
--- Proof of `first_unwritten`: that all that subscribers were told was written; or else the first whose output failed is the fault.
+-- Proof of `first_unwritten`: succeeds if all notifications were written.
 use Rattle.std.proofs.Common.{◌∙◌, ◌≡◌, All, ap, false, sym, subst, arith}
 use Rattle.std.proofs.lemmas.List.{take_all}
 use Rattle.std.proofs.lemmas.List.Elements.{All-more}

@@ -1,4 +1,4 @@
--- What the loop keeps in `first_unwritten`: that all that subscribers were told was written; or else the first whose output failed is the fault.
+-- Loop invariants of `first_unwritten`: succeeds if all notifications were written.
 use Rattle.std.specs.Prelude.{◌≡◌, All, false, take}
 use Rattle.lv_server.proofs.clients.first_unwritten.Given as goal
 

@@ -1,4 +1,4 @@
--- Proof of `share_out`: gives each session a part of the hub, which has seen what the share has, and puts memory by for it.
+-- Proof of `share_out`: gives each session a part of the hub, which has seen what the share has, and reserves memory for it.
 use Rattle.std.proofs.Common.{◌≡◌, ◌∙◌, None, is_ok, true, refl, ap, sym, map, rules, arith}
 use Rattle.std.proofs.lemmas.Iterator.Adapters.{YieldsList-from_vec}
 use Rattle.std.proofs.lemmas.Iterator.Consumers.{YieldsList-turn, YieldsList-end}
@@ -31,7 +31,7 @@ loop-streams-preserved g c =
 pub loop-streams-init : goal.loop-streams-init
 loop-streams-init g c = (tt, tt, c.new-tasks.ensures.items, omega (arith, c.requires), refl, refl)
 
--- each stream that is still to come has a part, and the share has one besides
+-- there is a part for each stream that is still to come, and one more for the share
 pub split-requires : goal.split-requires
 split-requires g c =
     let gives = c.into_iter-streams-iterator.ensures.into_iter_gives in

@@ -1,4 +1,4 @@
--- What the loop keeps in `share_out`: gives each session a part of the hub, which has seen what the share has, and puts memory by for it.
+-- Loop invariants of `share_out`: gives each session a part of the hub, which has seen what the share has, and reserves memory for it.
 use Rattle.std.proofs.Common.{◌≡◌, ◌+◌, vec_len, length, map}
 use Rattle.lv_server.specs.Tasks.{begun_at}
 use Rattle.lv_server.proofs.clients.share_out.Given as goal

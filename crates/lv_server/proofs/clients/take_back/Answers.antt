@@ -1,4 +1,4 @@
--- Proof of `take_back`: takes the parts back, and gathers the reductions in the order of the sessions, where nothing is gathered yet.
+-- Proof of `take_back`: takes the parts back, and collects the reductions in the order of the sessions in `room`, which is empty.
 use Rattle.std.proofs.Common.{◌≡◌, ◌∙◌, All, Some, true, is_ok, ap, rules, subst, sym}
 use Rattle.std.proofs.lemmas.Iterator.Adapters.{YieldsList-from_vec}
 use Rattle.std.proofs.lemmas.Iterator.Consumers.{YieldsList-end}

@@ -1,4 +1,4 @@
--- What the loop keeps in `take_back`: takes the parts back, and gathers the reductions in the order of the sessions, where nothing is gathered yet.
+-- Loop invariants of `take_back`: takes the parts back, and collects the reductions in the order of the sessions in `room`, which is empty.
 use Rattle.std.proofs.Common.{map}
 use Rattle.lv_transcript.specs.Joined.{in_a_row}
 use Rattle.lv_server.specs.Tasks.{TakesBack}

@@ -1,11 +1,11 @@
--- Proof of `close_log`: closes a hub, ends its log, and gives its last file back.
+-- Proof of `close_log`: closes a hub, ends its log, and returns the log's last file.
 use Rattle.std.proofs.Common.{◌∙◌, ap, map, sym}
 use Rattle.std.proofs.lemmas.Simd.{map-map}
 use Rattle.lv_server.proofs.LogServedLaws.{closes_log, tells_once, well_logged}
 use Rattle.lv_server.proofs.ServedLaws.{begins, if_some}
 use Rattle.lv_server.proofs.log_server.close_log.Goals as goal
 
--- what was recorded begins the edits
+-- what was recorded is a prefix of the updates
 pub end_log-file-requires : goal.end_log-file-requires
 end_log-file-requires g c =
     if_some c.args.log
@@ -19,7 +19,7 @@ returns-clause-closed g c =
     c.finish-live.ensures.closed (ap (λ h. h.count) c.shown-share.ensures.same) c.shown-share.ensures.more c.finish-live.ensures.seen c.finish-live.ensures.counted
     (c.tell-watched.ensures.last c.finish-live.result.1 (sym c.count.ensures.count) c.finish-live.ensures.closed.list) c.end_log-file.ensures.ends)
 
--- no last note goes out unless its edits are recorded
+-- no last note is sent unless its updates are recorded
 pub returns-clause-waits : goal.returns-clause-waits
 returns-clause-waits g c =
     let watched = c.tell-watched.result.items in

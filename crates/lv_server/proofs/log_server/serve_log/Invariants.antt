@@ -1,4 +1,5 @@
--- The ghosts that are handed on in `serve_log`: which hub it is, and where its log begins.
+-- Ghost arguments passed in `serve_log`: serves sessions and subscribers as `serve` does, on a vector that continues from a log with this first
+-- line and these updates.
 use Rattle.std.proofs.Common.{Some, false}
 use Rattle.lv_transcript.specs.Logs.{log_of_edits}
 use Rattle.lv_server.specs.PlainLogged.{served_limits}

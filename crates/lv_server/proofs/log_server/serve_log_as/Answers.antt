@@ -1,4 +1,4 @@
--- Proof of `serve_log_as`: serves sessions and subscribers from a log on a hub of this name.
+-- Proof of `serve_log_as`: serves the clients on a hub of this name.
 use Rattle.std.proofs.Common.{◌∙◌, ap, is_some, subst, sym}
 use Rattle.lv_transcript.specs.Logs.{MayGoOn, edits_there}
 use Rattle.lv_transcript.proofs.ContinuedLogs.{edits_of_edits}
@@ -6,7 +6,7 @@ use Rattle.lv_server.proofs.LogServedLaws.{log_served}
 use Rattle.lv_server.proofs.RecordingLaws.{passes_all, passes_well}
 use Rattle.lv_server.proofs.log_server.serve_log_as.Goals as goal
 
--- it goes on behind the edits of the log
+-- it continues the updates of the log
 pub serve_all-served-requires-clause-log : goal.serve_all-served-requires-clause-log
 serve_all-served-requires-clause-log g c = λ _ _. sym (ap is_some c.requires.there)
 

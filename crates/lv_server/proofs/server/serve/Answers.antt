@@ -1,4 +1,5 @@
--- Proof of `serve`: holds a session for each pair of streams, in a thread of its own where one can be made, with workers beside them.
+-- Proof of `serve`: runs a session for each pair of streams, in a thread of its own if one can be made, and workers at the same time, on a vector
+-- that begins with some updates.
 use Rattle.std.proofs.lemmas.Result.{IfOk-weaker}
 use Rattle.lv_server.proofs.PlainServedLaws.{served_plainly}
 use Rattle.lv_server.proofs.ServedLaws.{starts_there}

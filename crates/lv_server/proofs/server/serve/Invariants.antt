@@ -1,4 +1,4 @@
--- The ghosts that are handed on in `serve`: holds a session for each pair of streams, in a thread of its own where one can be made, with workers beside them.
+-- Ghost arguments passed in `serve`, which runs a session for each pair of streams, in a thread of its own if one can be made.
 use Rattle.std.proofs.Common.{None, Some, true}
 use Rattle.lv_history.specs.Numbering.{from_the_first}
 use Rattle.lv_server.specs.Starting.{start_of}

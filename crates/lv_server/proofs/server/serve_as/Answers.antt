@@ -1,4 +1,4 @@
--- Proof of `serve_as`: serves them on a hub of this name.
+-- Proof of `serve_as`: serves the clients on a hub of this name.
 use Rattle.std.proofs.Common.{◌∙◌, ap, is_some, subst, sym}
 use Rattle.lv_transcript.specs.Logs.{MayGoOn, edits_there}
 use Rattle.lv_transcript.proofs.ContinuedLogs.{no_log_goes_on}
@@ -15,7 +15,7 @@ pub returns-in-Ok-clause-failed : goal.returns-in-Ok-clause-failed
 returns-in-Ok-clause-failed g c =
     rw c.requires.limits (passes_ill _ _ _ c.write_closed-file.result.1 c.all_or_failure.result c.all_or_failure.ensures (λ failure. failed_so g.N.Naming.limits g.N.Naming.numbers g.N.Naming.lists _ _ _ _ _ c.in-Ok.ensures.held failure.fault _ _) c.write_closed-file.ensures.failed)
 
--- the file is given back with what was written to it
+-- the file is returned with what was written to it
 pub returns-in-Ok-clause-back : goal.returns-in-Ok-clause-back
 returns-in-Ok-clause-back g c =
     passes_all _ _ c.write_closed-file.result.1 c.all_or_failure.result c.all_or_failure.ensures (c.write_closed-file.ensures.back ∙ c.in-Ok.ensures.logged)
@@ -24,7 +24,7 @@ pub returns-in-Ok-clause-recorded : goal.returns-in-Ok-clause-recorded
 returns-in-Ok-clause-recorded g c =
     passes_well _ _ _ c.write_closed-file.result.1 c.all_or_failure.result c.all_or_failure.ensures (λ done recorded. recorded) (c.write_closed-file.ensures.recorded c.requires.transcript)
 
--- what subscribers were told last goes with what they have left
+-- the last notifications are of what the subscribers left
 pub returns-in-Ok-clause-watched : goal.returns-in-Ok-clause-watched
 returns-in-Ok-clause-watched g c =
     passes_well _ _ _ c.write_closed-file.result.1 c.all_or_failure.result c.all_or_failure.ensures (λ done closed. served_watched g.N.Naming.numbers _ _ _ _ _ _ c.in-Ok.ensures.left closed) c.write_closed-file.ensures.told

@@ -1,4 +1,4 @@
--- Proof of `write_closed`: closes a hub and writes its transcript by what was made for it, ends its log, and gives its file back.
+-- Proof of `write_closed`: closes a hub, writes its transcript with the writer that was made for it, ends its log, and returns the log's file.
 use Rattle.std.proofs.Common.{◌≡◌, ◌∙◌, All, IfOk, IfSome, Option, ap, map, refl, subst, sym}
 use Rattle.std.proofs.lemmas.Simd.{map-map}
 use Rattle.lv_transcript.specs.Transcript.{AreAccepted, IsTrueAnswer, greatest}
@@ -24,7 +24,7 @@ write_in_order-written-requires-clause-all_true g c =
     subst (λ es. All (IsTrueAnswer es) (in_a_row c.args.queues.now.items)) (sym same)
     (all_true_of_more share edits (in_a_row c.args.queues.now.items) (begins share c.shown-share.result.seen edits c.shown-share.ensures.more c.finish-live.ensures.seen) c.requires.all_true)
 
--- it was written where nothing failed
+-- it was written if nothing failed
 pub returns-clause-written : goal.returns-clause-written
 returns-clause-written g c =
     let share = c.shown-share.result in
@@ -33,7 +33,7 @@ returns-clause-written g c =
     c.finish-live.ensures.seen c.finish-live.ensures.counted c.write_in_order-written.ensures) in
     closes_well g.N.Naming.limits c.args.share (in_a_row c.args.queues.now.items) _ _ c.write_in_order-written.result c.first_failure.result c.first_failure.ensures.well closed
 
--- and not where something did
+-- and not if something failed
 pub returns-clause-failed : goal.returns-clause-failed
 returns-clause-failed g c =
     let share = c.shown-share.result in
@@ -42,7 +42,7 @@ returns-clause-failed g c =
     c.finish-live.ensures.seen c.finish-live.ensures.counted c.write_in_order-written.ensures) in
     closes_ill (λ failure. failure.fault) g.N.Naming.limits c.args.share (in_a_row c.args.queues.now.items) _ _ c.write_in_order-written.result c.first_failure.result c.first_failure.ensures.failed closed
 
--- what was recorded begins the edits
+-- what was recorded is a prefix of the updates
 pub end_log-file-requires : goal.end_log-file-requires
 end_log-file-requires g c =
     if_some c.args.log
@@ -62,7 +62,7 @@ returns-clause-recorded g c =
     records_so g.V.Write.contents g.K.Begun.start edits c.journal.result.now edits (in_a_row c.args.queues.now.items) _ _ c.write_in_order-written.result c.end_log-file.result.1 c.first_failure.result c.end_log-file.result.0
     same refl c.first_failure.ensures.well c.first_failure.ensures.both c.write_in_order-written.ensures (subst (λ (log : Option LogThere). IfOk c.end_log-file.result.1 (λ done. IfSome c.end_log-file.result.0 (λ file. WroteWhole log g.K.Begun.start (g.V.Write.contents file) edits))) transcript whole)
 
--- what is told last is of the journal too
+-- the last notifications are of the journal too
 pub returns-clause-told : goal.returns-clause-told
 returns-clause-told g c =
     let edits = c.finish-live.result.1 in
@@ -70,7 +70,7 @@ returns-clause-told g c =
     closes_telling c.args.share c.shown-share.result.seen edits c.journal.result.now (in_a_row c.args.queues.now.items) c.args.leaving.left.items _ _ _ c.write_in_order-written.result c.first_failure.result
     same c.shown-share.ensures.more c.finish-live.ensures.seen (c.tell-watched.ensures.last edits (sym c.count.ensures.count) c.finish-live.ensures.closed.list) c.first_failure.ensures.well c.write_in_order-written.ensures
 
--- no last note goes out unless its edits are recorded
+-- no last note is sent unless its updates are recorded
 pub returns-clause-waits : goal.returns-clause-waits
 returns-clause-waits g c =
     let watched = c.tell-watched.result.items in

@@ -1,4 +1,4 @@
--- Proof of `write_in_order`: writes the transcript of a journal, with the reductions in the order of their edits.
+-- Proof of `write_in_order`: writes the transcript of a journal, with the reductions in the order of their versions.
 use Rattle.lv_transcript.specs.Joined.{in_a_row, joined}
 use Rattle.lv_server.proofs.ServedLaws.{ordered_text, writes_so}
 use Rattle.lv_server.proofs.transcript.write_in_order.Goals as goal

@@ -1,4 +1,4 @@
--- Proof of `join_from`: one after the other, until one is refused.
+-- Proof of `join_from`: one after the other, until one is rejected.
 use Rattle.std.proofs.lemmas.Result.{err_from_is_err_and}
 use Rattle.lv_shards.proofs.InOrder.{refused_at}
 use Rattle.lv_shards.proofs.joins.join_from.Goals as goal

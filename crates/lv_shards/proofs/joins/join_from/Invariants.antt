@@ -1,4 +1,4 @@
--- What the loop keeps in `join_from`: one after the other, until one is refused.
+-- What the loop keeps in `join_from`: one after the other, until one is rejected.
 use Rattle.std.proofs.Common.{◌≡◌, Ok, drop, fold}
 use Rattle.lv_shards.specs.Summaries.{join_next}
 use Rattle.lv_shards.proofs.joins.join_from.Given as goal

@@ -1,4 +1,5 @@
--- Proof of `shards_come_to_the_fold_of_all`: an answer joined of shards, each after an edit of its own, is that of the elements of all of them end to end, as they were after those edits.
+-- Proof of `shards_come_to_the_fold_of_all`: an answer joined of shards, each after an edit of its own, is that of the elements of all of them end
+-- to end, as they were after those edits.
 use Rattle.std.proofs.Common.{Ok, []}
 use Rattle.lv_shards.specs.Summaries.{empty_of, leads_of}
 use Rattle.lv_shards.proofs.InOrder.{is_of_nothing, shards_from}

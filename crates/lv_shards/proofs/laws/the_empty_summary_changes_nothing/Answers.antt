@@ -1,4 +1,4 @@
--- Proof of `the_empty_summary_changes_nothing`: the summary of no elements, joined on either side, changes nothing but that no edit is told.
+-- Proof of `the_empty_summary_changes_nothing`: the summary of no elements, combined on either side, changes nothing but the version, which is none.
 use Rattle.lv_shards.proofs.Grouping.{empty_left, empty_right}
 use Rattle.lv_shards.proofs.laws.the_empty_summary_changes_nothing.Goals as goal
 

@@ -1,4 +1,4 @@
--- Proof of `make_beside`: makes an edit that a vector's verdict allows, and tells what is kept by kind of it.
+-- Proof of `make_beside`: makes an edit that a vector's verdict allows, and reports it to the kinds.
 use Rattle.std.proofs.Common.{◌≡◌, ◌∙◌, ap, arith, length, refl, subst, sym}
 use Rattle.lv_edits.specs.History.{list_of}
 use Rattle.lv_edits.specs.Kept.{IsLegalInLimits}

@@ -1,4 +1,4 @@
--- Proof of `make_room`: makes memory for all that can be asked of so many elements, where there are more of them than before.
+-- Proof of `make_room`: makes room for all that can be asked of `after` elements, if there are more of them than before.
 use Rattle.lv_tree.proofs.KeptLaws.{HaveRoomFor-fewer, KeepsAlike-same}
 use Rattle.lv_standing.proofs.beside.make_room.Goals as goal
 

@@ -1,4 +1,4 @@
--- Proof of `push_all_beside`: pushes values, all of them or none, and tells what is kept by kind of them.
+-- Proof of `push_all_beside`: pushes values, all of them or none; what is stored by kind stays right.
 use Rattle.std.proofs.Common.{◌≡◌, ◌+◌, None, arith, length, refl, subst, sym, ◌∙◌}
 use Rattle.lv_edits.specs.Pushes.{verdict_of_pushes}
 use Rattle.lv_tree.specs.Kinds.{HaveRoomFor}

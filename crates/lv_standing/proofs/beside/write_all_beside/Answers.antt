@@ -1,4 +1,4 @@
--- Proof of `write_all_beside`: writes values at indices, all of them or none, and tells what is kept by kind of them.
+-- Proof of `write_all_beside`: writes values at indices, all of them or none; what is stored by kind stays right.
 use Rattle.std.proofs.Common.{subst, sym}
 use Rattle.lv_tree.specs.Kinds.{AreReady}
 use Rattle.lv_tree.proofs.KeptLaws.{LeavesAll-same}

@@ -1,4 +1,4 @@
--- Proof of `write_beside`: overwrites the element at an index, and tells what is kept by kind of it.
+-- Proof of `write_beside`: overwrites the element at an index, completes the write at once, and reports it to the kinds.
 use Rattle.std.proofs.Common.{length, of_z, pos, rules, subst, sym, to_z, ◌+◌, ◌∙◌}
 use Rattle.std.specs.Int.{w64}
 use Rattle.std.specs.List.{slice_index_or}

@@ -1,4 +1,4 @@
--- Proof of `write_noted`: overwrites an element; if no query has it nothing is told.
+-- Proof of `write_noted`: overwrites an element; if no query has it, no note is due.
 use Rattle.std.proofs.Common.{◌≡◌, ap, arith, length, subst, sym, w64}
 use Rattle.std.proofs.lemmas.Int.{to_z-of_z}
 use Rattle.lv_edits.specs.declared.edit.Edit.TheVariants.{Write}

@@ -1,4 +1,4 @@
--- What the loop keeps in `ask_each`: what each query is answered, in place of what they were answered.
+-- The loop invariant of `ask_each`: the answers of the queries so far were computed.
 use Rattle.std.proofs.Common.{◌≡◌, map, take, vec_capacity}
 use Rattle.lv_standing.proofs.query_set.ask_each.Given as goal
 

@@ -3,7 +3,7 @@ use Rattle.std.proofs.Common.{◌≤◌, ◌+◌, Result, Ok, Err, IfOk, arith, 
 use Rattle.lv_tree.proofs.KeptLaws.{near_short}
 use Rattle.lv_standing.proofs.values.value_beside.Goals as goal
 
--- a fact holds where a call answers
+-- a fact also holds if a call succeeds
 where_ok : {T E : Type 0} (P : Type 0) (result : Result T E) → P → IfOk result (λ _. P)
 where_ok P (Ok x) holds = holds
 where_ok P (Err e) holds = tt

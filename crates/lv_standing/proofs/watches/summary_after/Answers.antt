@@ -1,4 +1,4 @@
--- Proof of `summary_after`: the summary after the edit of a query of which an element changed.
+-- Proof of `summary_after`: the summary, after the edit, of a query that has a changed element.
 use Rattle.std.proofs.Common.{◌∙◌, ◌++◌, ◌∷◌, [], ap, subst, sym, w64}
 use Rattle.std.proofs.lemmas.Int.{to_z-of_z}
 use Rattle.lv_bodies.specs.Body.{CanFold}

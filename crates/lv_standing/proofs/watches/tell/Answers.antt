@@ -1,4 +1,4 @@
--- Proof of `tell`: brings each query up to an edit that changed an element of it.
+-- Proof of `tell`: brings each query that has a changed element up to an edit.
 use Rattle.std.proofs.Common.{◌≡◌, ◌∙◌, ◌+◌, ◌≤◌, [], ap, arith, drop, length, refl, subst, sym, vec_capacity, vec_len}
 use Rattle.std.proofs.lemmas.List.{append-nil}
 use Rattle.lv_standing.specs.declared.queries.Query.{Query}

@@ -1,4 +1,4 @@
--- What the loop keeps in `tell`: the queries so far were brought up to the edit, and told.
+-- The loop invariant of `tell`: the queries so far were brought up to the edit, and their answers reported.
 use Rattle.std.proofs.Common.{◌≡◌, ◌+◌, ◌≤◌, length, drop, vec_capacity, vec_len}
 use Rattle.lv_bodies.specs.Plain.{program_table}
 use Rattle.lv_tree.specs.Kinds.{AreReady}

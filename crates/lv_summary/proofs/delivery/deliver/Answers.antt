@@ -1,4 +1,4 @@
--- Proof of `deliver`: delivers a summary of a version, and tells what became of it.
+-- Proof of `deliver`: delivers a summary of a version, and returns what became of it.
 use Rattle.std.proofs.Common.{sym}
 use Rattle.lv_summary.specs.Inner.{table_of}
 use Rattle.lv_summary.proofs.ChildLaws.{due_version}

@@ -1,4 +1,4 @@
--- Proof of `last_touch`: the number of the last edit that touched a node; 0 where none did, and outside the table.
+-- Proof of `last_touch`: the number of the last edit that touched a node; 0 if none did, and outside the table.
 use Rattle.std.proofs.Common.{ap, sym, ◌∙◌}
 use Rattle.lv_summary.specs.Inner.{table_of}
 use Rattle.lv_summary.proofs.LevelLaws.{touched_at}

@@ -1,4 +1,4 @@
--- Proof of `fill_levels`: adds blank rows on each level, so that there are so many in all, where there are fewer.
+-- Proof of `fill_levels`: adds blank rows on each level, so that there are so many in all, if there are fewer.
 use Rattle.std.proofs.Common.{◌≡◌, ◌≢◌, ◌+◌, ◌<◌, ap, arith, ◌∙◌}
 use Rattle.lv_geometry.proofs.LevelLaws.{each_thing, thing_elsewhere}
 use Rattle.lv_geometry.specs.Levels.{thing_at}

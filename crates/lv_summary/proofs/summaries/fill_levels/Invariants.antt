@@ -1,4 +1,4 @@
--- What the loop keeps in `fill_levels`: adds blank rows on each level, so that there are so many in all, where there are fewer.
+-- What the loop keeps in `fill_levels`: adds blank rows on each level, so that there are so many in all, if there are fewer.
 use Rattle.std.proofs.Common.{◌≡◌, ℕ, ◌<◌, ◌≤◌}
 use Rattle.lv_geometry.specs.Levels.{thing_at}
 use Rattle.lv_summary.specs.Inner.{filled}

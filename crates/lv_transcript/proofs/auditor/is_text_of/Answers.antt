@@ -5,7 +5,7 @@ use Rattle.lv_bodies.specs.EqualLaws.{exact_numbers}
 use Rattle.lv_lines.specs.Texts.{shown_text}
 use Rattle.lv_transcript.proofs.auditor.is_text_of.Goals as goal
 
--- bytes that are compared with a text are right where they are the same
+-- bytes that are compared with a text are right if they are the same
 is_right : (same : Bool) (text value right : List ℕ) → same ≡ pointwise nat_eq text value → text ≡ right → (IsTrue same → value ≡ right) × (value ≡ right → IsTrue same)
 is_right same text value right told is = (
   (λ yes. sym ((exact_numbers text value).0 (sym told ∙ yes)) ∙ is),

@@ -3,7 +3,7 @@ use Rattle.std.proofs.Common.{◌≡◌, ◌*◌, slice_range, vec_len}
 use Rattle.lv_transcript.specs.Blocks.{AreFolds, IsFold}
 use Rattle.lv_transcript.proofs.block_folds.fold_blocks.Given as goal
 
--- the fold of what stands before the block
+-- the fold of the elements before the block
 abbrev pub invariant-loop-block : goal.invariant-loop-block
 invariant-loop-block g l =
     let o = g.B.Body.operations l.body in

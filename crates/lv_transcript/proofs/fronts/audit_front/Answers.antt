@@ -1,4 +1,4 @@
--- Proof of `audit_front`: audits a front of a transcript: reads it to its end, and writes the verdict as a line.
+-- Proof of `audit_front`: audits a prefix of a transcript: reads it to its end, and writes the verdict as a line.
 use Rattle.std.proofs.Common.{List, ℕ, None, [], ◌++◌, ap, ◌∙◌, arith}
 use Rattle.std.proofs.KnownBytes.{Appends-nil, Consumes-nil}
 use Rattle.std.proofs.lemmas.Result.{err_from_is_err_and}

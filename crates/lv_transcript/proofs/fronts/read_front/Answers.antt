@@ -1,4 +1,4 @@
--- Proof of `read_front`: reads an input to its end as a front of a transcript.
+-- Proof of `read_front`: reads an input to its end as a prefix of a transcript.
 use Rattle.std.proofs.Common.{[], arith}
 use Rattle.std.proofs.KnownBytes.{Consumes-nil}
 use Rattle.lv_transcript.specs.Auditing.{counted_at}

@@ -1,4 +1,4 @@
--- Proof of `write_log`: writes a log of elements, without edits behind.
+-- Proof of `write_log`: writes a log of elements, without edits after.
 use Rattle.std.proofs.lemmas.Result.{on_ok_weaker}
 use Rattle.lv_transcript.proofs.LogTexts.{log_is_sound}
 use Rattle.lv_transcript.proofs.logs.write_log.Goals as goal

@@ -1,4 +1,4 @@
--- Proof of `take_least`: takes the answer of the least edit, that of the first queue where several have one.
+-- Proof of `take_least`: takes the answer of the least edit, that of the first queue if several have one.
 use Rattle.std.proofs.Common.{subst}
 use Rattle.lv_transcript.specs.LeastFirst.{IsLeast}
 use Rattle.lv_transcript.proofs.JoinedAnswers.{least_taken, none_in_a_row}

@@ -1,4 +1,4 @@
--- Proof of `are_in_order`: whether answers stand in rising order of their edits.
+-- Proof of `are_in_order`: whether answers are in the rising order of their versions.
 use Rattle.std.proofs.Common.{◌≡◌, ℕ, zero, suc, ◌+◌, ◌-◌, ◌<◌, ◌≤◌, List, length, get_or, refl, sym, ap, ◌∙◌, inl, inr, arith}
 use Rattle.std.specs.List.{AllAdjacentBelow}
 use Rattle.std.proofs.lemmas.Bool.{cases_lt, true≢false}
@@ -27,7 +27,7 @@ module _ (xs : List Claimed) where
       let same : i ≡ i + 1 - 1 = omega arith in
       ap (λ (x : Claimed). x.edit) (get_or_default xs i d₀ d within) ∙ ap (λ j. (get_or xs j d).edit) same
 
-  -- one that is below the last stands out of order
+  -- one that is below the last is out of order
   falls : (i last : ℕ) (d₀ : Claimed) → i < length xs → ((d : Claimed) → 0 < i → last ≡ (get_or xs (i - 1) d).edit) → (i ≡ 0 → last ≡ 0) → (get_or xs i d₀).edit < last → AreInOrder xs → ⊥
   falls zero last d₀ within known none below order = omega (arith, none refl, below)
   falls (suc i) last d₀ within known none below order =

@@ -1,4 +1,4 @@
--- What the loop keeps in `are_in_order`: whether answers stand in rising order of their edits.
+-- What the loop keeps in `are_in_order`: the answers so far are in the rising order of their versions.
 use Rattle.std.proofs.Common.{◌≡◌, ◌-◌, ◌<◌, ◌≤◌, get_or}
 use Rattle.std.specs.List.{AllAdjacentBelow}
 use Rattle.lv_transcript.specs.declared.claimed.Claimed.{Claimed}

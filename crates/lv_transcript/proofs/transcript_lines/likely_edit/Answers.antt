@@ -1,4 +1,4 @@
--- Proof of `likely_edit`: the edit whose line this is, where it is that of any: the letters are not compared.
+-- Proof of `likely_edit`: the edit whose line this is, if it is that of any: the letters are not compared.
 use Rattle.std.proofs.Common.{◌≡◌, inl, inr, sym, ◌∙◌}
 use Rattle.lv_lines.specs.declared.command.Command.{Command}
 use Rattle.lv_lines.specs.declared.command.Command.TheVariants as commands

@@ -1,4 +1,4 @@
--- Proof of `write_answer`: writes the line of an answer behind what is held.
+-- Proof of `write_answer`: writes the line of an answer after what is held.
 use Rattle.std.proofs.Common.{List, ℕ, [], ◌∷◌, ◌++◌, ap, ◌∙◌, append_assoc}
 use Rattle.lv_lines.specs.Texts.{shown_text}
 use Rattle.lv_lines.proofs.OutputLemmas.{Writes-put, Writes-trans}

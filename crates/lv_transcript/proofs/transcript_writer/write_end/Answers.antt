@@ -1,4 +1,4 @@
--- Proof of `write_end`: writes the last line behind what is held, and all that is held then.
+-- Proof of `write_end`: writes the last line after what is held, and all that is held then.
 use Rattle.std.proofs.Common.{[], ◌∷◌, ◌++◌}
 use Rattle.std.proofs.lemmas.Result.{err_from_is_err_and}
 use Rattle.lv_lines.proofs.OutputLemmas.{WritesFront-longer}

@@ -1,4 +1,4 @@
--- Proof of `first_index`: the first element within a bound stands before the end that is found for it.
+-- Proof of `first_index`: the first element within a bound is the last one before the end that is found for it.
 use Rattle.std.proofs.Common.{Some, subst}
 use Rattle.lv_edits.specs.History.{list_of}
 use Rattle.lv_tree.specs.Searches.{FindsEnd}

@@ -1,4 +1,4 @@
--- Proof of `last_index`: the last element within a bound stands at the start that is found for it.
+-- Proof of `last_index`: the last element within a bound is at the start that is found for it.
 use Rattle.std.proofs.Common.{subst}
 use Rattle.lv_edits.specs.History.{list_of}
 use Rattle.lv_tree.specs.Searches.{FindsStart}

@@ -1,4 +1,4 @@
--- Proof of `ask_by`: the answer by one kind, told by the fold of its range.
+-- Proof of `ask_by`: the answer by one kind, from the fold of its range.
 use Rattle.std.proofs.Common.{◌-◌, sym, drop}
 use Rattle.std.proofs.lemmas.List.Elements.{All-drop, All-take}
 use Rattle.lv_geometry.specs.Elements.{IsElement}

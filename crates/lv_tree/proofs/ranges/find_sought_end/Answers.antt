@@ -1,4 +1,4 @@
--- Proof of `find_sought_end`: the test tells whether a range has what is sought.
+-- Proof of `find_sought_end`: the test says whether a range has what is sought.
 use Rattle.std.proofs.Common.{subst}
 use Rattle.lv_tree.specs.SoughtLaws.{Tells, finds_end}
 use Rattle.lv_tree.proofs.ranges.find_sought_end.Goals as goal

@@ -1,4 +1,4 @@
--- The ghosts that are handed on in `ask_hub`: whose ledger, names and body the hub has.
+-- Ghost arguments passed in `ask_hub`: the ledger, names and monoid instance of the hub.
 use Rattle.std.proofs.Common.{Some, true}
 use Rattle.lv_history.specs.Numbering.{from_the_first}
 use Rattle.starved.proofs.hubs.ask_hub.Given as goal

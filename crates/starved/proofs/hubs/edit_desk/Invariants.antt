@@ -1,4 +1,4 @@
--- The ghosts that are handed on in `edit_desk`: whose ledger, names and body the desk has.
+-- Ghost arguments passed in `edit_desk`: an update of a desk.
 use Rattle.std.proofs.Common.{Some, true}
 use Rattle.lv_history.specs.Numbering.{from_the_first}
 use Rattle.starved.proofs.hubs.edit_desk.Given as goal

@@ -1,4 +1,4 @@
--- Proof of `KindVector::accept_batch`: takes each outcome in, in order.
+-- Proof of `KindVector::accept_batch`: takes in the outcomes, in order.
 use Rattle.livevec_c.proofs.kind_vectors.KindVector.accept_batch.Goals as goal
 
 pub returns-clause-delivers : goal.returns-clause-delivers

@@ -1,4 +1,5 @@
--- Proof of `KindVector::accept_subtree`: takes a subtree in, where the elements that it is of stand here still.
+-- Proof of `KindVector::accept_subtree`: takes a subtree in, if it wasn't taken in yet and the vector still has the elements that it was computed
+-- from.
 use Rattle.livevec_c.proofs.KindVectorLaws.{still_kind_vector}
 use Rattle.livevec_c.proofs.SubtreeLaws.{Promised, stays}
 use Rattle.livevec_c.proofs.kind_vectors.KindVector.accept_subtree.Goals as goal

@@ -1,4 +1,4 @@
--- Proof of `KindVector::claim`: a job for the least node that wants one, or none.
+-- Proof of `KindVector::claim`: a job for the least node that needs one, or none.
 use Rattle.livevec_c.proofs.kind_vectors.KindVector.claim.Goals as goal
 
 pub returns-clause-honest : goal.returns-clause-honest

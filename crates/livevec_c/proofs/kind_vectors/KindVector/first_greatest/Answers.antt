@@ -1,4 +1,4 @@
--- Proof of `KindVector::first_greatest`: the first of the greatest elements, the same way.
+-- Proof of `KindVector::first_greatest`: the first of the greatest elements of a range, with its index; none of an empty range.
 use Rattle.lv_tree.proofs.KeptLaws.{AreReady-by}
 use Rattle.livevec_c.proofs.kind_vectors.KindVector.first_greatest.Goals as goal
 

@@ -1,4 +1,4 @@
--- Proof of `KindVector::first_least`: the first of the least elements of a range, and where it stands; none of an empty range.
+-- Proof of `KindVector::first_least`: the first of the least elements of a range, with its index; none of an empty range.
 use Rattle.lv_tree.proofs.KeptLaws.{AreReady-by}
 use Rattle.livevec_c.proofs.kind_vectors.KindVector.first_least.Goals as goal
 

@@ -1,4 +1,4 @@
--- Proof of `KindVector::last_index`: the last one, the same way.
+-- Proof of `KindVector::last_index`: the last index of a range whose element is within a bound, or none.
 use Rattle.lv_tree.proofs.KeptLaws.{AreReady-by}
 use Rattle.livevec_c.proofs.kind_vectors.KindVector.last_index.Goals as goal
 

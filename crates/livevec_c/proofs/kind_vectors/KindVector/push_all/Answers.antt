@@ -1,4 +1,4 @@
--- Proof of `KindVector::push_all`: pushes values in order, all of them or none, and tells the number of the last edit.
+-- Proof of `KindVector::push_all`: pushes values in order, all of them or none, and returns the number of the last edit.
 use Rattle.std.proofs.Common.{ap}
 use Rattle.lv_edits.specs.History.{History}
 use Rattle.livevec_c.proofs.KindVectorLaws.{edited_kind_vector, kept_by_now, ready_followed}

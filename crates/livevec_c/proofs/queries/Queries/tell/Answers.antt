@@ -1,4 +1,4 @@
--- Proof of `Queries::tell`: tells of each question of whose answer a note is due.
+-- Proof of `Queries::tell`: reports each question for whose answer a note is due.
 use Rattle.std.proofs.Common.{◌∙◌, refl, ap, arith}
 use Rattle.lv_standing.specs.QuerySets.{with_told}
 use Rattle.livevec_c.proofs.NotingLaws.{tells_all}

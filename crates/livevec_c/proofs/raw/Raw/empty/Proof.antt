@@ -46,7 +46,7 @@ use Rattle.livevec_c.proofs.raw.Raw.empty.Code as code
 abbrev stayed : Stays (F.ended).signature.params (F.ended).kept
 stayed = (stay_dropped (plain (λ _. Heap.the_row)) yes, tt)
 
--- the two words of a null pointer beside the handle
+-- the two words: a null pointer, and the handle
 abbrev null_word : Val → Val
 null_word hv = vstruct (vcons (vint w64 0) (vcons hv vnil))
 

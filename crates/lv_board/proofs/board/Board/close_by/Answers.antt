@@ -1,4 +1,4 @@
--- Proof of `Board::close_by`: the vector by such seats as are handed in, in a vector that has room for its elements.
+-- Proof of `Board::close_by`: the closed vector, for the seats that are handed in, in a vector that has room for its elements.
 use Rattle.std.proofs.Common.{sym, ap, ◌∙◌, map, arith}
 use Rattle.std.specs.List.{range_with_len}
 use Rattle.std.specs.Mem.Slots.{slots_items}

@@ -1,4 +1,5 @@
--- Proof of `Board::close_into`: the vector when its threads are done, in a vector that has room for its elements: this takes no memory.
+-- Proof of `Board::close_into`: returns the vector when its threads are done, in a vector that has room for its elements, so that this allocates
+-- no memory.
 use Rattle.lv_board.specs.Rule.{terms_of}
 use Rattle.lv_board.proofs.Closes.{closed_of}
 use Rattle.lv_board.proofs.board.Board.close_into.Goals as goal

@@ -1,4 +1,4 @@
--- What the loop keeps in `Board::deal_all`: all seats, in the order of their numbers.
+-- Loop invariants of `Board::deal_all`: all seats, in the order of their numbers.
 use Rattle.std.specs.Prelude.{◌≡◌, ◌≤◌, [], length, vec_capacity}
 use Rattle.lv_board.specs.Opening.{AreDealt}
 use Rattle.lv_board.specs.TableRule.{dealer_from}

@@ -1,4 +1,4 @@
--- Proof of `Board::edit_looked`: an edit as the seat looked.
+-- Proof of `Board::edit_looked`: an update from the look that the seat has.
 use Rattle.std.proofs.Common.{rules, subst}
 use Rattle.std.specs.Int.{w64}
 use Rattle.std.proofs.lemmas.Int.{to_z-of_z}

@@ -1,4 +1,4 @@
--- Proof of `Board::edit_within`: one try, and further ones while they are outrun.
+-- Proof of `Board::edit_within`: one try, and further ones while they fail because of other seats.
 use Rattle.std.proofs.Common.{rules, IsTrue, subst, arith}
 use Rattle.lv_board.specs.Rule.{terms_of}
 use Rattle.lv_board.proofs.Retries.{found_looked, outrun_more, tried_within}

@@ -1,4 +1,4 @@
--- What the loop keeps in `Board::edit_within`: one try, and further ones while they are outrun.
+-- Loop invariants of `Board::edit_within`: one try, and further ones while they fail because of other seats.
 use Rattle.lv_board.specs.declared.actors.Actor.{Actor}
 use Rattle.lv_board.specs.Calls.{TryAnswers}
 use Rattle.lv_board.specs.Closing.{IsStill}

@@ -1,4 +1,4 @@
--- Proof of `Board::exchange_for`: the exchange for an edit that nothing refuses at the look, whose pending write is complete.
+-- Proof of `Board::exchange_for`: the compare-and-swap for an update that nothing refuses at the look, whose pending write is complete.
 use Rattle.std.proofs.Common.{subst}
 use Rattle.lv_board.specs.Stands.{IsLook}
 use Rattle.lv_board.proofs.Calling.{can_pack}

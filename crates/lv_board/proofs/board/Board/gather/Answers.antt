@@ -1,4 +1,4 @@
--- Proof of `Board::gather`: seats in one token, whose view has their actors in the order of the seats.
+-- Proof of `Board::gather`: merges seats into one token, whose view has their actors in the order of the seats.
 use Rattle.std.proofs.Common.{ap, ◌∙◌, ◌++◌, ◌∷◌, [], map, arith}
 use Rattle.std.specs.Prelude.{Some}
 use Rattle.std.proofs.lemmas.List.Elements.{All-pop}

@@ -1,4 +1,4 @@
--- What the loop keeps in `Board::gather`: seats in one token, whose view has their actors in the order of the seats.
+-- Loop invariants of `Board::gather`: merges seats into one token, whose view has their actors in the order of the seats.
 use Rattle.std.specs.Prelude.{◌≡◌, true, ◌∷◌, ◌++◌, [], map}
 use Rattle.lv_board.specs.Closing.{AreAt}
 use Rattle.lv_board.specs.Tells.{actor_of}

@@ -1,4 +1,4 @@
--- Proof of `Board::help_mark`: completes the mark of its block.
+-- Proof of `Board::help_mark`: completes the mark of the block of that cell.
 use Rattle.std.proofs.Common.{rules, ◌≡◌, ◌/◌, true, refl, ap, ◌∙◌, arith}
 use Rattle.lv_machine.specs.Layout.{mark_place}
 use Rattle.lv_machine.specs.Words.{index_of}

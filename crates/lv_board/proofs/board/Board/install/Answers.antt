@@ -1,4 +1,4 @@
--- Proof of `Board::install`: installs a part of the summary of a block that is whole where the seat looked.
+-- Proof of `Board::install`: installs a part of the aggregate of a block that is full as the seat sees it.
 use Rattle.std.proofs.Common.{◌≡◌, ◌*◌, ◌<◌, sym, ap, ◌∙◌, subst}
 use Rattle.lv_edits.specs.Touch.{elements_under}
 use Rattle.lv_geometry.specs.Cells.{capacity_of}

@@ -1,4 +1,4 @@
--- What the loop keeps in `Board::keep_parts`: installs the parts of a whole block's summary, with the block's mark as their version.
+-- Loop invariants of `Board::keep_parts`: installs the parts of a full block's aggregate, with the block's mark as their version.
 use Rattle.lv_board.specs.Rule.{terms_of}
 use Rattle.lv_board.specs.Tells.{actor_of, IsAt}
 use Rattle.lv_board.specs.Moved.{HasMovedBy, installs_of}

@@ -1,4 +1,4 @@
--- Proof of `Board::load_cell`: the element in a cell, as the seat looked, or the later edit that wrote there since.
+-- Proof of `Board::load_cell`: the element in a cell, as the seat sees it, or the later update that has since written there.
 use Rattle.std.proofs.Common.{◌<◌, sym, ap, ◌∙◌, subst}
 use Rattle.lv_geometry.specs.Cells.{capacity_of}
 use Rattle.lv_machine.specs.Layout.{count_of}

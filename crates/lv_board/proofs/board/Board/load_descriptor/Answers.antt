@@ -1,4 +1,4 @@
--- Proof of `Board::load_descriptor`: the descriptor: the seat's look becomes what is loaded.
+-- Proof of `Board::load_descriptor`: loads the descriptor, which becomes the seat's look.
 use Rattle.std.proofs.Common.{sym, ap, ◌∙◌}
 use Rattle.lv_machine.specs.Layout.{count_of}
 use Rattle.lv_board.specs.Rule.{limits_of}

@@ -1,4 +1,4 @@
--- Proof of `Board::load_mark`: the mark of a block, as the seat looked, or the later edit that touched the block since.
+-- Proof of `Board::load_mark`: the mark of a block, as the seat sees it, or the later update that has since touched the block.
 use Rattle.std.proofs.Common.{◌≤◌, length, refl, ap, subst, arith}
 use Rattle.lv_machine.specs.Layout.{count_of}
 use Rattle.lv_machine.specs.Words.{edit_of}

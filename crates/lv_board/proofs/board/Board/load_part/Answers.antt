@@ -1,4 +1,4 @@
--- Proof of `Board::load_part`: a part of a whole block's summary, where its version is that of the block's mark.
+-- Proof of `Board::load_part`: a part of a full block's aggregate, if it has the version of the block's mark.
 use Rattle.std.proofs.Common.{◌≡◌, ◌+◌, ◌<◌, refl, ap, ◌∙◌, subst, arith}
 use Rattle.lv_edits.specs.Touch.{elements_under}
 use Rattle.lv_machine.specs.History.{edits_of}

@@ -1,4 +1,4 @@
--- Proof of `Board::load_parts`: the parts of a whole block's summary, where each has the version of the block's mark.
+-- Proof of `Board::load_parts`: the parts of a full block's aggregate, if each has the version of the block's mark.
 use Rattle.std.proofs.Common.{◌≡◌, ◌+◌, ap, ◌∙◌, slice_index, subst, arith}
 use Rattle.lv_board.specs.Rule.{terms_of}
 use Rattle.lv_board.specs.Walks.{block_fold, HasRead}

@@ -1,4 +1,4 @@
--- What the loop keeps in `Board::load_parts`: the parts of a whole block's summary, where each has the version of the block's mark.
+-- Loop invariants of `Board::load_parts`: the parts of a full block's aggregate, if each has the version of the block's mark.
 use Rattle.lv_board.specs.Rule.{terms_of}
 use Rattle.lv_board.specs.Tells.{actor_of, IsAt}
 use Rattle.lv_board.specs.Walks.{block_fold, HasRead, MayRead}

@@ -1,4 +1,4 @@
--- Proof of `Board::load_word`: another word.
+-- Proof of `Board::load_word`: loads another word.
 use Rattle.std.proofs.Common.{◌<◌, sym, ap, ◌∙◌, subst}
 use Rattle.lv_machine.specs.Layout.{count_of}
 use Rattle.lv_board.specs.Rule.{limits_of}

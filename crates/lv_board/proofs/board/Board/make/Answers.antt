@@ -1,4 +1,4 @@
--- Proof of `Board::make`: makes a call, and gives what it ends with.
+-- Proof of `Board::make`: makes a call, and returns how it ends.
 use Rattle.std.proofs.Common.{rules}
 use Rattle.std.specs.Int.{w64}
 use Rattle.std.proofs.lemmas.Int.{to_z-of_z}

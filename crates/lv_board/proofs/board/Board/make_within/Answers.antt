@@ -1,4 +1,5 @@
--- Proof of `Board::make_within`: makes a call, an edit by so many tries at most, and gives what it ends with, a fold as its plain value.
+-- Proof of `Board::make_within`: makes a call, with at most this many tries of an update, and returns how it ends, with a fold as its plain
+-- value.
 use Rattle.std.proofs.Common.{rules}
 use Rattle.std.specs.Int.{w64}
 use Rattle.std.proofs.lemmas.Int.{to_z-of_z}

@@ -1,4 +1,4 @@
--- Proof of `Board::meet`: both seats look, the second after it was told what the first knows: what the first sees is an earlier history of what the second sees.
+-- Proof of `Board::meet`: both seats look, the second after it got from the first what that one knows.
 use Rattle.std.proofs.Common.{sym, ap, ◌∙◌, subst}
 use Rattle.lv_machine.specs.History.{Ends}
 use Rattle.lv_board.specs.Calls.{HasLooked}

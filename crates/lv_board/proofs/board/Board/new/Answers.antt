@@ -1,4 +1,4 @@
--- Proof of `Board::new`: a board with no edits, and its seats: seat k is actor k.
+-- Proof of `Board::new`: a board with no updates, and its seats.
 use Rattle.std.proofs.Common.{ℕ, [], inr, refl, sym, ap, ◌∙◌, arith}
 use Rattle.atomic_table.specs.Table.{Me}
 use Rattle.lv_board.specs.declared.actors.Basis.{Basis}

@@ -1,4 +1,4 @@
--- Proof of `Board::pop_looked`: drops the last element, where no edit came since the seat looked.
+-- Proof of `Board::pop_looked`: drops the last element, if no update came since the seat looked.
 use Rattle.std.proofs.Common.{rules, ◌≡◌, pos, ◌+◌, ◌-◌, Ok, Err, length, refl, sym, ap, ◌∙◌, inl, arith, Result}
 use Rattle.std.specs.Int.{w64, cast_signed, cast_unsigned}
 use Rattle.std.specs.List.{slice_index_or}

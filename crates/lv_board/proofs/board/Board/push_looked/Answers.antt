@@ -1,4 +1,4 @@
--- Proof of `Board::push_looked`: puts `x` at the end, where no edit came since the seat looked.
+-- Proof of `Board::push_looked`: appends `x`, if no update came since the seat looked.
 use Rattle.std.proofs.Common.{refl, subst}
 use Rattle.std.specs.Int.{w64}
 use Rattle.std.proofs.lemmas.Int.{to_z-of_z}

@@ -1,4 +1,4 @@
--- Proof of `Board::push_short`: puts an element of 16 bits at the end, as the seat looked.
+-- Proof of `Board::push_short`: appends an element of 16 bits, from the look that the seat has.
 use Rattle.std.proofs.Common.{◌≡◌, ◌∷◌, ◌+◌, Ok, Err, length, refl, sym, ap, ◌∙◌, subst, inl, inr, arith, Result}
 use Rattle.std.specs.Int.{w64, cast_signed, cast_unsigned}
 use Rattle.std.proofs.lemmas.Int.{to_z-of_z}

@@ -1,4 +1,5 @@
--- Proof of `Board::push_within`: `try_push`, made again while it is refused with `Contended`.
+-- Proof of `Board::push_within`: does what `try_push` does, and tries again while it is refused with `Contended`, from the descriptor that was
+-- found then.
 use Rattle.std.proofs.Common.{refl, subst}
 use Rattle.std.specs.Int.{w64}
 use Rattle.std.proofs.lemmas.Int.{to_z-of_z}

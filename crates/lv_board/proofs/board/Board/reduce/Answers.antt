@@ -1,4 +1,4 @@
--- Proof of `Board::reduce`: the fold of the elements from index `lo` up to `hi`, `hi` excluded.
+-- Proof of `Board::reduce`: the fold of the elements from index `lo` up to `hi`, `hi` excluded, after the update at which this call looks.
 use Rattle.std.proofs.Common.{ap, ◌∙◌, sym, subst, inl, inr, arith}
 use Rattle.lv_geometry.specs.declared.refusals.Refusal.TheVariants.{OutOfRange}
 use Rattle.lv_board.specs.Rule.{terms_of}

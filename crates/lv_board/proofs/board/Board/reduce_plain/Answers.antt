@@ -1,4 +1,4 @@
--- Proof of `Board::reduce_plain`: what `reduce` answers, with the plain value of the range in place of its summary.
+-- Proof of `Board::reduce_plain`: does what `reduce` does, and returns the plain value of the range in place of its aggregate.
 use Rattle.lv_board.specs.Rule.{terms_of}
 use Rattle.lv_board.specs.Tells.{actor_of}
 use Rattle.lv_board.proofs.Opens.{are_terms}

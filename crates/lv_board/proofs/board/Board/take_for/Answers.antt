@@ -1,4 +1,4 @@
--- Proof of `Board::take_for`: replaces or drops the element at an index that the edit names, and gives it and the edit's number.
+-- Proof of `Board::take_for`: replaces or drops the element at an index that the update names, and returns it and the update's number.
 use Rattle.std.proofs.Common.{rules, ◌≡◌, ◌∷◌, pos, ◌<◌, length, refl, sym, ap, ◌∙◌, subst, inr, arith}
 use Rattle.std.specs.Int.{w64}
 use Rattle.std.specs.List.{slice_index_or}

@@ -1,4 +1,4 @@
--- Proof of `Board::try_edit`: one try, by such a look.
+-- Proof of `Board::try_edit`: one try, from such a look.
 use Rattle.lv_board.specs.Rule.{terms_of}
 use Rattle.lv_board.proofs.Calling.{try_of_looked}
 use Rattle.lv_board.proofs.Still.{still_at, still_exchanged, still_looked, still_then}

@@ -1,4 +1,4 @@
--- Proof of `Board::try_push`: looks, and puts `x` at the end.
+-- Proof of `Board::try_push`: looks, and appends `x`.
 use Rattle.std.proofs.Common.{refl, ◌∙◌, subst}
 use Rattle.std.specs.Int.{w64}
 use Rattle.std.proofs.lemmas.Int.{to_z-of_z}

@@ -1,4 +1,5 @@
--- Proof of `Board::walk_block`: goes on by the block that begins where the walk stands: from its parts where they are fresh, else by its cells.
+-- Proof of `Board::walk_block`: proceeds by the block that begins at the walk's position, from its parts if these are valid, and otherwise from
+-- its cells.
 use Rattle.std.proofs.Common.{◌+◌, Ok, Err, subst, arith}
 use Rattle.lv_board.specs.Rule.{terms_of}
 use Rattle.lv_board.specs.Walks.{HasCome, loads_in}

@@ -1,4 +1,4 @@
--- Proof of `Board::walk_cells`: goes on by cells to an index.
+-- Proof of `Board::walk_cells`: proceeds by cells to an index.
 use Rattle.std.proofs.Common.{rules, ◌≡◌, ◌<◌, ◌+◌, Ok, Err, length, ap, ◌∙◌, arith}
 use Rattle.std.specs.Int.{w64}
 use Rattle.std.proofs.lemmas.Int.{to_z-of_z}

@@ -1,11 +1,11 @@
--- What the loop keeps in `Board::walk_cells`: goes on by cells to an index.
+-- Loop invariants of `Board::walk_cells`: proceeds by cells to an index.
 use Rattle.std.specs.Prelude.{◌≡◌, ℕ, ◌+◌, ◌-◌, ◌≤◌}
 use Rattle.lv_board.specs.Rule.{terms_of}
 use Rattle.lv_board.specs.Tells.{actor_of, IsAt}
 use Rattle.lv_board.specs.Walks.{HasRead, loads_in, MayRead, Sums}
 use Rattle.lv_board.proofs.board.Board.walk_cells.Given as goal
 
--- the walk has come so far, and the seat sees what it saw
+-- the walk has reached this index, and the seat sees what it saw
 abbrev pub invariant-loop-walk : goal.invariant-loop-walk
 invariant-loop-walk g l = record {
   here : IsAt l.self.table.shared.table_id l.self.terms l.seat;
@@ -19,6 +19,6 @@ invariant-loop-walk g l = record {
   sums : Sums (g.B.Body.operations l.self.terms.body) (actor_of l.fn.seat).seen l.walk;
 }
 
--- what is left of the way
+-- the rest of the way
 abbrev pub decreases-loop-walk : goal.decreases-loop-walk
 decreases-loop-walk g l = l.end - l.walk.at

@@ -1,4 +1,4 @@
--- Proof of `Board::walk_range`: goes through a range of the elements.
+-- Proof of `Board::walk_range`: walks through a range of the elements.
 use Rattle.std.proofs.Common.{◌+◌, ◌∙◌, subst, arith}
 use Rattle.lv_board.specs.Rule.{terms_of}
 use Rattle.lv_board.specs.Walks.{Sums}

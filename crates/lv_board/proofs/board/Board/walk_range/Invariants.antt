@@ -1,11 +1,11 @@
--- What the loop keeps in `Board::walk_range`: goes through a range of the elements.
+-- Loop invariants of `Board::walk_range`: walks through a range of the elements.
 use Rattle.std.specs.Prelude.{◌≡◌, ℕ, ◌-◌, ◌≤◌}
 use Rattle.lv_board.specs.Rule.{terms_of}
 use Rattle.lv_board.specs.Tells.{actor_of, IsAt}
 use Rattle.lv_board.specs.Walks.{HasRead, loads_in, MayRead, Sums}
 use Rattle.lv_board.proofs.board.Board.walk_range.Given as goal
 
--- the walk has come so far, and the seat sees what it saw
+-- the walk has reached this index, and the seat sees what it saw
 abbrev pub invariant-loop-walk : goal.invariant-loop-walk
 invariant-loop-walk g l = record {
   here : IsAt l.self.table.shared.table_id l.self.terms l.seat;
@@ -18,6 +18,6 @@ invariant-loop-walk g l = record {
   sums : Sums (g.B.Body.operations l.self.terms.body) (actor_of l.fn.seat).seen l.walk;
 }
 
--- what is left of the range
+-- the rest of the range
 abbrev pub decreases-loop-walk : goal.decreases-loop-walk
 decreases-loop-walk g l = l.hi - l.walk.at

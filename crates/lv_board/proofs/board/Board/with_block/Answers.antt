@@ -1,4 +1,4 @@
--- Proof of `Board::with_block`: a walk with the block where it stands, of which these are the parts.
+-- Proof of `Board::with_block`: a walk with the block at its position.
 use Rattle.std.proofs.Common.{sym, subst}
 use Rattle.lv_bodies.specs.Body.{CanJoin}
 use Rattle.lv_bodies.specs.Parts.{HasParts}

@@ -1,4 +1,4 @@
--- Proof of `Board::write_looked`: overwrites the element at `index`, where no edit came since the seat looked.
+-- Proof of `Board::write_looked`: overwrites the element at `index`, if no update came since the seat looked.
 use Rattle.std.proofs.Common.{refl, subst}
 use Rattle.std.specs.Int.{w64}
 use Rattle.std.proofs.lemmas.Int.{to_z-of_z}

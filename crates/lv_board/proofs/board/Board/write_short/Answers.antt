@@ -1,4 +1,4 @@
--- Proof of `Board::write_short`: overwrites the element at an index with one of 16 bits, as the seat looked.
+-- Proof of `Board::write_short`: overwrites the element at an index by one of 16 bits, from the look that the seat has.
 use Rattle.std.proofs.Common.{rules, ◌≡◌, ◌∷◌, ◌+◌, Some, None, Ok, Err, length, refl, sym, ap, ◌∙◌, subst, inl, arith, Result}
 use Rattle.std.specs.Int.{w64, cast_signed, cast_unsigned}
 use Rattle.std.proofs.lemmas.Int.{to_z-of_z}

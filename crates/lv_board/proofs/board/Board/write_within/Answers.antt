@@ -1,4 +1,5 @@
--- Proof of `Board::write_within`: `try_write`, made again while it is refused with `Contended`, from the descriptor that was found then.
+-- Proof of `Board::write_within`: does what `try_write` does, and tries again while it is refused with `Contended`, from the descriptor that was
+-- found then, or with `Overtaken`, after a new look.
 use Rattle.std.proofs.Common.{refl, subst}
 use Rattle.std.specs.Int.{w64}
 use Rattle.std.proofs.lemmas.Int.{to_z-of_z}

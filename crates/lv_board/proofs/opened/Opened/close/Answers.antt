@@ -1,4 +1,4 @@
--- Proof of `Opened::close`: the vector when all seats are there: the number of its last edit, and its elements.
+-- Proof of `Opened::close`: returns the vector when all seats are there: the number of its last update, and its elements.
 use Rattle.std.proofs.Common.{◌<◌, ◌≤◌, ◌≢◌, arith, length, map, refl, rules, sym, ap, ◌∙◌, subst}
 use Rattle.std.specs.Prelude.{vec_capacity, All}
 use Rattle.std.specs.Arc.{arc_value}

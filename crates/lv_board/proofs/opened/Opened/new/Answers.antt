@@ -1,4 +1,4 @@
--- Proof of `Opened::new`: a board with no edits, to be shared, whose seats are all there: seat k is actor k.
+-- Proof of `Opened::new`: a board with no updates, to be shared, with all its seats.
 use Rattle.std.proofs.Common.{sym, ap, ◌∙◌}
 use Rattle.lv_board.specs.declared.actors.Basis.{Basis}
 use Rattle.lv_board.proofs.Ordered.{dealt_order}

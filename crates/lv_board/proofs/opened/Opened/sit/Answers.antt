@@ -1,4 +1,4 @@
--- Proof of `Opened::sit`: the seat that has been there for the longest; at first they are there in the order of their numbers.
+-- Proof of `Opened::sit`: takes the seat that has been there for the longest time.
 use Rattle.std.proofs.Common.{subst, arith}
 use Rattle.std.specs.Arc.{arc_value}
 use Rattle.std.proofs.lemmas.List.Elements.{All-tail}

@@ -1,4 +1,4 @@
--- Proof of `Opened::take_back`: takes a seat back, with all that it knows: it may be taken again, and when all are there the board can be closed.
+-- Proof of `Opened::take_back`: takes a seat back, with all that it knows.
 use Rattle.std.proofs.Common.{◌<◌, sym, subst, arith}
 use Rattle.std.specs.Arc.{arc_value}
 use Rattle.std.proofs.lemmas.List.Elements.{All-push}

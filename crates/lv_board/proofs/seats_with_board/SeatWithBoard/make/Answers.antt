@@ -1,4 +1,4 @@
--- Proof of `SeatWithBoard::make`: makes a call, and gives what it ends with, a fold as its plain value.
+-- Proof of `SeatWithBoard::make`: makes a call, and returns how it ends, with a fold as its plain value.
 use Rattle.std.proofs.Common.{refl}
 use Rattle.lv_board.proofs.seats_with_board.SeatWithBoard.make.Goals as goal
 

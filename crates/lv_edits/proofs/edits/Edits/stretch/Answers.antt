@@ -1,4 +1,5 @@
--- Proof of `Edits::stretch`: elements from index `from` on, before `to`, lent where they lie: as many as lie side by side with no write pending among them.
+-- Proof of `Edits::stretch`: a slice of elements from index `from` on, before `to`: as many as are contiguous in memory with no pending
+-- write among them.
 use Rattle.std.proofs.Common.{arith, length, ◌∙◌}
 use Rattle.lv_store.proofs.ElementsLaws.{range_of_elements}
 use Rattle.lv_edits.proofs.HoldsLaws.{size_held}

@@ -1,4 +1,5 @@
--- Proof of `Edits::verdict_of_pushes`: the refusal of the first push that would be refused, of pushes one after another, want of memory apart, or none.
+-- Proof of `Edits::verdict_of_pushes`: the error of the first push that would be rejected if the values were pushed one after another and
+-- memory sufficed, or none.
 use Rattle.std.proofs.Common.{ap, arith, sym}
 use Rattle.lv_geometry.specs.Cells.{capacity_of}
 use Rattle.lv_edits.specs.Kept.{IsLegalInLimits}

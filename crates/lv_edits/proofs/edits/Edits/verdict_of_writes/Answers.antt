@@ -1,4 +1,5 @@
--- Proof of `Edits::verdict_of_writes`: the refusal of the first write that would be refused, of writes at indices one after another, want of memory apart, or none.
+-- Proof of `Edits::verdict_of_writes`: the error of the first write that would be rejected if writes were made at the indices one after
+-- another and memory sufficed, or none.
 use Rattle.std.proofs.Common.{◌≡◌, ℤ, List, ◌+◌, ◌-◌, ap, sym, ◌∙◌, length, arith}
 use Rattle.lv_edits.specs.Batches.{verdict_of_edits, writes_at}
 use Rattle.lv_edits.specs.Kept.{IsLegalInLimits}

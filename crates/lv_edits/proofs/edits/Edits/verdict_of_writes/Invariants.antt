@@ -1,4 +1,4 @@
--- What the loop keeps in `Edits::verdict_of_writes`: the refusal of the first write that would be refused, of writes at indices one after another, want of memory apart, or none.
+-- The loop invariant of `Edits::verdict_of_writes`, which returns the error of the first write that would be rejected, or none.
 use Rattle.std.proofs.Common.{◌≡◌, ◌-◌, ◌≤◌, drop}
 use Rattle.lv_edits.proofs.BatchLaws.{verdict_by}
 use Rattle.lv_edits.proofs.edits.Edits.verdict_of_writes.Given as goal

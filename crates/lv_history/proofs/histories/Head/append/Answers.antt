@@ -1,4 +1,4 @@
--- Proof of `Head::append`: adds an edit, and spends its permit by that.
+-- Proof of `Head::append`: adds an update, and spends the permit for that.
 use Rattle.std.proofs.Common.{[], ◌∷◌, ◌++◌, ap, arith, length, length-append, sym, ◌∙◌}
 use Rattle.lv_history.specs.Growing.{edits_by}
 use Rattle.lv_history.proofs.PermitLaws.{HasAdded, adds_one}
@@ -16,7 +16,7 @@ compare_exchange-requires g c =
       rw (ap (λ w. w.key) i.1, offer.3) (adds_moves _ c.self.inside.seen.log c.self.inside.pen.nib i.4),
     )
 
--- what the step added is the next edit
+-- what the step added is the next update
 pub invariant_of-self : goal.invariant_of-self
 invariant_of-self g c =
     let p = g.N.Naming.history.permit in

@@ -20,7 +20,7 @@ compare_exchange-requires g c =
       rw (ap (λ w. w.key) i.1, offer.3) (shows_moves _ c.learn.new.self.log c.self.inside.pen.nib i.4),
     )
 
--- nothing was added by the permit after them, so these are all
+-- nothing was added with the permit after them, so these are all updates
 pub returns-clause-begins : goal.returns-clause-begins
 returns-clause-begins g c =
     let p = g.N.Naming.history.permit in

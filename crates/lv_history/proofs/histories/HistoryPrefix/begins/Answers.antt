@@ -1,4 +1,4 @@
--- Proof of `HistoryPrefix::begins`: whether it begins another prefix.
+-- Proof of `HistoryPrefix::begins`: whether it is a prefix of another one, which it is if it has seen no more.
 use Rattle.std.proofs.Common.{◌≤◌, ap, subst, arith, length, List}
 use mathlib.Core.List.{IsPrefix}
 use Rattle.lv_history.specs.declared.entries.Entry.{Entry}

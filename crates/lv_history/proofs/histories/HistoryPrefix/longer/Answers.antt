@@ -1,4 +1,4 @@
--- Proof of `HistoryPrefix::longer`: the longer of two prefixes, which the other begins.
+-- Proof of `HistoryPrefix::longer`: the longer of two prefixes.
 use Rattle.std.proofs.Common.{◌≤◌, ap, subst, arith, length, List}
 use mathlib.Core.List.{IsPrefix}
 use Rattle.lv_history.specs.declared.entries.Entry.{Entry}

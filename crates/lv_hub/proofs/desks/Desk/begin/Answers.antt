@@ -1,11 +1,12 @@
--- Proof of `Desk::begin`: makes edits, one after the other, by a share that has all parts and counts none.
+-- Proof of `Desk::begin`: makes updates, one after the other, with a share that has all parts and counts none, so that they are all updates that
+-- there are.
 use Rattle.std.proofs.Common.{◌∙◌, ap, arith, pos, refl}
 use Rattle.lv_edits.specs.declared.edit.Edit.{Edit}
 use Rattle.lv_edits.specs.declared.edit.Edit.TheVariants.{Push}
 use Rattle.lv_hub.proofs.BeginLaws.{edits_go_on, none_of, share_begins, share_goes_on}
 use Rattle.lv_hub.proofs.desks.Desk.begin.Goals as goal
 
--- what stands past the end
+-- the value that is taken for an element past the end
 abbrev first : Edit
 first = Push (pos 0)
 

@@ -1,8 +1,9 @@
--- What the loop keeps in `Desk::begin`: makes edits, one after the other, by a share that has all parts and counts none.
+-- Loop invariants of `Desk::begin`: makes updates, one after the other, with a share that has all parts and counts none, so that they are all
+-- updates that there are.
 use Rattle.std.proofs.Common.{◌≡◌, take}
 use Rattle.lv_hub.proofs.desks.Desk.begin.Given as goal
 
--- the edits so far are all there are
+-- the updates so far are all that there are
 abbrev pub invariant-loop-edit : goal.invariant-loop-edit
 invariant-loop-edit g l =
     record {

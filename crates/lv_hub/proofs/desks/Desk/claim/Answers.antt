@@ -1,4 +1,4 @@
--- Proof of `Desk::claim`: a job for the least node that wants one, or none.
+-- Proof of `Desk::claim`: a job for the least node that needs one, or none.
 use Rattle.lv_hub.proofs.desks.Desk.claim.Goals as goal
 
 pub returns-clause-next : goal.returns-clause-next

@@ -1,4 +1,4 @@
--- Proof of `Desk::copy_elements`: copies the elements, where a prefix has seen all edits.
+-- Proof of `Desk::copy_elements`: copies the elements, if a prefix has seen all updates.
 use Rattle.std.proofs.Common.{◌≡◌, ◌∙◌, ap, length, subst, sym}
 use Rattle.lv_edits.specs.History.{list_of}
 use Rattle.lv_hub.specs.Renewing.{IsRun, StandsFor}

@@ -1,4 +1,4 @@
--- Proof of `Desk::edit`: makes an edit, counts it on the share where it is accepted, and adds it to the history then.
+-- Proof of `Desk::edit`: makes an update.
 use Rattle.std.proofs.Common.{◌<◌, ◌^◌, ◌++◌, ◌∷◌, [], IfSome, Ok, Some, ap, arith, length, option_map, rules, subst, sym, ◌∙◌}
 use Rattle.std.proofs.lemmas.List.{length_push}
 use Rattle.lv_bodies.specs.Plain.{program_table}
@@ -16,14 +16,14 @@ use Rattle.lv_hub.proofs.RenewalLaws.{edit_stands, edits_left, few_edits}
 use Rattle.lv_hub.proofs.WorkLaws.{no_new_wants}
 use Rattle.lv_hub.proofs.desks.Desk.edit.Goals as goal
 
--- there is a number for one edit more
+-- there is a number for one more update
 pub append-requires : goal.append-requires
 append-requires g c =
     let s = c.self.inside in
     let left = edits_left g.N.Naming.limits s.lasts s.head s.live.history _ _ c.self.invariant.2 c.edit.ensures (c.count.ensures ∙ ap length c.see.ensures.same) (c.is_full.ensures.left c.if-is_full.false) in
     subst (λ es. length es < 2 ^ 62) (sym c.see.ensures.same) (few_edits 16777214 g.N.Naming.limits s.head s.live.history c.self.invariant.1.run left)
 
--- vector, book and history have one edit more, and what is kept by kind was told of it
+-- vector, book and history have one more update, and the trees of kinds have it too
 pub invariant_of-self-2 : goal.invariant_of-self-2
 invariant_of-self-2 g c =
     let limits = g.N.Naming.limits in
@@ -69,7 +69,7 @@ returns-clause-number g c = λ one.
     let made = edit_stands limits s.renewed s.capacity s.head c.args.edit s.live.history c.make_edit.new.live.history c.in_ok-receipt.receipt c.self.invariant.1 left c.in_ok-receipt.ensures.answer c.make_edit.ensures.limits in
     ap (λ (receipt : Receipt). Ok receipt) (number_told limits s.renewed s.capacity s.head c.see-2.new.head c.args.edit c.in_ok-receipt.receipt c.with_capacity.result _ made (c.see-2.ensures.same ∙ c.append.ensures ∙ ap (λ es. es ++ c.args.edit ∷ []) c.see.ensures.same) c.with_capacity.ensures one)
 
--- what the vector refuses the hub does
+-- what the vector refuses, the hub refuses
 pub returns-in_err-receipt-clause-answer : goal.returns-in_err-receipt-clause-answer
 returns-in_err-receipt-clause-answer g c =
     let limits = g.N.Naming.limits in

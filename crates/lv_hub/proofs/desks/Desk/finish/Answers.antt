@@ -1,4 +1,4 @@
--- Proof of `Desk::finish`: its vector and its edits, once no thread makes any more.
+-- Proof of `Desk::finish`: the vector and the updates, once no thread makes any more.
 use Rattle.lv_hub.specs.Renewing.{IsClosed}
 use Rattle.lv_hub.proofs.RenewalLaws.{stands_alone, stands_list}
 use Rattle.lv_hub.proofs.desks.Desk.finish.Goals as goal

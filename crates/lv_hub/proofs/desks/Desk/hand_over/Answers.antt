@@ -5,7 +5,7 @@ use Rattle.lv_hub.proofs.DeskLaws.{came_after, renewed_before}
 use Rattle.lv_hub.proofs.LogLaws.{came_by, taps_none}
 use Rattle.lv_hub.proofs.desks.Desk.hand_over.Goals as goal
 
--- from the last edit on, nothing has come yet
+-- from the last version on, nothing has come yet
 pub invariant_of-self : goal.invariant_of-self
 invariant_of-self g c =
     let s = c.self.inside in

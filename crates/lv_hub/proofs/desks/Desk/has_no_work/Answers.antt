@@ -1,4 +1,4 @@
--- Proof of `Desk::has_no_work`: whether who waits for work is to sleep, and then counts as asleep: while the vector has no block, and so no node wants a job, and nobody was dismissed.
+-- Proof of `Desk::has_no_work`: whether a worker that waits is to sleep, which then counts as asleep.
 use Rattle.std.proofs.Common.{◌∙◌, ap, arith, length, sym}
 use Rattle.std.proofs.lemmas.Bool.{ltb-true}
 use Rattle.lv_edits.specs.History.{list_of}

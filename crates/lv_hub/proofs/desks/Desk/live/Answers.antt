@@ -1,4 +1,4 @@
--- Proof of `Desk::live`: its vector, which has the hub's elements.
+-- Proof of `Desk::live`: the vector, which has the hub's elements.
 use Rattle.lv_hub.proofs.RenewalLaws.{stands_alone, stands_list}
 use Rattle.lv_hub.proofs.desks.Desk.live.Goals as goal
 

@@ -1,4 +1,5 @@
--- Proof of `Desk::new`: an empty vector with an empty history, of a hub of one vector.
+-- Proof of `Desk::new`: an empty vector with an empty history, for which nobody sleeps, and a share of all parts of the blank's ledger, which
+-- counts nothing and has seen nothing.
 use Rattle.std.proofs.Common.{subst}
 use Rattle.lv_hub.specs.Renewing.{IsOfOneVector}
 use Rattle.lv_hub.proofs.desks.Desk.new.Goals as goal

@@ -1,4 +1,5 @@
--- Proof of `Desk::open`: an empty vector with an empty history, and a share of all parts of the blank's ledger.
+-- Proof of `Desk::open`: does what `new` does, for a hub of one vector or, if it lasts, for a hub that continues when its vector's updates are
+-- used up.
 use Rattle.std.proofs.Common.{◌∙◌, Some, [], length, refl, sym, subst, ap}
 use Rattle.lv_bodies.specs.Plain.{program_table}
 use Rattle.lv_tree.specs.Kinds.{AreKept, AreReady}

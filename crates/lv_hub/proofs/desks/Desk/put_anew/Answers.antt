@@ -1,4 +1,4 @@
--- Proof of `Desk::put_anew`: puts a vector in place of its own, which has just the elements that there are.
+-- Proof of `Desk::put_anew`: replaces the vector as `renew` does, for a prefix that has seen all updates.
 use Rattle.std.proofs.Common.{◌≡◌, ◌∙◌, IfSome, [], Some, ap, length, map, max, subst, sym, arith}
 use Rattle.lv_edits.specs.declared.edit.Edit.TheVariants.{Push}
 use Rattle.lv_edits.specs.History.{list_of}
@@ -13,7 +13,7 @@ use Rattle.lv_history.proofs.PrefixLaws.{prefix_whole}
 use Rattle.lv_hub.proofs.RenewalLaws.{stands_anew}
 use Rattle.lv_hub.proofs.desks.Desk.put_anew.Goals as goal
 
--- it stands for the hub from then on, and nothing has come yet
+-- the new vector represents the hub from then on, and no entries have come yet
 pub invariant_of-self : goal.invariant_of-self
 invariant_of-self g c =
     let limits = g.N.Naming.limits in

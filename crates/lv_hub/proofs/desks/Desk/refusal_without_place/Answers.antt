@@ -1,15 +1,15 @@
--- Proof of `Desk::refusal_without_place`: why an edit is refused that a log, or the vector, has no room for.
+-- Proof of `Desk::refusal_without_place`: why an update is refused for which a log, or the vector, has no room.
 use Rattle.std.proofs.Common.{◌∙◌, arith, inl, sym}
 use Rattle.lv_hub.proofs.DeskLaws.{refuses_told}
 use Rattle.lv_hub.proofs.RenewalLaws.{edit_kept, is_worn_out}
 use Rattle.lv_hub.proofs.desks.Desk.refusal_without_place.Goals as goal
 
--- all edits were made that there are numbers for
+-- all updates were made for which there are numbers
 pub returns-then-is_used_up : goal.returns-then-is_used_up
 returns-then-is_used_up g c =
     rw (← c.self.view_is) (inl (is_worn_out g.N.Naming.limits c.self.inside.lasts c.self.inside.head c.args.edit.now _ c.self.invariant.2 c.self.invariant.1.run c.count.ensures (sym c.is_used_up.ensures ∙ c.if-is_used_up.true)))
 
--- the vector knows why, while it keeps an edit
+-- the vector knows the reason, while it holds an update in reserve
 pub returns : goal.returns
 returns g c =
     let s = c.self.inside in

@@ -1,4 +1,4 @@
--- Proof of `Desk::tap`: from now on keeps what comes for a log.
+-- Proof of `Desk::tap`: from now on keeps what comes for a log, in a list that is empty and never grows its allocation.
 use Rattle.std.proofs.Common.{◌∙◌, [], Some, ap, sym}
 use Rattle.lv_hub.proofs.LogLaws.{taps_none}
 use Rattle.lv_hub.proofs.desks.Desk.tap.Goals as goal

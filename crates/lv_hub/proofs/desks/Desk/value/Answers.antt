@@ -1,4 +1,4 @@
--- Proof of `Desk::value`: the value of a kind over a range.
+-- Proof of `Desk::value`: the value of a kind over the elements from index `lo` up to `hi`.
 use Rattle.lv_hub.proofs.DeskLaws.{as_many_edits, refused_values_alike, value_number, values_alike}
 use Rattle.lv_hub.proofs.RenewalLaws.{stands_list}
 use Rattle.lv_hub.proofs.desks.Desk.value.Goals as goal

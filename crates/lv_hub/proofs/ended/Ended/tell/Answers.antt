@@ -1,4 +1,4 @@
--- Proof of `Ended::tell`: the last that there is to tell, by the vector of the hub that was closed.
+-- Proof of `Ended::tell`: the last notification, from the vector of the hub that was closed after this many updates.
 use Rattle.std.proofs.Common.{◌∙◌, ap, map}
 use Rattle.lv_bodies.specs.Plain.{program_table}
 use Rattle.lv_standing.specs.Queries.{watch_answer}

@@ -8,7 +8,7 @@ use Rattle.lv_hub.specs.Told.{history_of}
 use Rattle.lv_hub.proofs.ToldLaws.{stretch_number, stretch_told}
 use Rattle.lv_hub.proofs.hubs.Hub.copy_range.Goals as goal
 
--- it was copied from what the lock held, which has the hub's body
+-- it was copied from the desk in the lock, which has the hub's monoid instance
 pub returns-clause-told : goal.returns-clause-told
 returns-clause-told g c =
     let s = c.live.result.now in

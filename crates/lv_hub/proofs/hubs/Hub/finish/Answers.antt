@@ -1,4 +1,4 @@
--- Proof of `Hub::finish`: the vector and all edits, once all threads are done.
+-- Proof of `Hub::finish`: returns what `close` does, together with all updates of the hub.
 use Rattle.std.proofs.Common.{subst, sym}
 use mathlib.Core.List.{IsPrefix}
 use Rattle.lv_hub.proofs.ToldLaws.{closed_as}

@@ -4,7 +4,7 @@ use Rattle.std.proofs.lemmas.Option.{same_Some}
 use Rattle.lv_hub.proofs.ToldLaws.{delivery_told}
 use Rattle.lv_hub.proofs.hubs.Hub.give.Goals as goal
 
--- it was answered by what the lock held, which has the hub's body
+-- it was answered by the desk in the lock, which has the hub's monoid instance
 pub returns : goal.returns
 returns g c =
     let of : c.deref_mut.result.now.live.body ≡ c.args.self.now = same_Some _ _ (sym c.give.ensures.body ∙ c.self.invariant ∙ ap Some c.self.view_is) in

@@ -1,4 +1,4 @@
--- Proof of `Hub::reduce`: the fold of the elements from index `lo` up to `hi`, at the last edit, up to which the share sees them all.
+-- Proof of `Hub::reduce`: the fold of the elements from index `lo` up to `hi`, at the last update.
 use Rattle.std.proofs.Common.{◌≡◌, Some, ap, rules, subst, sym, ◌∙◌}
 use Rattle.std.proofs.lemmas.Option.{same_Some}
 use mathlib.Core.List.{IsPrefix}
@@ -9,7 +9,7 @@ use Rattle.lv_hub.specs.Told.{history_of}
 use Rattle.lv_hub.proofs.ToldLaws.{reads_told, reduction_number, reduction_told}
 use Rattle.lv_hub.proofs.hubs.Hub.reduce.Goals as goal
 
--- it was answered by what the lock held, which has the hub's body
+-- it was answered by the desk in the lock, which has the hub's monoid instance
 pub returns-clause-told : goal.returns-clause-told
 returns-clause-told g c =
     let s = c.live.result.now in

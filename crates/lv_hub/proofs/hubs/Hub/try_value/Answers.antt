@@ -1,10 +1,11 @@
--- Proof of `Hub::try_value`: the plain value of a kind over a range, where a log has room for it.
+-- Proof of `Hub::try_value`: returns what `value` does, and keeps the answer for the log, if there is one. `entry` becomes its number among the
+-- log's entries: the log must have been written up to it before the answer is sent.
 use Rattle.std.proofs.Common.{◌≡◌, rules}
 use mathlib.Core.List.{IsPrefix}
 use Rattle.lv_hub.proofs.ToldLaws.{value_number, value_told}
 use Rattle.lv_hub.proofs.hubs.Hub.try_value.Goals as goal
 
--- it was answered by what the lock held
+-- it was answered by the desk in the lock
 pub returns-clause-told : goal.returns-clause-told
 returns-clause-told g c =
     let edits = c.deref_mut-2.result.now.edits in

@@ -1,10 +1,10 @@
--- Proof of `Hub::value`: the plain value of a kind over the elements from index `lo` up to `hi`, at the last edit.
+-- Proof of `Hub::value`: the plain value of a kind over the elements from index `lo` up to `hi`, at the last update.
 use Rattle.std.proofs.Common.{◌≡◌, rules}
 use mathlib.Core.List.{IsPrefix}
 use Rattle.lv_hub.proofs.ToldLaws.{value_number, value_told}
 use Rattle.lv_hub.proofs.hubs.Hub.value.Goals as goal
 
--- it was answered by what the lock held
+-- it was answered by the desk in the lock
 pub returns-clause-told : goal.returns-clause-told
 returns-clause-told g c =
     let edits = c.deref_mut-2.result.now.edits in

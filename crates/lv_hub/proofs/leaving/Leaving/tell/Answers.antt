@@ -1,4 +1,5 @@
--- Proof of `Leaving::tell`: has each tell the last, in order, by the vector of the hub that was closed.
+-- Proof of `Leaving::tell`: has each of them write its last notification, in order, from the vector of the hub that was closed after this many
+-- updates, unless these aren't recorded.
 use Rattle.std.proofs.Common.{◌∙◌, ◌++◌, [], ◌∷◌, refl, ap, ap₂, sym, subst, arith, length, map}
 use Rattle.std.proofs.lemmas.Iterator.Adapters.{YieldsList-from_vec}
 use Rattle.std.proofs.lemmas.Iterator.Consumers.{YieldsList-turn, YieldsList-end}
@@ -57,7 +58,7 @@ returns-clause-last g c =
     let end = YieldsList-end (YieldsList-from_vec c.args.self.left.items gives.0 (gives.1 ∙ c.args.self.left.ok.0)) c.loop-one.yielded c.loop-one.one-iterator c.loop-one.yielded_by c.next.result c.next.new.self c.in-None.is c.next.ensures.steps in
     λ edits many alike. subst (λ ls. AllTellLast edits ls (map (λ w. w.notices) c.loop-one.watched.items)) (sym (map-id c.loop-one.yielded) ∙ end.0) (c.loop-one.invariant.2 edits many alike)
 
--- where it isn't recorded, none has written anything
+-- if the updates aren't recorded, no subscriber has written anything
 pub returns-clause-unrecorded : goal.returns-clause-unrecorded
 returns-clause-unrecorded g c =
     let gives = c.into_iter-one-iterator.ensures.into_iter_gives in

@@ -1,4 +1,5 @@
--- What the loop keeps in `Leaving::tell`: has each tell the last, in order, by the vector of the hub that was closed.
+-- Loop invariants of `Leaving::tell`: has each of them write its last notification, in order, from the vector of the hub that was closed after
+-- this many updates, unless these aren't recorded.
 use Rattle.std.proofs.Common.{◌≡◌, false, length, map, vec_capacity, vec_len}
 use Rattle.lv_live.specs.State.{SameLive}
 use Rattle.lv_hub.proofs.WatchedLaws.{AllTellLastAt}

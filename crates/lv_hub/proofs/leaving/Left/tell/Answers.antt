@@ -1,4 +1,5 @@
--- Proof of `Left::tell`: tells the last, by the vector of the hub that was closed.
+-- Proof of `Left::tell`: writes the last notification, from the vector of the hub that was closed after this many updates, unless these aren't
+-- recorded.
 use Rattle.lv_hub.proofs.WatchedLaws.{tells_last}
 use Rattle.lv_hub.proofs.leaving.Left.tell.Goals as goal
 

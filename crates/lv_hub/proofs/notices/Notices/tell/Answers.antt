@@ -1,4 +1,4 @@
--- Proof of `Notices::tell`: writes the lines of what was told, unless a write has failed.
+-- Proof of `Notices::tell`: writes the lines of a notification, with its edit number in this numbering, unless a write has failed.
 use Rattle.std.proofs.Common.{ap, sym, ◌∙◌}
 use Rattle.lv_hub.specs.Noticing.{NoticesState, told_text}
 use Rattle.lv_hub.proofs.NoticeLaws.{gave_up, wrote_more, wrote_nothing, wrote_part}

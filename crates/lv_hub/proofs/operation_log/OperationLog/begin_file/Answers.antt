@@ -1,4 +1,4 @@
--- Proof of `OperationLog::begin_file`: begins the file anew with the elements that there are.
+-- Proof of `OperationLog::begin_file`: begins the file anew with these elements, and returns whether that succeeded.
 use Rattle.std.proofs.Common.{◌∙◌, subst, sym}
 use Rattle.lv_transcript.specs.Transcribing.{state_with}
 use Rattle.lv_hub.specs.Logging.{BeginsAnew, IsLogInFile, LogState, MayBeginAnew}
@@ -8,7 +8,7 @@ use Rattle.lv_hub.proofs.operation_log.OperationLog.begin_file.Goals as goal
 pub begin_anew-requires-clause-count : goal.begin_anew-requires-clause-count
 begin_anew-requires-clause-count g c = count_of_all g.N.Naming.numbers c.args.heading c.args.self.now.seen c.args.elements.now c.requires.begins.heading_is c.requires.begins.elements_are
 
--- the new file has these elements, and what writes it holds nothing
+-- the new file has these elements, and its writer has nothing buffered
 pub invariant_of-self : goal.invariant_of-self
 invariant_of-self g c =
     let self = c.self.inside in

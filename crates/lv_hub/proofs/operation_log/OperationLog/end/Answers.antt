@@ -1,4 +1,5 @@
--- Proof of `OperationLog::end`: writes what is held behind all edits of the hub, and a transcript's last line.
+-- Proof of `OperationLog::end`: writes what is buffered after all updates of the hub, which were recorded before, and a transcript's last line,
+-- and returns the writer.
 use Rattle.std.proofs.Common.{◌≡◌, arith, length, subst, sym}
 use mathlib.Core.List.{IsPrefix}
 use Rattle.lv_lines.specs.declared.fault.Fault.TheVariants.{WriteFault}
@@ -8,7 +9,7 @@ use Rattle.lv_hub.proofs.LogLaws.{in_file_ends, in_file_ends_short}
 use Rattle.lv_hub.proofs.operation_log.OperationLog.end.Goals as goal
 use Rattle.lv_hub.proofs.operation_log.OperationLog.end.Goals.{then-not-self, else-not-self}
 
--- not all edits were recorded
+-- not all updates were recorded
 pub returns-then-not-is_whole-clause-ends : goal.returns-then-not-is_whole-clause-ends
 returns-then-not-is_whole-clause-ends g c =
     let self = c.self.inside in
@@ -18,7 +19,7 @@ returns-then-not-is_whole-clause-ends g c =
     c.finish-ended.result WriteFault c.self.invariant.0 begins
     (λ entries given. c.finish-ended.ensures.ends c.self.invariant.0.file.there c.self.invariant.0.file.begun entries c.self.invariant.0.behind given)
 
--- all were
+-- all were recorded
 pub returns-clause-ends : goal.returns-clause-ends
 returns-clause-ends g c =
     let self = c.self.inside in

@@ -1,4 +1,4 @@
--- Proof of `OperationLog::has_all`: whether all is written, begins with what a share has seen, and is as many entries.
+-- Proof of `OperationLog::has_all`: whether all is written, has what a share has seen as a prefix, and has at least this many entries.
 use Rattle.std.proofs.Common.{◌≡◌, false, subst, sym}
 use Rattle.lv_transcript.specs.Transcribing.{state_with}
 use Rattle.lv_hub.specs.Logging.{HasAllOfFile, LogState}

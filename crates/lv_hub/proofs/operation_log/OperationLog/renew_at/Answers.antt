@@ -1,4 +1,4 @@
--- Proof of `OperationLog::renew_at`: makes the vector anew of the elements that there are.
+-- Proof of `OperationLog::renew_at`: does what `renew_of` does, for a file that begins with this first line.
 use Rattle.std.proofs.Common.{◌∙◌, ap, map, sym}
 use Rattle.std.specs.Prelude.{Some}
 use Rattle.lv_edits.specs.declared.edit.Edit.TheVariants.{Push}

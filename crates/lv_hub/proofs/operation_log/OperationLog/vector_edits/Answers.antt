@@ -1,4 +1,4 @@
--- Proof of `OperationLog::vector_edits`: how many edits the vector has with those that were recorded.
+-- Proof of `OperationLog::vector_edits`: how many updates the vector has, counting those that were recorded.
 use Rattle.lv_transcript.specs.Transcribing.{state_with}
 use Rattle.lv_hub.specs.Logging.{LogState}
 use Rattle.lv_hub.proofs.LogLaws.{in_file_elements, in_file_some}

@@ -3,7 +3,7 @@ use Rattle.std.proofs.Common.{Result, Ok, Err, OnOk}
 use Rattle.lv_hub.proofs.LogLaws.{were_recorded}
 use Rattle.lv_hub.proofs.session_logs.MutexOperationLogSessionLog.record.Goals as goal
 
--- what follows of all three where it succeeded
+-- the consequence of all three clauses at a success
 on_all : {T E A B C D : Type 0} (result : Result T E) → OnOk result A → OnOk result B → OnOk result C → (A → B → C → D) → OnOk result D
 on_all (Ok x) one other third then = then one other third
 on_all (Err e) one other third then = one

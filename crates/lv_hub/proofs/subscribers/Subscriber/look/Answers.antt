@@ -1,4 +1,4 @@
--- Proof of `Subscriber::look`: what there is to tell since the last look, or none where no edit was made.
+-- Proof of `Subscriber::look`: looks at the hub, and returns a notification, or none if no update was made since the last look.
 use Rattle.std.proofs.Common.{arith}
 use Rattle.lv_standing.specs.Queries.{watch_answer}
 use Rattle.lv_hub.proofs.SubscriberLaws.{each_answered, looked, looked_in_vain}

@@ -1,4 +1,4 @@
--- Proof of `Subscriber::watch`: registers a question.
+-- Proof of `Subscriber::watch`: registers a question, which takes part from the next look that finds an update.
 use Rattle.std.proofs.Common.{◌≡◌, ◌++◌, ◌∷◌, [], None, OnOk, Result, Ok, Err, ap, subst, ◌∙◌}
 use Rattle.lv_geometry.specs.declared.refusals.Refusal.{Refusal}
 use Rattle.lv_bodies.specs.declared.kinds.Shown.{Shown}
@@ -8,7 +8,7 @@ use Rattle.lv_standing.specs.QuerySets.{QuerySetState, with_query}
 use Rattle.lv_hub.specs.Notes.{question_refusal}
 use Rattle.lv_hub.proofs.subscribers.Subscriber.watch.Goals as goal
 
--- what a set of at most 64 queries takes, a subscriber does
+-- what a set of at most 64 queries accepts, a subscriber accepts
 taken : (set new : QuerySetState Query) (q : Query) (told answer : Shown) (result : Result (Unit {0}) Refusal) → set.most ≡ 64 → told ≡ answer
     → OnOk result ((query_refusal set.most set.queries q ≡ None) × (new ≡ with_query set q told))
     → OnOk result ((question_refusal set.queries q ≡ None) × (new.queries ≡ set.queries ++ q ∷ []) × (new.told ≡ set.told ++ answer ∷ []))

@@ -1,4 +1,4 @@
--- Proof of `Watcher::look`: tells what there is to tell, unless a write has failed.
+-- Proof of `Watcher::look`: looks once and reports, unless a write has failed.
 use Rattle.std.proofs.Common.{subst, sym}
 use Rattle.lv_hub.specs.Notes.{HasTold}
 use Rattle.lv_hub.specs.Noticing.{WatcherState}
@@ -11,6 +11,6 @@ returns-in-Ok-Some g c =
     let has = subst (λ s. HasTold g.N.Naming.limits old.subscriber s c.in-Ok-Some.told) (sym c.tell.ensures.subscriber) (rw c.in-Ok-Some.field-0-is at c.in-Ok-Some.ensures.told) in
     rw (← c.self.view_is) (watches_one g.N.Naming.limits g.N.Naming.numbers old c.tell.new.self c.in-Ok-Some.told has c.tell.ensures.written)
 
--- what was told is an edit of a hub, which has few enough
+-- the edit number of a notification is one of a hub, and so small enough
 pub tell-requires : goal.tell-requires
 tell-requires g c = record { few = rw c.in-Ok-Some.field-0-is at c.in-Ok-Some.ensures.few }

@@ -1,4 +1,4 @@
--- Proof of `Watcher::run`: has its subscriber told of edits, until the hub's workers are dismissed or a write fails.
+-- Proof of `Watcher::run`: runs the subscriber until the hub's workers are dismissed or a write fails.
 use Rattle.lv_hub.proofs.Noticed.{watches_both}
 use Rattle.lv_hub.proofs.watchers.Watcher.run.Goals as goal
 

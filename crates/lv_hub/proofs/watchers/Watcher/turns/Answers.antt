@@ -1,4 +1,4 @@
--- Proof of `Watcher::turns`: has its subscriber told so, turn by turn.
+-- Proof of `Watcher::turns`: runs the subscriber in turns.
 use Rattle.lv_hub.proofs.Noticed.{watches_both, watches_nothing}
 use Rattle.lv_hub.proofs.watchers.Watcher.turns.Goals as goal
 

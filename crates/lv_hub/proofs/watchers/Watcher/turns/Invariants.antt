@@ -1,4 +1,4 @@
--- What the loop keeps in `Watcher::turns`: has its subscriber told so, turn by turn.
+-- Loop invariants of `Watcher::turns`: runs the subscriber in turns.
 use Rattle.lv_hub.specs.Noticing.{Watches}
 use Rattle.lv_hub.proofs.watchers.Watcher.turns.Given as goal
 

@@ -1,4 +1,4 @@
--- Proof of `Live::accept_subtree`: keeps all summaries of a subtree's outcome, where what it is of stands here.
+-- Proof of `Live::accept_subtree`: keeps all summaries of a subtree's outcome, if what its job carried is current.
 use Rattle.std.proofs.Common.{◌≡◌}
 use Rattle.lv_live.proofs.SubtreeLaws.{taken_has, taken_live, taken_remembers}
 use Rattle.lv_live.proofs.live.Live.accept_subtree.Goals as goal

@@ -1,4 +1,4 @@
--- Proof of `Live::deliver`: delivers what a job of this vector gave, by the job's node and version alone.
+-- Proof of `Live::deliver`: delivers what a job of this vector gave, given only the job's node and version.
 use Rattle.lv_bodies.specs.Body.{fold_of}
 use Rattle.lv_edits.specs.Touch.{elements_under}
 use Rattle.lv_live.proofs.DeliverLaws.{claimed_heard, delivered, live_after_anew, ready_to_remake}

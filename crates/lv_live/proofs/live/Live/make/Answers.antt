@@ -1,4 +1,4 @@
--- Proof of `Live::make`: makes an edit that the verdict allows, so that it is refused with `NoMemory` alone.
+-- Proof of `Live::make`: makes an edit that the verdict allows, so that `NoMemory` is its only refusal.
 use Rattle.std.proofs.Common.{◌≡◌, ◌≤◌, ◌*◌, None, sym, ◌∙◌, length, arith}
 use Rattle.lv_edits.specs.History.{list_of}
 use Rattle.lv_edits.specs.Touch.{indices_written}

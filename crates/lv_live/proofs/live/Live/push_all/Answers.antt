@@ -1,4 +1,4 @@
--- Proof of `Live::push_all`: pushes values in order, all of them or none, and tells the number of the last edit.
+-- Proof of `Live::push_all`: pushes values in order, all of them or none, and returns the number of the last edit.
 use Rattle.std.proofs.Common.{◌≡◌, ◌<◌, None, refl, sym, ◌∙◌, length, arith}
 use Rattle.std.proofs.lemmas.Bool.{eqb-false}
 use Rattle.lv_edits.specs.Pushes.{verdict_of_pushes}

@@ -1,4 +1,4 @@
--- Proof of `Live::take_block_turns`: takes turns of blocks, at most so many, while many that lie side by side want a job.
+-- Proof of `Live::take_block_turns`: takes turns of blocks, at most so many, while many neighbouring blocks want a job.
 use Rattle.lv_live.proofs.TurnLaws.{each_taken, live_swept}
 use Rattle.lv_live.proofs.live.Live.take_block_turns.Goals as goal
 

@@ -1,4 +1,4 @@
--- Proof of `Live::take_turn`: claims the least node that wants a job, computes its summary where its contents lie, and installs that.
+-- Proof of `Live::take_turn`: claims the least node that wants a job, computes its summary without copying its contents, and installs it.
 use Rattle.lv_live.proofs.TurnLaws.{live_turned, not_taken, remembers_turned, turn_taken}
 use Rattle.lv_live.proofs.live.Live.take_turn.Goals as goal
 

@@ -1,4 +1,5 @@
--- Proof of `Live::vet`: whether an outcome may be accepted: its node isn't whole, or was touched by another edit last, or what it carries is what stands here.
+-- Proof of `Live::vet`: whether an outcome may be accepted: its node isn't whole, or was touched by another edit last, or what it carries is what
+-- the vector has now.
 use Rattle.std.proofs.Common.{◌∙◌, sym}
 use Rattle.lv_live.proofs.DeliverLaws.{vouched_where}
 use Rattle.lv_live.proofs.live.Live.vet.Goals as goal

@@ -1,4 +1,4 @@
--- Proof of `Live::write_all`: writes values at indices in order, all of them or none, and tells the number of the last edit.
+-- Proof of `Live::write_all`: writes values at indices in order, all of them or none, and returns the number of the last edit.
 use Rattle.std.proofs.Common.{All, ◌<◌, sym, subst, arith}
 use Rattle.lv_live.proofs.WrittenLaws.{accepted_writes, live_after_writes, remembers_written, writes_fit, writes_inside}
 use Rattle.lv_live.proofs.live.Live.write_all.Goals as goal

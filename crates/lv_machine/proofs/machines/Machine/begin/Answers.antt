@@ -1,4 +1,4 @@
--- Proof of `Machine::begin`: starts a call of an actor, or tells why it ends before its first step.
+-- Proof of `Machine::begin`: starts a call of an actor, or returns why it ends before its first step.
 use Rattle.std.proofs.Common.{◌≡◌, ap, ◌∙◌, subst, IfOk, slice_get, slice_set, take, drop, ◌++◌, length, Some}
 use Rattle.std.proofs.lemmas.Option.{slice_get_within}
 use Rattle.lv_bodies.specs.Parts.{HasParts}

@@ -1,4 +1,4 @@
--- Proof of `Machine::new`: an empty vector, and so many idle actors.
+-- Proof of `Machine::new`: an empty vector, and this many idle actors.
 use Rattle.std.proofs.Common.{◌≡◌, ◌*◌, [], ◌∷◌, replicate, refl, ap, ◌∙◌, arith}
 use Rattle.lv_bodies.specs.Parts.{HasParts}
 use Rattle.lv_machine.specs.History.{descriptor_of}

@@ -1,4 +1,4 @@
--- Proof of `Machine::run`: does a list of events, and tells what each comes to.
+-- Proof of `Machine::run`: does a list of events, and returns the outcome of each.
 use Rattle.std.proofs.Common.{◌∙◌, ap, sym, refl, take, arith}
 use Rattle.std.proofs.lemmas.Grind.{take_at_read}
 use Rattle.std.proofs.lemmas.List.{take_all}
@@ -6,7 +6,7 @@ use Rattle.lv_machine.specs.Machine.{machine_run}
 use Rattle.lv_machine.proofs.RunLaws.{run-nil, run_more, run_says_more}
 use Rattle.lv_machine.proofs.machines.Machine.run.Goals as goal
 
--- refused before the first event: nothing has changed
+-- refused before the first event, and nothing has changed
 pub returns-in_default-clause-err : goal.returns-in_default-clause-err
 returns-in_default-clause-err g c = refl
 

@@ -1,4 +1,4 @@
--- What the loop keeps in `Machine::run`: does a list of events, and tells what each comes to.
+-- Loop invariants of `Machine::run`: does a list of events, and returns the outcome of each.
 use Rattle.std.proofs.Common.{◌≡◌, ◌+◌, ◌≤◌, ◌-◌, length, take, vec_capacity, vec_len}
 use Rattle.lv_machine.specs.Machine.{machine_run}
 use Rattle.lv_machine.proofs.machines.Machine.run.Given as goal

@@ -1,4 +1,4 @@
--- Proof of `befores_of`: for each piece of so many elements the fold of all that stand before it.
+-- Proof of `befores_of`: for each piece of so many elements, the fold of all elements before it.
 use Rattle.std.proofs.Common.{◌≡◌, ◌*◌, ◌-◌, ◌<◌, ◌++◌, ◌∷◌, [], length, map, take, drop, vec_len, slice_index_or, sym, ap, ◌∙◌, arith}
 use Rattle.std.specs.List.{range_with_len}
 use Rattle.std.proofs.lemmas.List.FromFn.{map-range_with_len_more}

@@ -1,11 +1,11 @@
--- What the loop keeps in `befores_of`: for each piece of so many elements the fold of all that stand before it.
+-- What the loop keeps in `befores_of`: for each piece of so many elements, the fold of all elements before it.
 use Rattle.std.proofs.Common.{◌≡◌, ◌*◌, ◌≤◌, length, map, take, vec_capacity, vec_len}
 use Rattle.std.specs.List.{range_with_len}
 use Rattle.lv_bodies.specs.Body.{fold_of}
 use Rattle.lv_reduce.specs.Rows.{elements_of}
 use Rattle.lv_reduce.proofs.parallel.slices.befores_of.Given as goal
 
--- what stands before each piece so far, and before the next
+-- the folds of the elements before each piece so far, and before the next
 abbrev pub invariant-loop-fold : goal.invariant-loop-fold
 invariant-loop-fold g l =
     let o = g.B.Body.operations l.body in

@@ -1,4 +1,4 @@
--- Proof of `scan_cells`: puts the scan of a range of a vector where its values belong, by runs of elements that lie side by side.
+-- Proof of `scan_cells`: puts the scan of a range of a vector where its values belong, by runs of neighbouring cells.
 use Rattle.std.proofs.Common.{◌≡◌, ◌+◌, ◌-◌, length, take, sym, ap, ◌∙◌, arith}
 use Rattle.std.proofs.lemmas.List.{take_all}
 use Rattle.lv_edits.specs.History.{list_of}

@@ -1,4 +1,4 @@
--- What the loop keeps in `scan_cells`: puts the scan of a range of a vector where its values belong, by runs of elements that lie side by side.
+-- What the loop keeps in `scan_cells`: puts the scan of a range of a vector where its values belong, by runs of neighbouring cells.
 use Rattle.std.proofs.Common.{◌-◌, ◌≡◌, ◌≤◌, length, take}
 use Rattle.lv_edits.specs.Ranges.{slice_of}
 use Rattle.lv_reduce.specs.Running.{reached, scan_from}

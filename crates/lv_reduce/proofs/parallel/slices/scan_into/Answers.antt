@@ -1,4 +1,4 @@
--- Proof of `scan_into`: puts the scan of some elements, from what stands before them, where its values belong: from an index on.
+-- Proof of `scan_into`: puts the scan of some elements, continued from a summary, where its values belong: from an index on.
 use Rattle.std.proofs.Common.{◌≡◌, ◌+◌, ◌<◌, ◌++◌, ◌∷◌, [], append-nil, append_assoc, pos, length, slice_index_or, slice_set, take, if◌then◌else◌, rules, refl, subst, sym, ap, ◌∙◌, arith}
 use Rattle.std.specs.Int.{w64}
 use Rattle.std.proofs.lemmas.Int.{to_z-of_z}

@@ -1,4 +1,4 @@
--- What the loop keeps in `scan_into`: puts the scan of some elements, from what stands before them, where its values belong: from an index on.
+-- What the loop keeps in `scan_into`: puts the scan of some elements, continued from a summary, where its values belong: from an index on.
 use Rattle.std.proofs.Common.{◌≡◌, ◌+◌, ◌++◌, ◌^◌, ◌≤◌, ℕ, length, take}
 use Rattle.lv_reduce.specs.Running.{reached, scan_from}
 use Rattle.lv_reduce.proofs.parallel.slices.scan_into.Given as goal

@@ -9,14 +9,14 @@ use Rattle.lv_reduce.proofs.PieceLaws.{front_of_slice, slice_can_go_on, slice_of
 use Rattle.lv_reduce.proofs.RunLaws.{place_of}
 use Rattle.lv_reduce.proofs.parallel.slices.scan_piece.Goals as goal
 
--- what stands before the piece that begins at an index
+-- the fold of the elements before the piece that begins at an index
 stands_before : {S : Type 0} (o : Operations S) (xs : List ℤ) (size start : ℕ) (befores : List S) (before : S) → AreBefore o size xs befores → start % size ≡ 0 → start < length xs → before ≡ slice_index_or befores (start / size) before → before ≡ fold_of o (take start xs)
 stands_before o xs size start befores before are begins inside is =
     let place = place_of start size begins in
     let there : start / size < length befores = are.count (start / size) (omega (arith, place, inside)) in
     is ∙ are.folds (start / size) before there ∙ ap (λ n. fold_of o (take n xs)) place
 
--- the elements of the piece, told by their indices in the row
+-- the elements of the piece, by their indices in the row
 piece_is : (xs : List ℤ) (lo hi start m : ℕ) → start + m ≤ hi - lo → slice_range xs (lo + start) (lo + start + m) ≡ slice_range (slice_range xs lo hi) start (start + m)
 piece_is xs lo hi start m inside =
     let place : lo + start + m ≡ lo + (start + m) = omega arith in

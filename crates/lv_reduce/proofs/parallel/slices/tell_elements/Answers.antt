@@ -1,4 +1,4 @@
--- Proof of `tell_elements`: tells that the elements of a slice are of 64 bits.
+-- Proof of `tell_elements`: proves that the elements of a slice are of 64 bits.
 use Rattle.std.proofs.Common.{◌<◌, pos, length, rules, arith, slice_index_or}
 use Rattle.std.proofs.lemmas.List.Elements.{All-more}
 use Rattle.lv_geometry.specs.Elements.{IsElement}

@@ -1,4 +1,4 @@
--- Proof of `push_cells`: pushes one of the two scans of a range of a vector, by runs of elements that lie side by side.
+-- Proof of `push_cells`: pushes one of the two scans of a range of a vector, by runs of neighbouring cells.
 use Rattle.std.proofs.Common.{◌+◌, length, ◌∙◌, arith}
 use Rattle.lv_edits.specs.History.{list_of}
 use Rattle.lv_reduce.proofs.PieceLaws.{slice_can_go_on, slice_range-run, slice_scanned}

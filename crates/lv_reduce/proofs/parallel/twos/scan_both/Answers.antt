@@ -1,4 +1,4 @@
--- Proof of `scan_both`: one of the two scans of two parts of a row that lie side by side, each by a thread.
+-- Proof of `scan_both`: one of the two scans of two neighbouring parts of a row, each by a thread.
 use Rattle.std.proofs.Common.{ap, ◌∙◌, arith}
 use Rattle.std.specs.List.{slice_range}
 use Rattle.lv_reduce.specs.Answer.{scan_of}

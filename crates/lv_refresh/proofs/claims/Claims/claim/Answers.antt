@@ -1,4 +1,5 @@
--- Proof of `Claims::claim`: the job of the least node that wants one, by level and then by number, which is claimed with it; none where no node wants one.
+-- Proof of `Claims::claim`: the job of the least node that wants one, by level and then by number, which is claimed with it; none if no node
+-- wants one.
 use Rattle.std.proofs.Common.{None, Some}
 use Rattle.lv_refresh.proofs.ComputeLaws.{whole_served}
 use Rattle.lv_refresh.proofs.NextLaws.{AreHints-served, HintsWants-from, IsNextJob-job, IsNextJob-served, Stands-job, body-job, claimed-job, idle-job}

@@ -1,4 +1,4 @@
--- Proof of `Claims::hint_above`: hints at the node one level up, where there is one.
+-- Proof of `Claims::hint_above`: hints at the node one level up, if there is one.
 use Rattle.std.proofs.Common.{◌≡◌, ◌+◌, ◌≤◌, ap, arith, length, sym}
 use Rattle.lv_geometry.proofs.NodeLaws.{level_of_node}
 use Rattle.lv_refresh.proofs.HintLaws.{AreClaims-hinted, HintsLevel-one, HintsNode-by_rows}

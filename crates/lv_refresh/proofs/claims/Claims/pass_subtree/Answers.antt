@@ -1,4 +1,4 @@
--- Proof of `Claims::pass_subtree`: hears that every summary of a subtree was installed.
+-- Proof of `Claims::pass_subtree`: takes note that every summary of a subtree was installed.
 use Rattle.std.proofs.Common.{◌||◌, refl, ap, ◌∙◌}
 use Rattle.lv_geometry.specs.Nodes.{parent, same_node}
 use Rattle.lv_refresh.specs.Inner.{node_at}

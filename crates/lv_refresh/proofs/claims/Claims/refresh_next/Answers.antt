@@ -1,4 +1,5 @@
--- Proof of `Claims::refresh_next`: refreshes the least node that wants a job: claims it, as `claim` would, keeps its summary, computed where its contents lie, and hints at its parent.
+-- Proof of `Claims::refresh_next`: refreshes the least node that wants a job: claims it, as `claim` would, keeps its summary, computed without
+-- copying its contents, and hints at its parent.
 use Rattle.std.proofs.Common.{None}
 use Rattle.lv_refresh.proofs.ComputeLaws.{due_served, hints_refreshed, ready_served, refreshes}
 use Rattle.lv_refresh.proofs.NextLaws.{AreHints-served, HintsWants-from, IsNextJob-served}

@@ -1,4 +1,4 @@
--- Proof of `Claims::touch`: hears that an edit touched index `i`, so that its block may want a job.
+-- Proof of `Claims::touch`: takes note that an edit touched index `i`, so that its block may want a job.
 use Rattle.std.proofs.Common.{◌/◌, arith, refl}
 use Rattle.lv_geometry.specs.Levels.{with_thing}
 use Rattle.lv_geometry.specs.Nodes.{over}

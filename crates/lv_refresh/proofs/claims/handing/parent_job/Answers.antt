@@ -1,4 +1,4 @@
--- Proof of `parent_job`: the job of a node above level 1; none where one of its children is not fresh.
+-- Proof of `parent_job`: the job of a node above level 1; none if one of its children is not fresh.
 use Rattle.std.proofs.Common.{[], refl}
 use Rattle.lv_refresh.specs.declared.contents.Contents.TheVariants.{Children}
 use Rattle.lv_refresh.proofs.NextLaws.{can_fold_gathered}

@@ -1,4 +1,4 @@
--- Proof of `JobOf::as_contents`: what the summary is computed from, where it lies.
+-- Proof of `JobOf::as_contents`: what the summary is computed from, by reference.
 use Rattle.std.proofs.Common.{ap}
 use Rattle.lv_refresh.proofs.jobs.JobOf.as_contents.Goals as goal
 

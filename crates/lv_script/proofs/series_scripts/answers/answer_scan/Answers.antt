@@ -1,4 +1,4 @@
--- Proof of `answer_scan`: a scan of a range, or why the range is refused.
+-- Proof of `answer_scan`: a scan of a range, or why the range is rejected.
 use Rattle.std.proofs.Common.{◌≡◌, List, ap₂, subst, IfErr, OnOk}
 use Rattle.lv_bodies.specs.Plain.{plain_value}
 use Rattle.lv_lines.specs.Output.{Puts, PutsFront}

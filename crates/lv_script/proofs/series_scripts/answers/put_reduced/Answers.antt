@@ -1,4 +1,4 @@
--- Proof of `put_reduced`: the value of a kind over a range, or why the range is refused.
+-- Proof of `put_reduced`: the value of a kind over a range, or why the range is rejected.
 use Rattle.std.proofs.Common.{ap, ap₂, ◌∙◌}
 use Rattle.lv_lines.specs.Texts.{answer_text}
 use Rattle.lv_script.specs.Inside.{known_of}

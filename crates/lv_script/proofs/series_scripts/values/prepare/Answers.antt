@@ -1,4 +1,4 @@
--- Proof of `prepare`: makes the tree of a kind, where there is memory for it.
+-- Proof of `prepare`: makes the tree of a kind, if there is memory for it.
 use Rattle.lv_script.proofs.ValueLaws.{prepared}
 use Rattle.lv_script.proofs.series_scripts.values.prepare.Goals as goal
 

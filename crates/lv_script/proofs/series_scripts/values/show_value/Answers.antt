@@ -1,4 +1,4 @@
--- Proof of `show_value`: the value of a kind over a range, or why the range is refused.
+-- Proof of `show_value`: the value of a kind over a range, or why the range is rejected.
 use Rattle.std.proofs.Common.{◌∙◌}
 use Rattle.lv_script.proofs.ValueLaws.{value_refused, value_shown}
 use Rattle.lv_script.proofs.series_scripts.values.show_value.Goals as goal

@@ -1,4 +1,4 @@
--- Proof of `ShardSummary::of_slice`: the summary of some elements where they lie.
+-- Proof of `ShardSummary::of_slice`: the summary of the elements of a slice.
 use Rattle.std.proofs.Common.{None, length, refl, ◌∙◌, arith}
 use Rattle.lv_bodies.specs.Automata.{table_of}
 use Rattle.lv_shards.proofs.Possible.{possible_fold}

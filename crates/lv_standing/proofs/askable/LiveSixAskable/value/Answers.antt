@@ -1,4 +1,4 @@
--- Proof of `value` of a live vector: a range that it has is folded where it lies.
+-- Proof of `value` of a live vector: the elements of a range that it has are folded one by one.
 use Rattle.std.proofs.Common.{◌∙◌, ap, arith, sym}
 use Rattle.std.proofs.lemmas.Option.{none-some}
 use Rattle.lv_bodies.specs.Plain.{plain_value}

@@ -1,4 +1,4 @@
--- Proof of `Query::untold`: what it counts as told before its first note.
+-- Proof of `Query::untold`: the answer that counts as reported before its first note.
 use Rattle.std.proofs.Common.{◌≡◌, ◌∙◌, ◌-◌, ℕ, [], ap, length, sym, take, take_all, arith}
 use Rattle.std.specs.Prelude.{ℤ}
 use Rattle.std.specs.List.{slice_range}

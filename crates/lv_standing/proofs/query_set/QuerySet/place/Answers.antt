@@ -1,4 +1,4 @@
--- Proof of `QuerySet::place`: where the query of a name is, if there is one.
+-- Proof of `QuerySet::place`: the place of the query with a name, if there is one.
 use Rattle.std.proofs.Common.{◌∙◌}
 use Rattle.lv_standing.proofs.NameLaws.{at_its_place}
 use Rattle.lv_standing.proofs.query_set.QuerySet.place.Goals as goal

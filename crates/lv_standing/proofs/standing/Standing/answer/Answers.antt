@@ -1,4 +1,4 @@
--- Proof of `Standing::answer`: what a query answers at the last edit.
+-- Proof of `Standing::answer`: the answer of a query at the last edit.
 use Rattle.std.proofs.Common.{◌∙◌, ap, sym, refl, slice_index_or}
 use Rattle.lv_standing.specs.Queries.{watch_answer}
 use Rattle.lv_bodies.specs.declared.kinds.Shown.TheVariants.{Sum}

@@ -1,4 +1,4 @@
--- Proof of `Directory::block`: what is in the cells of a block, all of which are open.
+-- Proof of `Directory::block`: the contents of the eight cells of a block, all open.
 use Rattle.std.proofs.Common.{◌*◌, ◌<◌, ◌≤◌, ap, arith, length, ◌∙◌, take, drop}
 use Rattle.std.proofs.Math.Nat.{lt_of_le_of_lt, mul-le-mul_right}
 use Rattle.lv_store.proofs.BucketLaws.{block_in_bucket, bucket_open, cells_few, part_read, size_of_read}

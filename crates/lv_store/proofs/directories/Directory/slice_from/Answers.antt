@@ -1,4 +1,4 @@
--- Proof of `Directory::slice_from`: the cells from an index up to the end of its bucket, at most so many, where they lie.
+-- Proof of `Directory::slice_from`: a slice of the cells from an index to the end of its bucket, but at most `most` of them.
 use Rattle.std.proofs.Common.{◌≡◌, ◌+◌, ◌-◌, ◌<◌, ◌≤◌, ap, arith, drop, length, min, sym, take, ◌∙◌}
 use Rattle.std.specs.List.{flat_map}
 use Rattle.std.proofs.lemmas.List.{length-drop, length-take-le}

@@ -1,4 +1,4 @@
--- Proof of `Store::push_all`: as many edits as there are values, each of which announces the next of them at the end and is completed at once.
+-- Proof of `Store::push_all`: makes one edit for each value, in order, which appends the value at the end and is completed at once.
 use Rattle.std.proofs.Common.{◌≡◌, None, subst, sym, arith}
 use Rattle.lv_geometry.proofs.Capacities.{capacity_of_most}
 use Rattle.lv_store.specs.State.{StoreState}

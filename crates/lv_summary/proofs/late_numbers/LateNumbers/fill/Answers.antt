@@ -1,4 +1,4 @@
--- Proof of `LateNumbers::fill`: adds zeros, so that there are so many numbers in all, where there are fewer.
+-- Proof of `LateNumbers::fill`: adds zeros, so that there are so many numbers in all, if there are fewer.
 use Rattle.std.proofs.Common.{◌∙◌, ap}
 use Rattle.lv_summary.specs.Inner.{number_at, numbers_in}
 use Rattle.lv_summary.proofs.ByNumber.{by_number-longer, by_number-same}

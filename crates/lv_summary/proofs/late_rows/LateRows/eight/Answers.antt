@@ -1,4 +1,4 @@
--- Proof of `LateRows::eight`: eight items, from one on, where they lie side by side; none where one of them was never written.
+-- Proof of `LateRows::eight`: eight items, from one on, as a slice, if they are stored side by side; none if one of them was never written.
 use Rattle.std.proofs.Common.{◌+◌, ◌≤◌, ◌∙◌, ap, arith, length, subst}
 use Rattle.std.proofs.lemmas.Option.{IfSome_then}
 use Rattle.std.specs.Prelude.{slice_range}

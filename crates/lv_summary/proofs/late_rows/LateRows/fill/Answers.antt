@@ -1,4 +1,4 @@
--- Proof of `LateRows::fill`: adds blanks, so that there are so many items in all, where there are fewer.
+-- Proof of `LateRows::fill`: adds blanks, so that there are so many items in all, if there are fewer.
 use Rattle.std.proofs.Common.{◌∙◌, ap}
 use Rattle.lv_summary.specs.Inner.{in_pieces, item_at}
 use Rattle.lv_summary.proofs.ByNumber.{by_number-longer}

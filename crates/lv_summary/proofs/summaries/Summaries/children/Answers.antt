@@ -1,4 +1,5 @@
--- Proof of `Summaries::children`: the summaries of the eight children of a whole node, in order, where they lie; none where one of them was never written.
+-- Proof of `Summaries::children`: the summaries of the eight children of a whole node, in order, as a slice; none if one of them was never
+-- written.
 use Rattle.std.proofs.Common.{◌≡◌, ◌+◌, ◌-◌, ◌*◌, ap, arith, slice_get, ◌∙◌}
 use Rattle.lv_summary.specs.Inner.{table_of}
 use Rattle.lv_summary.specs.Table.{Rows}

@@ -1,4 +1,4 @@
--- Proof of `Summaries::due`: the number of the edit that touched a whole node last, where what is kept for the node is of another; none where it isn't.
+-- Proof of `Summaries::due`: the number of the edit that touched a node last, if the node is whole and not fresh; else none.
 use Rattle.lv_summary.specs.Inner.{table_of}
 use Rattle.lv_summary.proofs.ChildLaws.{due_none, due_some}
 use Rattle.lv_summary.proofs.summaries.Summaries.due.Goals as goal

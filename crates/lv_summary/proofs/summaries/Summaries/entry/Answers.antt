@@ -1,4 +1,4 @@
--- Proof of `Summaries::entry`: the summary of a node, where it is fresh.
+-- Proof of `Summaries::entry`: the summary of a node, if it is fresh.
 use Rattle.std.proofs.Common.{sym, ◌∙◌}
 use Rattle.lv_summary.specs.Inner.{table_of}
 use Rattle.lv_summary.proofs.NodeRows.{entry_in-rows, entry_in-stale, fresh_in-rows}

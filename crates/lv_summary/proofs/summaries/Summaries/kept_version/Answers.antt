@@ -1,4 +1,4 @@
--- Proof of `Summaries::kept_version`: the version of the summary that was delivered for a node, fresh or not; none where none was.
+-- Proof of `Summaries::kept_version`: the version of the summary that was delivered for a node, fresh or not; none if none was.
 use Rattle.std.specs.Option.{option_map}
 use Rattle.std.proofs.Common.{sym, ap, ◌∙◌, ◌-◌, Some, arith}
 use Rattle.lv_summary.specs.Inner.{table_of}

@@ -1,4 +1,4 @@
--- Proof of `Auditor::answer_or_last`: the stage behind a line that is not that of an edit.
+-- Proof of `Auditor::answer_or_last`: the stage after a line that is not that of an edit.
 use Rattle.std.proofs.Common.{refl, inl, inr, sym, ◌∙◌, true≢false}
 use Rattle.lv_transcript.specs.Auditing.{IsLast, state_of}
 use Rattle.lv_transcript.proofs.AuditLines.{Becomes-answer, no_form_later, none_later}

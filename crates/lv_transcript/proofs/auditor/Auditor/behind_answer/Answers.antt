@@ -1,4 +1,4 @@
--- Proof of `Auditor::behind_answer`: the stage behind a line that comes behind an answer.
+-- Proof of `Auditor::behind_answer`: the stage after a line that comes after an answer.
 use Rattle.std.proofs.Common.{inr}
 use Rattle.lv_transcript.specs.Auditing.{state_of}
 use Rattle.lv_transcript.proofs.AuditLines.{Becomes-at_answers, Becomes-at_edits}

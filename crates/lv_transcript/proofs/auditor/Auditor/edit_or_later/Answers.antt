@@ -1,4 +1,4 @@
--- Proof of `Auditor::edit_or_later`: the stage behind a line that may be that of an edit.
+-- Proof of `Auditor::edit_or_later`: the stage after a line that may be that of an edit.
 use Rattle.lv_transcript.specs.Auditing.{state_of}
 use Rattle.lv_transcript.proofs.AuditLines.{Becomes-edit, Becomes-no_edit}
 use Rattle.lv_transcript.proofs.auditor.Auditor.edit_or_later.Goals as goal

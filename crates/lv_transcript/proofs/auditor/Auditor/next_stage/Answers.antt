@@ -1,4 +1,4 @@
--- Proof of `Auditor::next_stage`: the stage behind a line.
+-- Proof of `Auditor::next_stage`: the stage after a line.
 use Rattle.std.proofs.Common.{inl, arith}
 use Rattle.lv_transcript.specs.Auditing.{state_of}
 use Rattle.lv_transcript.proofs.AuditLines.{Becomes-at_edits}

@@ -1,4 +1,4 @@
--- Proof of `Auditor::take_first`: the stage behind a line that should be the first.
+-- Proof of `Auditor::take_first`: the stage after a line that should be the first.
 use Rattle.lv_transcript.specs.Auditing.{state_of}
 use Rattle.lv_transcript.proofs.AuditLines.{Becomes-begun, Becomes-unbegun}
 use Rattle.lv_transcript.proofs.auditor.Auditor.take_first.Goals as goal

@@ -1,4 +1,4 @@
--- Proof of `KindFolds::cut`: forgets the folds of the blocks that end behind so many elements: what is left are those of the list that is cut there.
+-- Proof of `KindFolds::cut`: forgets the folds of the blocks that end after so many elements: what is left are those of the list that is cut there.
 use Rattle.lv_bodies.specs.AffineMaps.{affine_operations}
 use Rattle.lv_bodies.specs.Extremes.{greatest_operations, least_operations}
 use Rattle.lv_bodies.specs.Plain.{program_table}

@@ -1,4 +1,4 @@
--- Proof of `KindFolds::forget`: forgets the folds of the block that has an index: what is left are those of each list that differs there alone.
+-- Proof of `KindFolds::forget`: forgets the folds of the block that has an index. The others remain right for each list that differs only there.
 use Rattle.lv_bodies.specs.AffineMaps.{affine_operations}
 use Rattle.lv_bodies.specs.Extremes.{greatest_operations, least_operations}
 use Rattle.lv_bodies.specs.Plain.{program_table}

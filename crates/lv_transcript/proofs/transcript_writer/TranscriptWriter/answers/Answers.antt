@@ -6,7 +6,7 @@ use Rattle.lv_transcript.specs.declared.claimed.Claimed.{Claimed}
 use Rattle.lv_transcript.proofs.TranscribedFronts.{adds_next}
 use Rattle.lv_transcript.proofs.transcript_writer.TranscriptWriter.answers.Goals as goal
 
--- what stands past the end
+-- a default for an index past the end
 abbrev first : Claimed
 first = record { edit = 0; kind = Sum; lo = 0; hi = 0; value = shown.Sum 0 }
 

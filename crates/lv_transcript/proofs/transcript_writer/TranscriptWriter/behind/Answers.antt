@@ -1,4 +1,4 @@
--- Proof of `TranscriptWriter::behind`: one that goes on behind the lines of a front.
+-- Proof of `TranscriptWriter::behind`: one that goes on after the lines of a prefix.
 use Rattle.std.proofs.Common.{Some}
 use Rattle.lv_transcript.proofs.TranscribedFronts.{unused}
 use Rattle.lv_transcript.proofs.transcript_writer.TranscriptWriter.behind.Goals as goal

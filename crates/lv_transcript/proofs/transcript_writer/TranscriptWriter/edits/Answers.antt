@@ -8,7 +8,7 @@ use Rattle.lv_edits.specs.Kept.{CarriesElement}
 use Rattle.lv_transcript.proofs.TranscribedFronts.{adds_next}
 use Rattle.lv_transcript.proofs.transcript_writer.TranscriptWriter.edits.Goals as goal
 
--- what stands past the end
+-- a default for an index past the end
 abbrev first : Edit
 first = Push (pos 0)
 

@@ -1,4 +1,4 @@
--- Proof of `CachedTree::fold`: what a run comes to, by the tree alone or from what is remembered on.
+-- Proof of `CachedTree::fold`: what a run comes to, by the tree only or continued from what is remembered.
 use Rattle.std.proofs.Common.{◌≡◌, ◌+◌, ◌≤◌, length, sym, ◌∙◌, subst}
 use Rattle.lv_bodies.specs.Long.{CanJoinLong, LongLaws}
 use Rattle.lv_tree.proofs.CachedLaws.{fold_is_joined, goes_on}

@@ -1,4 +1,4 @@
--- Proof of `CachedTree::set`: a run stays what it comes to where the leaf isn't of it.
+-- Proof of `CachedTree::set`: a run's join stays if the leaf isn't one of its leaves.
 use Rattle.std.proofs.Common.{◌<◌, ◌≤◌, ◌⊎◌, inl, inr}
 use Rattle.lv_tree.proofs.CachedLaws.{cached_set}
 use Rattle.lv_tree.proofs.cached_tree.CachedTree.set.Goals as goal

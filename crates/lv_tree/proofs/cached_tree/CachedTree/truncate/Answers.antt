@@ -1,4 +1,4 @@
--- Proof of `CachedTree::truncate`: a run stays what it comes to where its leaves stay.
+-- Proof of `CachedTree::truncate`: a run's join stays if its leaves stay.
 use Rattle.std.proofs.Common.{◌≡◌, ◌≤◌, length, arith}
 use Rattle.lv_tree.proofs.CachedLaws.{cached_cut}
 use Rattle.lv_tree.proofs.cached_tree.CachedTree.truncate.Goals as goal

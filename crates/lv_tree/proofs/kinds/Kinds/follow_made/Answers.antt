@@ -1,4 +1,4 @@
--- Proof of `Kinds::follow_made`: the sum told last follows the edit, and the kinds need not.
+-- Proof of `Kinds::follow_made`: the sum returned last follows the edit, and the kinds need not.
 use Rattle.std.proofs.Common.{◌++◌, ◌∷◌, [], ap, rules, subst, sym, w64, ◌∙◌}
 use Rattle.std.proofs.lemmas.Int.{to_z-of_z}
 use Rattle.lv_edits.specs.declared.edit.Edit.TheVariants.{Write}

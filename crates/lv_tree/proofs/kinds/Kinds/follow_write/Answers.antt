@@ -1,4 +1,4 @@
--- Proof of `Kinds::follow_write`: the sum told last follows the write, and the kinds need not.
+-- Proof of `Kinds::follow_write`: the sum returned last follows the write, and the kinds need not.
 use Rattle.std.proofs.Common.{◌++◌, ◌∷◌, [], subst, sym, w64}
 use Rattle.std.proofs.lemmas.Int.{to_z-of_z}
 use Rattle.lv_edits.specs.declared.edit.Edit.TheVariants.{Write}

@@ -1,4 +1,4 @@
--- Proof of `Kinds::forget_sum`: what follows goes on, and the sum of no elements is one of every vector.
+-- Proof of `Kinds::forget_sum`: each kind follows still, and every vector has the sum of no elements.
 use Rattle.std.proofs.Common.{◌++◌}
 use Rattle.lv_tree.proofs.KeptLaws.{kept_after}
 use Rattle.lv_tree.proofs.kinds.Kinds.forget_sum.Goals as goal

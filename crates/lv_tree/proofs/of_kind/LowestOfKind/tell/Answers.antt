@@ -1,4 +1,4 @@
--- Proof of `Lowest::tell`: where there are elements, their fold is their summary.
+-- Proof of `Lowest::tell`: if there are elements, their fold is their summary.
 use Rattle.std.proofs.Common.{ap, w64, ◌∙◌}
 use Rattle.std.proofs.lemmas.Int.{to_z-of_z}
 use Rattle.std.specs.Bool.{then_some}

@@ -1,4 +1,4 @@
--- Proof of `Runs::tell`: where there are elements, their fold is their summary.
+-- Proof of `Runs::tell`: if there are elements, their fold is their summary.
 use Rattle.std.proofs.Common.{ap, ◌∙◌}
 use Rattle.lv_tree.specs.declared.kind_summaries.KindSummary.TheVariants.{Best}
 use Rattle.lv_tree.proofs.ToldLaws.{best_told}

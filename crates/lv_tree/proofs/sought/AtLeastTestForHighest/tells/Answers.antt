@@ -1,4 +1,4 @@
--- Proof of `tells`: the highest tells of elements at least so great.
+-- Proof of `tells`: the highest element says whether some element is at least so great.
 use Rattle.lv_tree.specs.SoughtLaws.{at_least_told}
 use Rattle.lv_tree.proofs.sought.AtLeastTestForHighest.tells.Goals as goal
 

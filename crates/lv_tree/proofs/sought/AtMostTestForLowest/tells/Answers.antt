@@ -1,4 +1,4 @@
--- Proof of `tells`: the lowest tells of elements at most so great.
+-- Proof of `tells`: the lowest element says whether some element is at most so great.
 use Rattle.lv_tree.specs.SoughtLaws.{at_most_told}
 use Rattle.lv_tree.proofs.sought.AtMostTestForLowest.tells.Goals as goal
 

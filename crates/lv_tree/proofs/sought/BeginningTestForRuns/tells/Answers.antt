@@ -1,4 +1,4 @@
--- Proof of `tells`: the greatest beginning tells of beginnings.
+-- Proof of `tells`: the greatest beginning says whether some beginning adds up to enough.
 use Rattle.lv_tree.specs.SoughtLaws.{beginning_told}
 use Rattle.lv_tree.proofs.sought.BeginningTestForRuns.tells.Goals as goal
 

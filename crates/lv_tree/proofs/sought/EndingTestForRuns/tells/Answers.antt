@@ -1,4 +1,4 @@
--- Proof of `tells`: the greatest ending tells of endings.
+-- Proof of `tells`: the greatest ending says whether some ending adds up to enough.
 use Rattle.lv_tree.specs.SoughtLaws.{ending_told}
 use Rattle.lv_tree.proofs.sought.EndingTestForRuns.tells.Goals as goal
 

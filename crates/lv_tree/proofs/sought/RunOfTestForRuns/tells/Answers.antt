@@ -1,4 +1,4 @@
--- Proof of `tells`: the best run tells of runs.
+-- Proof of `tells`: the best run says whether some run adds up to enough.
 use Rattle.lv_tree.specs.SoughtLaws.{run_told}
 use Rattle.lv_tree.proofs.sought.RunOfTestForRuns.tells.Goals as goal
 
