@@ -8,10 +8,6 @@
 static _Thread_local size_t *charged;
 
 /* The memory functions of the library's archive: `make redis` has them in place of malloc, realloc and free. */
-void *livevec_redis_malloc(size_t size);
-void *livevec_redis_realloc(void *memory, size_t size);
-void livevec_redis_free(void *memory);
-
 void *livevec_redis_malloc(size_t size)
 {
     void *memory = RedisModule_TryAlloc(size);
@@ -60,14 +56,12 @@ list *list_new(bool has_times, bool loads)
     return NULL;
 }
 
-uint32_t list_loaded(list *list)
-{
-    return list->has_times ? livevec_samples_end_load(samples_of(list)) : livevec_series_end_load(series_of(list));
-}
-
 /* Redis may free a large value in a thread of its own. A slot that holds nothing is left as it is. */
-void list_free(list *list)
+void list_free(void *value)
 {
+    list *list = value;
+    if (!list)
+        return;
     charged = NULL;
     livevec_free_samples(&list->held);
     livevec_free_queries(&list->asked);
@@ -75,77 +69,47 @@ void list_free(list *list)
     RedisModule_Free(list);
 }
 
-added list_add(list *list, int64_t time, int64_t value, const uint64_t *first)
+size_t list_bytes(const void *value) { return sizeof(list) + ((const list *)value)->bytes; }
+
+static livevec_window between(list *list, window asked)
 {
-    added did = {.keeps_from = first || list->retention};
-    if (first && *first > list_size(list)) {
-        did.push.refusal = LIVEVEC_OUT_OF_RANGE;
-        return did;
-    }
-    did.push = livevec_samples_push(samples_of(list), time, value);
-    if (did.push.refusal || !did.keeps_from)
-        return did;
-    did.first = first ? *first : livevec_samples_last(samples_of(list), list->retention).lo;
-    /* of an index that isn't kept nothing is dropped */
-    if (did.first > list_first(list))
-        did.keeps_from = !list_edit(list, LIVEVEC_EXPIRE, did.first, 0, 0).refusal;
-    return did;
+    livevec_window found = livevec_samples_between(samples_of(list), asked.lo, asked.hi);
+    if (asked.to_end && !found.refusal)
+        found.hi = list_size(list);
+    return found;
 }
 
-/* A range of indices that the library has looked at. */
-static livevec_window judged(list *list, uint64_t lo, uint64_t hi)
-{
-    livevec_series_scanned none = list_read(list, lo, hi, NULL, 0);
-    return (livevec_window){.refusal = none.refusal, .edit = none.edit, .lo = lo, .hi = hi};
-}
-
-static livevec_window last_of(list *list, uint64_t count)
-{
-    uint64_t first = list_first(list), size = list_size(list);
-    return judged(list, size - first > count ? size - count : first, size);
-}
-
+/* Of indices the library says whether they are a range. */
 livevec_window list_range(list *list, window asked)
 {
-    livevec_window found;
-    switch (asked.sort) {
-    case BY_INDEX: return judged(list, (uint64_t)asked.lo, (uint64_t)asked.hi);
-    case BY_SPAN: return livevec_samples_last(samples_of(list), (uint64_t)asked.lo);
-    case BY_LAST: return last_of(list, (uint64_t)asked.lo);
-    case BY_TIME:
-        found = livevec_samples_between(samples_of(list), asked.lo, asked.hi);
-        if (asked.to_end && !found.refusal)
-            found.hi = list_size(list);
-        return found;
-    default: return last_of(list, UINT64_MAX);
-    }
-}
-
-livevec_window list_bucket(list *list, uint64_t at, int64_t until, uint64_t hi)
-{
-    livevec_window bucket = livevec_samples_between(samples_of(list), INT64_MIN, until);
-    bucket.lo = at;
-    bucket.hi = bucket.hi < hi ? bucket.hi : hi;
-    return bucket;
+    if (asked.sort == BY_TIME)
+        return between(list, asked);
+    if (asked.sort == BY_SPAN)
+        return livevec_samples_last(samples_of(list), (uint64_t)asked.lo);
+    uint64_t first = list_first(list), size = list_size(list), count = asked.sort == BY_LAST ? (uint64_t)asked.lo : UINT64_MAX;
+    livevec_window range = {.lo = size - first > count ? size - count : first, .hi = size};
+    if (asked.sort == BY_INDEX)
+        range = (livevec_window){.lo = (uint64_t)asked.lo, .hi = (uint64_t)asked.hi};
+    livevec_series_scanned none = livevec_series_read(series_of(list), range.lo, range.hi, NULL, 0);
+    range.refusal = none.refusal;
+    range.edit = none.edit;
+    return range;
 }
 
 static answer by_one_kind(livevec_series_reduced result)
-{
-    return (answer){.refusal = result.refusal, .edit = result.edit, .count = result.values.any, .values = result.values};
-}
+{ return (answer){.refusal = result.refusal, .edit = result.edit, .count = result.values.any, .values = result.values}; }
 
 answer list_answer(list *list, unsigned kind, livevec_window in)
 {
     answer result = {.refusal = in.refusal, .edit = in.edit, .count = in.hi - in.lo};
     if (result.refusal || kind == KIND_COUNT)
         return result;
-    if (kind == KIND_MEAN || kind == KIND_EXACT_SUM) {
-        livevec_series_summed summed = livevec_series_exact_sum(series_of(list), in.lo, in.hi);
-        result.refusal = summed.refusal;
-        result.exact = summed.sum;
-        return result;
-    }
-    return by_one_kind(livevec_series_value(series_of(list), kind, in.lo, in.hi));
+    if (kind < LIVEVEC_ALL_SIX)
+        return by_one_kind(livevec_series_value(series_of(list), kind, in.lo, in.hi));
+    livevec_series_summed summed = livevec_series_exact_sum(series_of(list), in.lo, in.hi);
+    result.refusal = summed.refusal;
+    result.exact = summed.sum;
+    return result;
 }
 
 /* One proved call finds the range and its value, where there is one for both. */
@@ -161,28 +125,11 @@ answer list_value(list *list, unsigned kind, window asked)
     return list_answer(list, kind, list_range(list, asked));
 }
 
-livevec_summarised list_summary(list *list, livevec_window in)
-{
-    livevec_series_view lent = livevec_series_lend(series_of(list), in.lo, in.hi);
-    if (lent.refusal)
-        return (livevec_summarised){.refusal = lent.refusal};
-    livevec_summarised result = livevec_summary_of_elements(lent.elements, lent.length);
-    livevec_series_give_back(series_of(list));
-    return result;
-}
-
-livevec_summarised summary_join(const livevec_summary *left, const char *bytes, size_t length)
-{
-    livevec_summary right;
-    if (length != sizeof right.bytes)
-        return (livevec_summarised){.refusal = LIVEVEC_OTHER_VERSION};
-    memcpy(right.bytes, bytes, length);
-    return livevec_summary_join(left, &right);
-}
-
 /* The set of queries is made with the first watch, and freed with the last one. */
-static void free_watches(list *list)
+static void free_unwatched(list *list)
 {
+    if (list->watched)
+        return;
     livevec_free_queries(&list->asked);
     livevec_redis_free(list->watches);
     list->watches = NULL;
@@ -197,41 +144,30 @@ uint32_t list_watch(list *list, const char *name, size_t length, const livevec_q
     watch *more = livevec_redis_realloc(list->watches, (list->watched + 1u) * sizeof *more);
     list->watches = more ? more : list->watches;
     refusal = more ? livevec_watch_query(&list->asked, name, length, query) : (uint32_t)LIVEVEC_NO_MEMORY;
-    if (!refusal) {
-        watch *made = &list->watches[list->watched++];
-        *made = (watch){.query = *query};
-        memcpy(made->name, name, length);
-        list->is_armed = false;
-    } else if (!list->watched) {
-        free_watches(list);
+    if (refusal) {
+        free_unwatched(list);
+        return refusal;
     }
-    return refusal;
+    more[list->watched] = (watch){.query = *query};
+    memcpy(more[list->watched++].name, name, length);
+    list->is_armed = false;
+    return LIVEVEC_OK;
 }
 
 uint32_t list_unwatch(list *list, const char *name, size_t length)
 {
     charged = &list->bytes;
     uint32_t refusal = list->watched ? livevec_unwatch(&list->asked, name, length) : (uint32_t)LIVEVEC_NO_SUCH_NAME;
+    watch *at = list->watches;
     if (refusal)
         return refusal;
-    unsigned at = 0;
-    while (strlen(list->watches[at].name) != length || memcmp(list->watches[at].name, name, length))
+    while (strncmp(at->name, name, length) || at->name[length])
         at++;
     list->watched--;
-    memmove(&list->watches[at], &list->watches[at + 1], (list->watched - at) * sizeof *list->watches);
-    if (!list->watched)
-        free_watches(list);
+    memmove(at, at + 1, (size_t)(list->watches + list->watched - at) * sizeof *at);
+    free_unwatched(list);
     return LIVEVEC_OK;
 }
 
 answer list_watched(list *list, const char *name, size_t length)
-{
-    return by_one_kind(livevec_series_answer(&list->asked, series_of(list), name, length));
-}
-
-void list_arm(list *list)
-{
-    livevec_note notes[LIVEVEC_MOST_QUERIES];
-    if (list->watched && !list->is_armed)
-        list->is_armed = !list_notes(list, notes, LIVEVEC_MOST_QUERIES).refusal;
-}
+{ return by_one_kind(livevec_series_answer(&list->asked, series_of(list), name, length)); }

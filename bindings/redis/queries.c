@@ -1,172 +1,120 @@
 /* The commands that ask a key. They change no answer: at most trees are made, in memory that MEMORY USAGE counts. */
 #include "module.h"
 
-static int reply_value(RedisModuleCtx *ctx, RedisModuleString *name, unsigned kind, window window)
+#include <string.h>
+
+uint32_t value_command(call *it)
 {
-    opened opened;
-    if (!open_key(ctx, name, sort_of(window), TO_READ, &opened))
-        return 0;
-    answer result = list_value(opened.list, kind, window);
+    answer result = list_value(it->list, it->kind, it->window);
     if (result.refusal)
-        return refused_at(&opened, result.refusal);
-    RedisModule_ReplyWithArray(ctx, 2);
-    RedisModule_ReplyWithLongLong(ctx, (long long)result.edit);
-    reply_answer(ctx, kind, &result);
-    return closed(&opened);
+        return result.refusal;
+    reply_edit(it->ctx, 2, result.edit);
+    reply_answer(it->ctx, it->kind, &result);
+    return LIVEVEC_OK;
 }
 
-/* LV.VALUE key kind [window] */
-int value_command(RedisModuleCtx *ctx, RedisModuleString **v, int n)
+/* Redis also asks where the keys are. */
+uint32_t mvalue_command(call *it)
 {
-    words words = {ctx, v + 2, n - 2};
-    window window;
-    unsigned kind;
-    if (!take_kind(&words, KINDS, &kind) || !take_window(&words, &window) || !no_more(&words))
-        return 0;
-    return reply_value(ctx, v[1], kind, window);
-}
-
-/* LV.MVALUE kind window key [key ..]: Redis also asks where the keys are. */
-int mvalue_command(RedisModuleCtx *ctx, RedisModuleString **v, int n)
-{
-    words words = {ctx, v + 1, n - 1};
-    window window;
-    unsigned kind;
-    if (!take_kind(&words, KINDS, &kind) || !take_window(&words, &window))
-        return 0;
-    bool asks_where = RedisModule_IsKeysPositionRequest(ctx);
+    bool asks_where = RedisModule_IsKeysPositionRequest(it->ctx);
     if (!asks_where)
-        RedisModule_ReplyWithArray(ctx, words.left);
-    for (int at = n - words.left; at < n; at++)
+        RedisModule_ReplyWithArray(it->ctx, it->left);
+    for (; it->left; it->left--, it->next++) {
+        call one = *it;
+        one.name = *it->next;
         if (asks_where)
-            RedisModule_KeyAtPosWithFlags(ctx, at, REDISMODULE_CMD_KEY_RO | REDISMODULE_CMD_KEY_ACCESS);
+            RedisModule_KeyAtPosWithFlags(it->ctx, it->count - it->left, REDISMODULE_CMD_KEY_RO | REDISMODULE_CMD_KEY_ACCESS);
         else
-            reply_value(ctx, v[at], kind, window);
-    return 0;
+            at_key(&one, value_command);
+    }
+    return LIVEVEC_OK;
 }
 
 /* The edit number, and what was found, or null: an index; of a run its index and the one behind it; the index up to which a sum is reached. */
-static int reply_found(RedisModuleCtx *ctx, RedisModuleString *name, window window, uint32_t wanted, int64_t x)
+static uint32_t reply_found(call *it, uint32_t wanted)
 {
-    opened opened;
-    livevec_window range;
-    if (!open_range(ctx, name, window, &opened, &range))
-        return 0;
-    livevec_series_found found = list_find(opened.list, wanted, range, x);
+    livevec_series_found found = livevec_series_find(series_of(it->list), wanted, it->in.lo, it->in.hi, it->x);
     if (found.refusal)
-        return refused_at(&opened, found.refusal);
+        return found.refusal;
     bool is_run = wanted == LIVEVEC_WHERE_BEST && found.found;
-    RedisModule_ReplyWithArray(ctx, is_run ? 3 : 2);
-    RedisModule_ReplyWithLongLong(ctx, (long long)found.edit);
-    if (found.found)
-        RedisModule_ReplyWithLongLong(ctx, (long long)(wanted == LIVEVEC_WHERE_REACHES ? found.hi : found.lo));
-    else
-        RedisModule_ReplyWithNull(ctx);
-    if (is_run)
-        RedisModule_ReplyWithLongLong(ctx, (long long)found.hi);
-    return closed(&opened);
+    reply_edit(it->ctx, is_run ? 3 : 2, found.edit);
+    if (!found.found)
+        return RedisModule_ReplyWithNull(it->ctx);
+    RedisModule_ReplyWithLongLong(it->ctx, (long long)(wanted == LIVEVEC_WHERE_REACHES ? found.hi : found.lo));
+    return is_run ? RedisModule_ReplyWithLongLong(it->ctx, (long long)found.hi) : REDISMODULE_OK;
 }
 
-/* LV.FIND key FIRST|LAST ATLEAST|ATMOST x [lo hi] */
-int find_command(RedisModuleCtx *ctx, RedisModuleString **v, int n)
+uint32_t find_command(call *it)
 {
-    static const uint32_t wanted[2][2] = {{LIVEVEC_WHERE_LAST_AT_MOST, LIVEVEC_WHERE_LAST_AT_LEAST},
-                                          {LIVEVEC_WHERE_FIRST_AT_MOST, LIVEVEC_WHERE_FIRST_AT_LEAST}};
-    words words = {ctx, v + 2, n - 2};
-    window window;
-    int64_t x;
-    bool is_first = took(&words, "FIRST");
-    if (!is_first && !took(&words, "LAST"))
-        return failed(ctx, "ERR syntax error");
-    bool is_least = took(&words, "ATLEAST");
-    if (!is_least && !took(&words, "ATMOST"))
-        return failed(ctx, "ERR syntax error");
-    if (!take_number(&words, &x) || !take_bounds(&words, &window))
-        return 0;
-    return reply_found(ctx, v[1], window, wanted[is_first][is_least], x);
+    static const uint32_t wanted[2][2] = {{LIVEVEC_WHERE_FIRST_AT_LEAST, LIVEVEC_WHERE_FIRST_AT_MOST},
+                                          {LIVEVEC_WHERE_LAST_AT_LEAST, LIVEVEC_WHERE_LAST_AT_MOST}};
+    return reply_found(it, wanted[it->said[0] - 1][it->said[1] - 1]);
 }
 
-/* LV.REACH key x [lo hi] */
-int reach_command(RedisModuleCtx *ctx, RedisModuleString **v, int n)
-{
-    words words = {ctx, v + 2, n - 2};
-    window window;
-    int64_t x;
-    if (!take_number(&words, &x) || !take_bounds(&words, &window))
-        return 0;
-    return reply_found(ctx, v[1], window, LIVEVEC_WHERE_REACHES, x);
-}
+uint32_t reach_command(call *it) { return reply_found(it, LIVEVEC_WHERE_REACHES); }
 
-/* LV.WHERE key min|max|best [lo hi] */
-int where_command(RedisModuleCtx *ctx, RedisModuleString **v, int n)
-{
-    static const uint32_t wanted[] = {LIVEVEC_WHERE_LEAST, LIVEVEC_WHERE_GREATEST, LIVEVEC_WHERE_BEST};
-    words words = {ctx, v + 2, n - 2};
-    window window;
-    unsigned kind;
-    if (!take_kind(&words, LIVEVEC_AFFINE, &kind) || !take_bounds(&words, &window))
-        return 0;
-    return kind == LIVEVEC_SUM ? refused(ctx, LIVEVEC_BAD_KIND) : reply_found(ctx, v[1], window, wanted[kind - LIVEVEC_LEAST], 0);
-}
+/* Searches of a least element, a greatest and a best run are numbered as their kinds are. */
+uint32_t where_command(call *it) { return reply_found(it, LIVEVEC_WHERE_LEAST + it->kind - LIVEVEC_LEAST); }
 
-/* LV.INFO key */
-int info_command(RedisModuleCtx *ctx, RedisModuleString **v, int n)
+uint32_t info_command(call *it)
 {
-    opened opened;
-    (void)n;
-    if (!open_key(ctx, v[1], ANY_LIST, TO_READ, &opened))
-        return 0;
-    list *it = opened.list;
-    const struct { const char *name; uint64_t number; } fields[] = {{"first", list_first(it)}, {"size", list_size(it)}, {"edits", list_edits(it)},
-        {"retention", it->retention}, {"watches", it->watched}, {"bytes", list_bytes(it)}};
+    list *list = it->list;
+    const struct { const char *name; uint64_t number; } fields[] = {
+        {"first", list_first(list)}, {"size", list_size(list)}, {"edits", livevec_series_edits(series_of(list)).value},
+        {"retention", list->retention}, {"watches", list->watched}, {"bytes", list_bytes(list)}};
     enum { FIELDS = sizeof fields / sizeof *fields };
-    RedisModule_ReplyWithMap(ctx, FIELDS + 1);
-    RedisModule_ReplyWithCString(ctx, "form");
-    RedisModule_ReplyWithCString(ctx, it->has_times ? "samples" : "series");
+    RedisModule_ReplyWithMap(it->ctx, FIELDS + 1);
+    RedisModule_ReplyWithCString(it->ctx, "form");
+    RedisModule_ReplyWithCString(it->ctx, list->has_times ? "samples" : "series");
     for (int i = 0; i < FIELDS; i++) {
-        RedisModule_ReplyWithCString(ctx, fields[i].name);
-        RedisModule_ReplyWithLongLong(ctx, (long long)fields[i].number);
+        RedisModule_ReplyWithCString(it->ctx, fields[i].name);
+        RedisModule_ReplyWithLongLong(it->ctx, (long long)fields[i].number);
     }
-    return closed(&opened);
+    return LIVEVEC_OK;
 }
 
-static int reply_summary(RedisModuleCtx *ctx, const livevec_summary *summary)
-{ return RedisModule_ReplyWithStringBuffer(ctx, (const char *)summary->bytes, sizeof summary->bytes); }
+static uint32_t reply_summary(call *it, const livevec_summary *summary)
+{ return RedisModule_ReplyWithStringBuffer(it->ctx, (const char *)summary->bytes, sizeof summary->bytes); }
 
-/* LV.SUMMARY key [window] */
-int summary_command(RedisModuleCtx *ctx, RedisModuleString **v, int n)
+uint32_t summary_command(call *it)
 {
-    words words = {ctx, v + 2, n - 2};
-    window window;
-    opened opened;
-    livevec_window range;
-    if (!take_window(&words, &window) || !no_more(&words) || !open_range(ctx, v[1], window, &opened, &range))
-        return 0;
-    livevec_summarised result = list_summary(opened.list, range);
-    if (result.refusal)
-        return refused_at(&opened, result.refusal);
-    reply_summary(ctx, &result.summary);
-    return closed(&opened);
+    livevec_series *series = series_of(it->list);
+    livevec_series_view lent = livevec_series_lend(series, it->in.lo, it->in.hi);
+    if (lent.refusal)
+        return lent.refusal;
+    livevec_summarised result = livevec_summary_of_elements(lent.elements, lent.length);
+    livevec_series_give_back(series);
+    return result.refusal ? result.refusal : reply_summary(it, &result.summary);
 }
 
-/* LV.COMBINE summary [summary ..]: the six values of elements one behind the other, in the order of the summaries, their count, and their summary */
-int combine_command(RedisModuleCtx *ctx, RedisModuleString **v, int n)
+/* The summary of elements one behind the other, in the order of the summaries that are left. */
+static livevec_summarised combined(call *it)
 {
-    livevec_summarised all = summary_empty();
-    for (int at = 1; at < n && !all.refusal; at++) {
-        size_t length;
-        const char *bytes = RedisModule_StringPtrLen(v[at], &length);
-        all = summary_join(&all.summary, bytes, length);
+    livevec_summarised all = livevec_summary_empty();
+    while (it->left && !all.refusal) {
+        livevec_summary right;
+        take(it, "n");
+        if (it->length != sizeof right.bytes)
+            return (livevec_summarised){.refusal = LIVEVEC_OTHER_VERSION};
+        memcpy(right.bytes, it->text, it->length);
+        all = livevec_summary_join(&all.summary, &right);
     }
-    livevec_opened opened = summary_values(&all.summary);
+    return all;
+}
+
+/* Their six values, their count, and their summary. */
+uint32_t combine_command(call *it)
+{
+    livevec_summarised all = combined(it);
+    livevec_opened opened = livevec_summary_values(&all.summary);
     answer result = {.count = opened.count, .values = opened.values};
     if (all.refusal || opened.refusal)
-        return refused(ctx, all.refusal ? all.refusal : opened.refusal);
-    RedisModule_ReplyWithMap(ctx, LIVEVEC_ALL_SIX + 2);
+        return all.refusal ? all.refusal : opened.refusal;
+    RedisModule_ReplyWithMap(it->ctx, LIVEVEC_ALL_SIX + 2);
     for (unsigned kind = LIVEVEC_SUM; kind <= KIND_COUNT; kind++) {
-        RedisModule_ReplyWithCString(ctx, kind_name(kind));
-        reply_answer(ctx, kind, &result);
+        RedisModule_ReplyWithCString(it->ctx, kind_names[kind]);
+        reply_answer(it->ctx, kind, &result);
     }
-    RedisModule_ReplyWithCString(ctx, "summary");
-    return reply_summary(ctx, &all.summary);
+    RedisModule_ReplyWithCString(it->ctx, "summary");
+    return reply_summary(it, &all.summary);
 }

@@ -75,47 +75,44 @@ typedef struct RedisModuleCommandInfo {
 /* Each function: what it answers, its name behind `RedisModule_`, and what it takes. */
 #define REDIS_INTERFACE(F) \
     F(void *, TryAlloc, (size_t size)) F(void, Free, (void *memory)) F(size_t, MallocSize, (void *memory)) \
-    F(int, SetModuleAttribs, (RedisModuleCtx *ctx, const char *name, int version, int interface)) F(int, IsModuleNameBusy, (const char *name)) \
-    F(void, SetModuleOptions, (RedisModuleCtx *ctx, int options)) \
-    F(int, CreateCommand, (RedisModuleCtx *ctx, const char *name, RedisModuleCmdFunc *function, const char *flags, int first, int last, int step)) \
-    F(RedisModuleCommand *, GetCommand, (RedisModuleCtx *ctx, const char *name)) \
-    F(int, SetCommandInfo, (RedisModuleCommand *command, const RedisModuleCommandInfo *info)) \
-    F(RedisModuleType *, CreateDataType, (RedisModuleCtx *ctx, const char *name, int version, RedisModuleTypeMethods *methods)) \
-    F(int, RegisterInfoFunc, (RedisModuleCtx *ctx, RedisModuleInfoFunc *function)) \
-    F(int, InfoAddSection, (RedisModuleInfoCtx *ctx, const char *name)) \
-    F(int, InfoAddFieldCString, (RedisModuleInfoCtx *ctx, const char *field, const char *value)) \
-    F(int, IsKeysPositionRequest, (RedisModuleCtx *ctx)) F(void, KeyAtPosWithFlags, (RedisModuleCtx *ctx, int position, int flags)) \
-    F(int, GetContextFlags, (RedisModuleCtx *ctx)) F(long long, Milliseconds, (void)) \
-    F(RedisModuleKey *, OpenKey, (RedisModuleCtx *ctx, RedisModuleString *name, int mode)) F(void, CloseKey, (RedisModuleKey *key)) \
-    F(int, KeyType, (RedisModuleKey *key)) F(RedisModuleType *, ModuleTypeGetType, (RedisModuleKey *key)) \
-    F(void *, ModuleTypeGetValue, (RedisModuleKey *key)) F(int, ModuleTypeSetValue, (RedisModuleKey *key, RedisModuleType *type, void *value)) \
-    F(int, SignalModifiedKey, (RedisModuleCtx *ctx, RedisModuleString *name)) \
-    F(int, NotifyKeyspaceEvent, (RedisModuleCtx *ctx, int sort, const char *event, RedisModuleString *name)) \
-    F(int, PublishMessage, (RedisModuleCtx *ctx, RedisModuleString *channel, RedisModuleString *message)) \
-    F(int, Replicate, (RedisModuleCtx *ctx, const char *command, const char *form, ...)) F(int, ReplicateVerbatim, (RedisModuleCtx *ctx)) \
+    F(int, SetModuleAttribs, (RedisModuleCtx *, const char *name, int version, int interface)) F(int, IsModuleNameBusy, (const char *name)) \
+    F(void, SetModuleOptions, (RedisModuleCtx *, int options)) \
+    F(int, CreateCommand, (RedisModuleCtx *, const char *name, RedisModuleCmdFunc *function, const char *flags, int first, int last, int step)) \
+    F(RedisModuleCommand *, GetCommand, (RedisModuleCtx *, const char *name)) \
+    F(int, SetCommandInfo, (RedisModuleCommand *, const RedisModuleCommandInfo *info)) \
+    F(RedisModuleType *, CreateDataType, (RedisModuleCtx *, const char *name, int version, RedisModuleTypeMethods *methods)) \
+    F(int, RegisterInfoFunc, (RedisModuleCtx *, RedisModuleInfoFunc *function)) F(int, InfoAddSection, (RedisModuleInfoCtx *, const char *name)) \
+    F(int, InfoAddFieldCString, (RedisModuleInfoCtx *, const char *field, const char *value)) F(int, IsKeysPositionRequest, (RedisModuleCtx *)) \
+    F(void, KeyAtPosWithFlags, (RedisModuleCtx *, int position, int flags)) F(int, GetContextFlags, (RedisModuleCtx *)) \
+    F(long long, Milliseconds, (void)) F(RedisModuleKey *, OpenKey, (RedisModuleCtx *, RedisModuleString *name, int mode)) \
+    F(void, CloseKey, (RedisModuleKey *)) F(int, KeyType, (RedisModuleKey *)) F(RedisModuleType *, ModuleTypeGetType, (RedisModuleKey *)) \
+    F(void *, ModuleTypeGetValue, (RedisModuleKey *)) F(int, ModuleTypeSetValue, (RedisModuleKey *, RedisModuleType *, void *value)) \
+    F(int, SignalModifiedKey, (RedisModuleCtx *, RedisModuleString *name)) \
+    F(int, NotifyKeyspaceEvent, (RedisModuleCtx *, int sort, const char *event, RedisModuleString *name)) \
+    F(int, PublishMessage, (RedisModuleCtx *, RedisModuleString *channel, RedisModuleString *message)) \
+    F(int, Replicate, (RedisModuleCtx *, const char *command, const char *form, ...)) F(int, ReplicateVerbatim, (RedisModuleCtx *)) \
     F(int, StringToLongLong, (const RedisModuleString *text, long long *number)) \
     F(const char *, StringPtrLen, (const RedisModuleString *text, size_t *length)) \
-    F(RedisModuleString *, CreateString, (RedisModuleCtx *ctx, const char *text, size_t length)) \
-    F(RedisModuleString *, CreateStringPrintf, (RedisModuleCtx *ctx, const char *form, ...)) \
-    F(int, StringAppendBuffer, (RedisModuleCtx *ctx, RedisModuleString *text, const char *more, size_t length)) \
-    F(void, FreeString, (RedisModuleCtx *ctx, RedisModuleString *text)) F(int, ReplyWithError, (RedisModuleCtx *ctx, const char *error)) \
-    F(int, ReplyWithSimpleString, (RedisModuleCtx *ctx, const char *text)) \
-    F(int, ReplyWithStringBuffer, (RedisModuleCtx *ctx, const char *text, size_t length)) \
-    F(int, ReplyWithCString, (RedisModuleCtx *ctx, const char *text)) F(int, ReplyWithLongLong, (RedisModuleCtx *ctx, long long number)) \
-    F(int, ReplyWithDouble, (RedisModuleCtx *ctx, double number)) F(int, ReplyWithNull, (RedisModuleCtx *ctx)) \
-    F(int, ReplyWithArray, (RedisModuleCtx *ctx, long length)) F(int, ReplyWithMap, (RedisModuleCtx *ctx, long length)) \
-    F(void, SaveUnsigned, (RedisModuleIO *io, uint64_t number)) F(uint64_t, LoadUnsigned, (RedisModuleIO *io)) \
-    F(void, SaveSigned, (RedisModuleIO *io, int64_t number)) F(int64_t, LoadSigned, (RedisModuleIO *io)) \
-    F(void, SaveStringBuffer, (RedisModuleIO *io, const char *bytes, size_t length)) \
-    F(char *, LoadStringBuffer, (RedisModuleIO *io, size_t *length)) F(int, IsIOError, (RedisModuleIO *io)) \
-    F(void, LogIOError, (RedisModuleIO *io, const char *level, const char *form, ...)) \
-    F(void, Log, (RedisModuleCtx *ctx, const char *level, const char *form, ...)) \
-    F(void, EmitAOF, (RedisModuleIO *io, const char *command, const char *form, ...)) \
-    F(RedisModuleString *, SaveDataTypeToString, (RedisModuleCtx *ctx, void *value, const RedisModuleType *type)) \
-    F(void *, LoadDataTypeFromStringEncver, (const RedisModuleString *text, const RedisModuleType *type, int version)) \
-    F(void, DigestAddLongLong, (RedisModuleDigest *digest, long long number)) \
-    F(void, DigestAddStringBuffer, (RedisModuleDigest *digest, const char *bytes, size_t length)) \
-    F(void, DigestEndSequence, (RedisModuleDigest *digest))
+    F(RedisModuleString *, CreateString, (RedisModuleCtx *, const char *text, size_t length)) \
+    F(RedisModuleString *, CreateStringPrintf, (RedisModuleCtx *, const char *form, ...)) \
+    F(int, StringAppendBuffer, (RedisModuleCtx *, RedisModuleString *text, const char *more, size_t length)) \
+    F(void, FreeString, (RedisModuleCtx *, RedisModuleString *text)) F(int, ReplyWithError, (RedisModuleCtx *, const char *error)) \
+    F(int, ReplyWithSimpleString, (RedisModuleCtx *, const char *text)) \
+    F(int, ReplyWithStringBuffer, (RedisModuleCtx *, const char *text, size_t length)) \
+    F(int, ReplyWithCString, (RedisModuleCtx *, const char *text)) F(int, ReplyWithLongLong, (RedisModuleCtx *, long long number)) \
+    F(int, ReplyWithDouble, (RedisModuleCtx *, double number)) F(int, ReplyWithNull, (RedisModuleCtx *)) \
+    F(int, ReplyWithArray, (RedisModuleCtx *, long length)) F(int, ReplyWithMap, (RedisModuleCtx *, long length)) \
+    F(void, SaveUnsigned, (RedisModuleIO *, uint64_t number)) F(uint64_t, LoadUnsigned, (RedisModuleIO *)) \
+    F(void, SaveSigned, (RedisModuleIO *, int64_t number)) F(int64_t, LoadSigned, (RedisModuleIO *)) \
+    F(void, SaveStringBuffer, (RedisModuleIO *, const char *bytes, size_t length)) \
+    F(char *, LoadStringBuffer, (RedisModuleIO *, size_t *length)) F(int, IsIOError, (RedisModuleIO *)) \
+    F(void, LogIOError, (RedisModuleIO *, const char *level, const char *form, ...)) \
+    F(void, Log, (RedisModuleCtx *, const char *level, const char *form, ...)) \
+    F(void, EmitAOF, (RedisModuleIO *, const char *command, const char *form, ...)) \
+    F(RedisModuleString *, SaveDataTypeToString, (RedisModuleCtx *, void *value, const RedisModuleType *)) \
+    F(void *, LoadDataTypeFromStringEncver, (const RedisModuleString *text, const RedisModuleType *, int version)) \
+    F(void, DigestAddLongLong, (RedisModuleDigest *, long long number)) \
+    F(void, DigestAddStringBuffer, (RedisModuleDigest *, const char *bytes, size_t length)) F(void, DigestEndSequence, (RedisModuleDigest *))
 
 #define DECLARED(answer, name, parameters) extern answer (*RedisModule_##name) parameters;
 REDIS_INTERFACE(DECLARED)

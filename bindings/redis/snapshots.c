@@ -1,4 +1,4 @@
-/* What Redis asks of a type: values as bytes in snapshots and dumps, the append-only file's rewrite, copies, digests, and memory. */
+/* What Redis asks of a type: values as bytes in snapshots, dumps and copies, the append-only file's rewrite, digests, and memory. */
 #include "module.h"
 
 #include <string.h>
@@ -7,34 +7,16 @@ enum { LAYOUT = 1, PIECE = 1 << 16, PAGE = 1 << 12 };
 
 RedisModuleType *list_type;
 
-static void save_watches(RedisModuleIO *io, const list *list)
+static void save_watch(RedisModuleIO *io, const watch *watch)
 {
-    RedisModule_SaveUnsigned(io, list->watched);
-    for (const watch *watch = list->watches, *end = watch ? watch + list->watched : watch; watch != end; watch++) {
-        const livevec_query *query = &watch->query;
-        RedisModule_SaveStringBuffer(io, watch->name, strlen(watch->name));
-        RedisModule_SaveUnsigned(io, query->kind);
-        RedisModule_SaveUnsigned(io, query->span);
-        RedisModule_SaveUnsigned(io, query->bound);
-        RedisModule_SaveUnsigned(io, query->lo);
-        RedisModule_SaveUnsigned(io, query->hi);
-        RedisModule_SaveSigned(io, query->x);
-    }
-}
-
-static void rdb_save(RedisModuleIO *io, void *value)
-{
-    uint8_t piece[PIECE];
-    list *list = value;
-    uint64_t left = list_saved_length(list), at = 0;
-    RedisModule_SaveUnsigned(io, list->has_times);
-    RedisModule_SaveUnsigned(io, list->retention);
-    save_watches(io, list);
-    RedisModule_SaveUnsigned(io, left);
-    for (uint64_t length; at < left; at += length) {
-        length = list_save(list, at, piece, sizeof piece).length;
-        RedisModule_SaveStringBuffer(io, (const char *)piece, length);
-    }
+    const livevec_query *query = &watch->query;
+    RedisModule_SaveStringBuffer(io, watch->name, strlen(watch->name));
+    RedisModule_SaveUnsigned(io, query->kind);
+    RedisModule_SaveUnsigned(io, query->span);
+    RedisModule_SaveUnsigned(io, query->bound);
+    RedisModule_SaveUnsigned(io, query->lo);
+    RedisModule_SaveUnsigned(io, query->hi);
+    RedisModule_SaveSigned(io, query->x);
 }
 
 static uint32_t load_watch(RedisModuleIO *io, list *list)
@@ -48,21 +30,22 @@ static uint32_t load_watch(RedisModuleIO *io, list *list)
     query.lo = RedisModule_LoadUnsigned(io);
     query.hi = RedisModule_LoadUnsigned(io);
     query.x = RedisModule_LoadSigned(io);
-    uint32_t refusal = LIVEVEC_NOT_SAVED;
-    if (name && !RedisModule_IsIOError(io) && (query.span != LIVEVEC_WITHIN || list->has_times))
-        refusal = list_watch(list, name, length, &query);
-    if (name)
-        RedisModule_Free(name);
+    bool is_saved = name && !RedisModule_IsIOError(io) && (query.span != LIVEVEC_WITHIN || list->has_times);
+    uint32_t refusal = is_saved ? list_watch(list, name, length, &query) : (uint32_t)LIVEVEC_NOT_SAVED;
+    RedisModule_Free(name);
     return refusal;
 }
 
-static uint32_t load_watches(RedisModuleIO *io, list *list)
+/* A list's bytes, in pieces, go to a snapshot or to a digest. */
+static void pass_elements(list *list, RedisModuleIO *io, RedisModuleDigest *digest)
 {
-    uint64_t count = RedisModule_LoadUnsigned(io);
-    uint32_t refusal = count > LIVEVEC_MOST_QUERIES ? LIVEVEC_NOT_SAVED : LIVEVEC_OK;
-    for (uint64_t i = 0; i < count && !refusal; i++)
-        refusal = load_watch(io, list);
-    return refusal;
+    uint8_t piece[PIECE];
+    size_t length = 0;
+    for (uint64_t at = 0; (length = livevec_series_save(series_of(list), at, piece, sizeof piece).length); at += length)
+        if (io)
+            RedisModule_SaveStringBuffer(io, (const char *)piece, length);
+        else
+            RedisModule_DigestAddStringBuffer(digest, (const char *)piece, length);
 }
 
 /* Pieces come until all bytes are there whose number came first, and none of them is empty. */
@@ -73,37 +56,51 @@ static uint32_t load_elements(RedisModuleIO *io, list *list)
     while (left && !refusal) {
         size_t length = 0;
         char *piece = RedisModule_LoadStringBuffer(io, &length);
-        refusal = LIVEVEC_NOT_SAVED;
-        if (piece && length && length <= left)
-            refusal = list_load(list, (const uint8_t *)piece, length);
+        bool is_saved = piece && length && length <= left;
+        refusal = is_saved ? livevec_series_load(series_of(list), (const uint8_t *)piece, length) : (uint32_t)LIVEVEC_NOT_SAVED;
         left -= refusal ? 0 : length;
-        if (piece)
-            RedisModule_Free(piece);
+        RedisModule_Free(piece);
     }
-    return refusal ? refusal : list_loaded(list);
+    if (refusal)
+        return refusal;
+    return list->has_times ? livevec_samples_end_load(samples_of(list)) : livevec_series_end_load(series_of(list));
 }
 
-static void *not_loaded(RedisModuleIO *io, list *list, uint32_t refusal)
+static void rdb_save(RedisModuleIO *io, void *value)
 {
-    if (list)
-        list_free(list);
-    RedisModule_LogIOError(io, "warning", "livevec: a key is not loaded: %s", refusal_text(refusal));
-    return NULL;
+    list *list = value;
+    RedisModule_SaveUnsigned(io, list->has_times);
+    RedisModule_SaveUnsigned(io, list->retention);
+    RedisModule_SaveUnsigned(io, list->watched);
+    for (unsigned i = 0; i < list->watched; i++)
+        save_watch(io, &list->watches[i]);
+    RedisModule_SaveUnsigned(io, livevec_series_saved_length(series_of(list)).value);
+    pass_elements(list, io, NULL);
 }
 
-/* Watches are loaded last, since a list answers them. What isn't exactly a saved list is refused. */
+/* Watches are loaded before what they are of. What isn't exactly a saved list is refused. */
+static uint32_t load_parts(RedisModuleIO *io, list *list)
+{
+    uint64_t count = RedisModule_LoadUnsigned(io);
+    uint32_t refusal = count > LIVEVEC_MOST_QUERIES ? LIVEVEC_NOT_SAVED : LIVEVEC_OK;
+    for (uint64_t i = 0; i < count && !refusal; i++)
+        refusal = load_watch(io, list);
+    return refusal ? refusal : load_elements(io, list);
+}
+
 static void *rdb_load(RedisModuleIO *io, int version)
 {
     uint64_t has_times = RedisModule_LoadUnsigned(io), retention = RedisModule_LoadUnsigned(io);
-    if (version != LAYOUT || RedisModule_IsIOError(io) || has_times > 1 || retention > INT64_MAX)
-        return not_loaded(io, NULL, LIVEVEC_NOT_SAVED);
-    list *list = list_new(has_times, true);
-    if (!list)
-        return not_loaded(io, NULL, LIVEVEC_NO_MEMORY);
+    bool is_saved = version == LAYOUT && !RedisModule_IsIOError(io) && has_times <= 1 && retention <= INT64_MAX;
+    list *list = is_saved ? list_new(has_times, true) : NULL;
+    uint32_t refusal = list ? load_parts(io, list) : is_saved ? LIVEVEC_NO_MEMORY : LIVEVEC_NOT_SAVED;
+    if (refusal) {
+        list_free(list);
+        RedisModule_LogIOError(io, "warning", "livevec: a key is not loaded: %s", livevec_refusal_text(refusal));
+        return NULL;
+    }
     list->retention = retention;
-    uint32_t refusal = load_watches(io, list);
-    refusal = refusal ? refusal : load_elements(io, list);
-    return refusal ? not_loaded(io, list, refusal) : list;
+    return list;
 }
 
 /* The bytes of a dump as one internal command. */
@@ -121,28 +118,21 @@ static void *copy(RedisModuleString *from, RedisModuleString *to, const void *va
     (void)from;
     (void)to;
     RedisModuleString *bytes = RedisModule_SaveDataTypeToString(NULL, (void *)value, list_type);
-    void *made = bytes ? RedisModule_LoadDataTypeFromStringEncver(bytes, list_type, LAYOUT) : NULL;
-    if (bytes)
-        RedisModule_FreeString(NULL, bytes);
+    if (!bytes)
+        return NULL;
+    void *made = RedisModule_LoadDataTypeFromStringEncver(bytes, list_type, LAYOUT);
+    RedisModule_FreeString(NULL, bytes);
     return made;
 }
 
 /* Elements, indices and the edit number; not what was asked of it. */
 static void digest(RedisModuleDigest *digest, void *value)
 {
-    uint8_t piece[PIECE];
     list *list = value;
-    uint64_t at = 0, length;
     RedisModule_DigestAddLongLong(digest, (long long)list->retention);
-    while ((length = list_save(list, at, piece, sizeof piece).length)) {
-        RedisModule_DigestAddStringBuffer(digest, (const char *)piece, length);
-        at += length;
-    }
+    pass_elements(list, NULL, digest);
     RedisModule_DigestEndSequence(digest);
 }
-
-static size_t mem_usage(const void *value)
-{ return list_bytes(value); }
 
 /* A value of many pages is freed outside the main thread. */
 static size_t free_effort(RedisModuleString *key, const void *value)
@@ -151,29 +141,25 @@ static size_t free_effort(RedisModuleString *key, const void *value)
     return 1 + list_bytes(value) / PAGE;
 }
 
-static void free_value(void *value)
-{ list_free(value); }
-
 RedisModuleTypeMethods list_methods = {
-    .version = 3, .rdb_load = rdb_load, .rdb_save = rdb_save, .aof_rewrite = aof_rewrite, .mem_usage = mem_usage, .digest = digest,
-    .free = free_value, .free_effort = free_effort, .copy = copy};
+    .version = 3, .rdb_load = rdb_load, .rdb_save = rdb_save, .aof_rewrite = aof_rewrite, .mem_usage = list_bytes, .digest = digest,
+    .free = list_free, .free_effort = free_effort, .copy = copy};
 
-/* LV.RESTORE key bytes: what a rewritten append-only file has in place of the commands that made a key. */
-int restore_command(RedisModuleCtx *ctx, RedisModuleString **v, int n)
+/* What a rewritten append-only file has in place of the commands that made a key. */
+uint32_t restore_command(call *it)
 {
-    (void)n;
-    RedisModuleKey *key = RedisModule_OpenKey(ctx, v[1], REDISMODULE_READ | REDISMODULE_WRITE);
-    void *made = NULL;
-    if (RedisModule_KeyType(key) != REDISMODULE_KEYTYPE_EMPTY)
-        RedisModule_ReplyWithError(ctx, "BUSYKEY Target key name already exists.");
-    else if (!(made = RedisModule_LoadDataTypeFromStringEncver(v[2], list_type, LAYOUT)))
-        refused(ctx, LIVEVEC_NOT_SAVED);
+    RedisModuleString **words = it->next;
+    RedisModuleKey *key = RedisModule_OpenKey(it->ctx, words[0], REDISMODULE_READ | REDISMODULE_WRITE);
+    bool is_there = RedisModule_KeyType(key) != REDISMODULE_KEYTYPE_EMPTY;
+    void *made = is_there ? NULL : RedisModule_LoadDataTypeFromStringEncver(words[1], list_type, LAYOUT);
     if (made) {
         RedisModule_ModuleTypeSetValue(key, list_type, made);
-        RedisModule_SignalModifiedKey(ctx, v[1]);
-        RedisModule_ReplicateVerbatim(ctx);
-        RedisModule_ReplyWithSimpleString(ctx, "OK");
+        RedisModule_SignalModifiedKey(it->ctx, words[0]);
+        RedisModule_ReplicateVerbatim(it->ctx);
+        RedisModule_ReplyWithSimpleString(it->ctx, "OK");
     }
     RedisModule_CloseKey(key);
-    return 0;
+    if (is_there)
+        return failed(it->ctx, "BUSYKEY Target key name already exists.");
+    return made ? LIVEVEC_OK : LIVEVEC_NOT_SAVED;
 }

@@ -1,88 +1,156 @@
-/* The words of a command: numbers, times, kinds and windows. */
+/* The words of a command. Its form has a letter for each thing that is taken or looked at, as `take_one` lists them; words in capitals, of which one
+ * is there, as `FIRST|LAST`; and in brackets what is left out if its first word isn't there. */
 #include "module.h"
 
 #include <string.h>
 #include <strings.h>
 
-static const char *const kind_names[KINDS] = {"sum", "min", "max", "best", "affine", "automaton", "count", "mean", "exactsum"};
+const char *const kind_names[KINDS] = {"sum", "min", "max", "best", "affine", "automaton", "count", "mean", "exactsum"};
+static const char *const ts_names[KINDS] = {"sum", "min", "max", [KIND_COUNT] = "count", [KIND_MEAN] = "avg"};
 
-const char *kind_name(unsigned kind)
-{ return kind_names[kind]; }
-
-bool is_word(const RedisModuleString *text, const char *word)
+static RedisModuleString *taken(call *it)
 {
-    size_t length;
-    const char *at = RedisModule_StringPtrLen(text, &length);
-    return length == strlen(word) && !strncasecmp(at, word, length);
+    it->left--;
+    return *it->next++;
 }
 
-static bool taken(words *words)
+static bool took_of(call *it, const char *word, size_t length)
 {
-    words->next++;
-    words->left--;
-    return true;
+    size_t has = 0;
+    const char *text = it->left ? RedisModule_StringPtrLen(*it->next, &has) : "";
+    return has == length && !strncasecmp(text, word, length) && taken(it);
 }
+static bool took(call *it, const char *word) { return took_of(it, word, strlen(word)); }
 
-bool took(words *words, const char *word)
-{ return words->left && is_word(*words->next, word) && taken(words); }
+static bool there(call *it) { return it->left || failed(it->ctx, "ERR syntax error"); }
 
-bool no_more(words *words)
-{ return !words->left || failed(words->ctx, "ERR syntax error"); }
-
-bool take_above(words *words, int64_t least, int64_t *number)
+static bool take_above(call *it, int64_t least, int64_t *number)
 {
     long long found;
-    if (!words->left)
-        return failed(words->ctx, "ERR syntax error");
-    if (RedisModule_StringToLongLong(*words->next, &found) != REDISMODULE_OK || found < least)
-        return failed(words->ctx, "ERR value is not an integer or out of range");
+    if (!there(it))
+        return false;
+    if (RedisModule_StringToLongLong(*it->next, &found) != REDISMODULE_OK || found < least)
+        return failed(it->ctx, "ERR value is not an integer or out of range");
     *number = found;
-    return taken(words);
+    return taken(it);
 }
+bool take_number(call *it, int64_t *number) { return take_above(it, INT64_MIN, number); }
 
-bool take_time(words *words, int64_t *time)
+static bool take_time(call *it)
 {
-    if (!took(words, "*"))
-        return take_number(words, time);
-    *time = RedisModule_Milliseconds();
+    if (!took(it, "*"))
+        return take_number(it, &it->time);
+    it->by_effect = true;
+    it->time = RedisModule_Milliseconds();
     return true;
 }
 
-bool take_kind(words *words, unsigned kinds, unsigned *kind)
+static bool took_kind(call *it, const char *const *names, unsigned kinds)
 {
-    for (*kind = 0; *kind < kinds; ++*kind)
-        if (took(words, kind_names[*kind]))
+    for (it->kind = 0; it->kind < kinds; it->kind++)
+        if (names[it->kind] && took(it, names[it->kind]))
             return true;
-    return words->left ? refused(words->ctx, LIVEVEC_BAD_KIND) : failed(words->ctx, "ERR syntax error");
+    return false;
+}
+static bool take_kind(call *it, unsigned kinds)
+{ return took_kind(it, kind_names, kinds) || (there(it) && refused(it->ctx, LIVEVEC_BAD_KIND)); }
+
+static bool take_bounds(call *it)
+{
+    it->window.sort = BY_INDEX;
+    return take_above(it, 0, &it->window.lo) && take_above(it, 0, &it->window.hi);
 }
 
-static bool take_times(words *words, window *window)
+/* In the forms of RedisTimeSeries the last time is included. */
+static bool take_times(call *it)
 {
-    window->lo = INT64_MIN;
-    window->hi = INT64_MAX;
-    if (!took(words, "-") && !take_number(words, &window->lo))
+    window *window = &it->window;
+    *window = (struct window){.sort = BY_TIME, .lo = INT64_MIN, .hi = INT64_MAX};
+    if (!took(it, "-") && !take_number(it, &window->lo))
         return false;
-    window->to_end = took(words, "+");
-    return window->to_end || take_number(words, &window->hi);
+    window->to_end = took(it, "+");
+    if (!window->to_end && !take_number(it, &window->hi))
+        return false;
+    window->to_end |= it->is_ts && window->hi == INT64_MAX;
+    window->hi += it->is_ts && !window->to_end;
+    return true;
 }
 
-bool take_window(words *words, window *window)
+static bool take_window(call *it)
 {
-    *window = (struct window){.sort = BY_INDEX};
-    if (took(words, "INDEX"))
-        return take_natural(words, &window->lo) && take_natural(words, &window->hi);
-    window->sort = BY_TIME;
-    if (took(words, "TIME"))
-        return take_times(words, window);
-    window->sort = took(words, "LAST") ? BY_LAST : took(words, "WITHIN") ? BY_SPAN : WHOLE;
-    return window->sort == WHOLE ? took(words, "ALL") || true : take_natural(words, &window->lo);
+    if (took(it, "INDEX"))
+        return take_bounds(it);
+    if (took(it, "TIME"))
+        return take_times(it);
+    it->window.sort = took(it, "LAST") ? BY_LAST : took(it, "WITHIN") ? BY_SPAN : WHOLE;
+    return it->window.sort == WHOLE ? took(it, "ALL") || true : take_above(it, 0, &it->window.lo);
 }
 
-bool take_bounds(words *words, window *window)
+static bool take_one(call *it, char letter)
 {
-    *window = (struct window){.sort = words->left ? BY_INDEX : WHOLE};
-    return !words->left || (take_natural(words, &window->lo) && take_natural(words, &window->hi) && no_more(words));
+    switch (letter) {
+    case 'k': return (it->name = taken(it)); /* the key, */
+    case 's': return (it->sort = SERIES_ONLY); /* which has a series, */
+    case 'm': return (it->sort = SAMPLES_ONLY); /* or samples */
+    case 'o': return (it->needs_range = true); /* and of which the window's range is looked up */
+    case 'n': return (it->text = RedisModule_StringPtrLen(taken(it), &it->length)); /* a name, or bytes */
+    case 'x': return take_number(it, &it->x);
+    case 't': return take_time(it); /* a time, or `*` */
+    case 'u': return take_number(it, &it->time);
+    case 'i': return take_above(it, 0, &it->index);
+    case 'j': return take_above(it, 0, &it->second); /* a second index */
+    case 'r': return take_above(it, 0, &it->span); /* a retention */
+    case 'd': return take_above(it, 1, &it->span); /* the duration of a bucket */
+    case 'c': return take_above(it, 0, &it->most); /* a count of entries */
+    case 'a': return take_kind(it, KINDS); /* any kind */
+    case 'q': return take_kind(it, LIVEVEC_ALL_SIX);
+    case 'p': return take_kind(it, LIVEVEC_AFFINE); /* a kind whose answer has a place, */
+    case 'h': return it->kind != LIVEVEC_SUM || refused(it->ctx, LIVEVEC_BAD_KIND); /* but a sum has none */
+    case 'g': return took_kind(it, ts_names, KINDS) || failed(it->ctx, "ERR TSDB: Unknown aggregation type");
+    case 'w': return take_window(it);
+    case 'v': return it->window.sort != BY_TIME || failed(it->ctx, "ERR a watch has no window TIME: use WITHIN");
+    case 'b': return !it->left || take_bounds(it);
+    case 'f': return take_times(it);
+    case '.': return !it->left || failed(it->ctx, "ERR syntax error"); /* the end */
+    default: return true;
+    }
 }
 
-list_sort sort_of(window window)
-{ return window.sort == BY_TIME || window.sort == BY_SPAN ? SAMPLES_ONLY : ANY_LIST; }
+static size_t capitals(const char *form)
+{
+    size_t length = 0;
+    while (form[length] >= 'A' && form[length] <= 'Z')
+        length++;
+    return length;
+}
+
+/* Which word of a choice was taken, from 1 on, or 0. The form goes on behind the choice. */
+static unsigned took_one_of(call *it, const char **form)
+{
+    unsigned found = 0, which = 1;
+    for (size_t length; (length = capitals(*form)); which++) {
+        if (!found && took_of(it, *form, length))
+            found = which;
+        *form += length + ((*form)[length] == '|');
+    }
+    return found;
+}
+
+bool take(call *it, const char *form)
+{
+    unsigned *said = it->said;
+    while (*form) {
+        bool is_option = *form == '[';
+        form += is_option;
+        if (!capitals(form)) {
+            if (!take_one(it, *form++))
+                return false;
+            continue;
+        }
+        *said = took_one_of(it, &form);
+        if (!*said && !is_option)
+            return failed(it->ctx, "ERR syntax error");
+        form = *said++ ? form : strchr(form, ']');
+    }
+    return true;
+}
