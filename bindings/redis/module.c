@@ -1,6 +1,7 @@
 /* livevec as a module of Redis: the table of its commands, and how it is loaded. */
 #include "module.h"
 
+#include <stdio.h>
 #include <string.h>
 
 #define DEFINED(answer, name, parameters) answer (*RedisModule_##name) parameters;
@@ -68,10 +69,11 @@ COMMANDS(ROW)
 #define LISTED(family, verb, ...) {&family##_##verb, run_##family##_##verb},
 static const struct { const command *is; RedisModuleCmdFunc *run; } commands[] = {COMMANDS(LISTED)};
 
-/* Redis 7.2 and later also take categories of access; where there is no such function nothing is said of them. */
+/* Redis 7.2 and later put commands into categories of access, and later ones also into one of the module's own. */
 static int (*set_categories)(RedisModuleCommand *command, const char *categories);
+static int (*add_category)(RedisModuleCtx *ctx, const char *name);
 
-static int described(const command *it, RedisModuleCommand *to)
+static int described(const command *it, RedisModuleCommand *to, const char *own_category)
 {
     static const RedisModuleCommandInfoVersion version = {1, 1, sizeof(RedisModuleCommandKeySpec), 1};
     const manner *how = it->manner;
@@ -81,18 +83,22 @@ static int described(const command *it, RedisModuleCommand *to)
     RedisModuleCommandInfo info = {
         .version = &version, .summary = it->says, .complexity = it->cost, .since = "0.3.0", .arity = it->arity,
         .key_specs = how->step ? keys : NULL};
-    return RedisModule_SetCommandInfo(to, &info) || (set_categories && set_categories(to, strncmp(how->flags, "write", 5) ? "read" : "write"));
+    char categories[32];
+    const char *access = strstr(how->flags, "write") ? "write" : "read", *speed = strstr(how->flags, "fast") ? "fast" : "slow";
+    snprintf(categories, sizeof categories, "%s %s%s", access, speed, own_category);
+    return RedisModule_SetCommandInfo(to, &info) || (set_categories && set_categories(to, categories));
 }
 
 /* Names that another module has, as RedisTimeSeries may have those that begin with `ts.`, are left to it. */
 static int commands_made(RedisModuleCtx *ctx)
 {
+    const char *own_category = add_category && add_category(ctx, "livevec") == REDISMODULE_OK ? " livevec" : "";
     for (size_t i = 0; i < sizeof commands / sizeof *commands; i++) {
         const command *it = commands[i].is;
         const manner *how = it->manner;
         int first = how->step ? 1 : 0;
         if (RedisModule_CreateCommand(ctx, it->name, commands[i].run, how->flags, first, how->last, how->step) == REDISMODULE_OK) {
-            if (described(it, RedisModule_GetCommand(ctx, it->name)) != REDISMODULE_OK)
+            if (described(it, RedisModule_GetCommand(ctx, it->name), own_category) != REDISMODULE_OK)
                 return REDISMODULE_ERR;
         } else if (strncmp(it->name, "ts.", 3)) {
             return REDISMODULE_ERR;
@@ -118,6 +124,7 @@ static int interface_found(RedisModuleCtx *ctx)
         return REDISMODULE_ERR;
     REDIS_INTERFACE(FOUND)
     get("RedisModule_SetCommandACLCategories", &set_categories);
+    get("RedisModule_AddACLCategory", &add_category);
     return REDISMODULE_OK;
 }
 
