@@ -46,7 +46,7 @@ static const manner makes = {"write deny-oom", MAKES, 1, 1};
     C(lv, reach, -3, &asks, "kxb.o", "O(log n)", "The index up to which elements add up to a number") \
     C(lv, where, -3, &asks, "kpb.ho", "O(log n)", "Where the least, the greatest or the best run is") \
     C(lv, range, -2, &asks_long, "kw[COUNT c][BUCKET mda].o", "O(length), and O(log n) for each bucket", "Elements, samples, or values of buckets") \
-    C(lv, scan, -3, &asks_long, "kq[EXCLUSIVE]w.o", "O(length)", "Running values of a window") \
+    C(lv, scan, -3, &asks_long, "kq[EXCLUSIVE ]w.o", "O(length)", "Running values of a window") \
     C(lv, info, 2, &asks, "k", "O(1)", "Form, indices, edits, retention, watches and bytes") \
     C(lv, watch, -4, &watches, "knqwv[ATLEAST|ATMOST x].", "O(n) at first, then O(log n) for each edit", "Publishes each change of an answer") \
     C(lv, unwatch, 3, &unwatches, "kn", "O(watches)", "Forgets a watch") \

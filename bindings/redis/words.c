@@ -1,5 +1,5 @@
-/* The words of a command. Its form has a letter for each thing that is taken or looked at, as `take_one` lists them; words in capitals, of which one
- * is there, as `FIRST|LAST`; and in brackets what is left out if its first word isn't there. */
+/* The words of a command. Its form has a letter for each thing that is taken or looked at, as `take_one` lists them. It has words in capitals with a
+ * space behind them, of which one is there, as `FIRST|LAST `. What is in brackets is left out if none of its first words is there. */
 #include "module.h"
 
 #include <string.h>
@@ -91,12 +91,12 @@ static bool take_one(call *it, char letter)
     switch (letter) {
     case 'k': return (it->name = taken(it)); /* the key, */
     case 's': return (it->sort = SERIES_ONLY); /* which has a series, */
-    case 'm': return (it->sort = SAMPLES_ONLY); /* or samples */
-    case 'o': return (it->needs_range = true); /* and of which the window's range is looked up */
+    case 'm': return (it->sort = SAMPLES_ONLY); /* or samples, */
+    case 'o': return (it->needs_range = true); /* and at which the window's range is looked up */
     case 'n': return (it->text = RedisModule_StringPtrLen(taken(it), &it->length)); /* a name, or bytes */
     case 'x': return take_number(it, &it->x);
     case 't': return take_time(it); /* a time, or `*` */
-    case 'u': return take_number(it, &it->time);
+    case 'u': return take_number(it, &it->time); /* a time */
     case 'i': return take_above(it, 0, &it->index);
     case 'j': return take_above(it, 0, &it->second); /* a second index */
     case 'r': return take_above(it, 0, &it->span); /* a retention */
@@ -105,35 +105,28 @@ static bool take_one(call *it, char letter)
     case 'a': return take_kind(it, KINDS); /* any kind */
     case 'q': return take_kind(it, LIVEVEC_ALL_SIX);
     case 'p': return take_kind(it, LIVEVEC_AFFINE); /* a kind whose answer has a place, */
-    case 'h': return it->kind != LIVEVEC_SUM || refused(it->ctx, LIVEVEC_BAD_KIND); /* but a sum has none */
+    case 'h': return it->kind != LIVEVEC_SUM || refused(it->ctx, LIVEVEC_BAD_KIND); /* as a sum's hasn't */
     case 'g': return took_kind(it, ts_names, KINDS) || failed(it->ctx, "ERR TSDB: Unknown aggregation type");
-    case 'w': return take_window(it);
-    case 'v': return it->window.sort != BY_TIME || failed(it->ctx, "ERR a watch has no window TIME: use WITHIN");
-    case 'b': return !it->left || take_bounds(it);
-    case 'f': return take_times(it);
-    case '.': return !it->left || failed(it->ctx, "ERR syntax error"); /* the end */
+    case 'w': return take_window(it); /* a window, or none: all elements, */
+    case 'v': return it->window.sort != BY_TIME || failed(it->ctx, "ERR a watch has no window TIME: use WITHIN"); /* but a moving one */
+    case 'b': return !it->left || take_bounds(it); /* two indices, or none */
+    case 'f': return take_times(it); /* two times */
+    case '.': return !it->left || failed(it->ctx, "ERR syntax error"); /* no word is left */
     default: return true;
     }
 }
 
-static size_t capitals(const char *form)
+/* Which word of a choice was taken, from 1 on, or 0. */
+static unsigned took_one_of(call *it, const char *words)
 {
-    size_t length = 0;
-    while (form[length] >= 'A' && form[length] <= 'Z')
-        length++;
-    return length;
-}
-
-/* Which word of a choice was taken, from 1 on, or 0. The form goes on behind the choice. */
-static unsigned took_one_of(call *it, const char **form)
-{
-    unsigned found = 0, which = 1;
-    for (size_t length; (length = capitals(*form)); which++) {
-        if (!found && took_of(it, *form, length))
-            found = which;
-        *form += length + ((*form)[length] == '|');
+    for (unsigned which = 1;; which++) {
+        size_t length = strcspn(words, "| ");
+        if (took_of(it, words, length))
+            return which;
+        if (words[length] != '|')
+            return 0;
+        words += length + 1;
     }
-    return found;
 }
 
 bool take(call *it, const char *form)
@@ -142,15 +135,15 @@ bool take(call *it, const char *form)
     while (*form) {
         bool is_option = *form == '[';
         form += is_option;
-        if (!capitals(form)) {
+        if (*form < 'A' || *form > 'Z') {
             if (!take_one(it, *form++))
                 return false;
             continue;
         }
-        *said = took_one_of(it, &form);
+        *said = took_one_of(it, form);
         if (!*said && !is_option)
             return failed(it->ctx, "ERR syntax error");
-        form = *said++ ? form : strchr(form, ']');
+        form = strchr(form, *said++ ? ' ' : ']');
     }
     return true;
 }
