@@ -69,10 +69,10 @@ class Access(unittest.TestCase):
         self.may_not(user, ASKS, "b:")
 
     def test_keys_that_may_be_written(self):
-        """A pattern for writing lets in edits whose reply has no element."""
+        """A pattern for writing lets in what adds elements, and retentions."""
         user = self.user("%W~a:*", "+@all")
-        self.may(user, ["LV.PUSH {0}list 1", "LV.ADD {0}times 9 1", "LV.MADD {0}times 9 1", "LV.RETAIN {0}times 0"], "a:")
-        self.may_not(user, ["LV.SET {0}list 0 1", "LV.POP {0}list", "LV.WATCH {0}list w sum", *ASKS], "a:")
+        self.may(user, ["LV.PUSH {0}list 1", "LV.ADD {0}times 9 1", "LV.MADD {0}times 9 1", "TS.ADD {0}times 9 1", "LV.RETAIN {0}times 0"], "a:")
+        self.may_not(user, ["LV.SET {0}list 0 1", "LV.POP {0}list", "LV.TRUNCATE {0}list 1", "LV.EXPIRE {0}list INDEX 1", "LV.WATCH {0}list w sum", *ASKS], "a:")
 
     def test_keys_of_a_pattern(self):
         user = self.user("~a:*", "+@all")
