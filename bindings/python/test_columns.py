@@ -244,8 +244,6 @@ class Alike(unittest.TestCase):
             self.assertFalse(other == series)
         self.assertEqual(series, Series([19, 25]))
         self.assertNotEqual(series, Series([19, 24]))
-        self.assertNotEqual(series, [19, 25])
-        self.assertNotEqual(series, Vector([19, 25]))
         self.assertRaises(TypeError, hash, series)
 
         class Own(Series):

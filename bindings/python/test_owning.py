@@ -11,7 +11,7 @@ import unittest
 from array import array
 
 import livevec
-from livevec import Became, Board, Delivered, Kind, Node, Reduced, Vector
+from livevec import Became, Board, Delivered, Kind, Node, Reduced, Samples, Series, Vector
 
 
 class Refresh(unittest.TestCase):
@@ -105,13 +105,39 @@ print(vector.edits)
 
     def test_equal_by_elements(self) -> None:
         self.assertTrue(Vector() == Vector() and Vector([1, 2]) == Vector([1, 2], most_edits=5) and not Vector([1]) != Vector([1]))
-        for other in (Vector([1]), Vector([1, 3]), Vector([1, 2, 3]), [1, 2], array("q", [1, 2]), None):
+        for other in (Vector([1]), Vector([1, 3]), Vector([1, 2, 3]), None):
             self.assertTrue(Vector([1, 2]) != other and not Vector([1, 2]) == other)
         self.assertRaises(TypeError, hash, Vector())
         closed = Vector()
         closed.close()
-        for call in (lambda: closed == Vector(), lambda: Vector() == closed, closed.copy, lambda: pickle.dumps(closed), closed.clear):
+        for call in (lambda: closed == Vector(), lambda: Vector() == closed, lambda: closed == [], closed.copy, lambda: pickle.dumps(closed), closed.clear):
             self.assertRaises(livevec.Closed, call)
+
+    def test_equal_to_rows_and_to_each_other(self) -> None:
+        gone = Series([7, 1, 2])
+        gone.expire(1)
+        ours = Vector([1, 2]), gone, livevec.SharedVector(Vector([1, 2])), livevec.SharedSeries(Series([1, 2]))
+        for one in ours:
+            for other in (*ours, [1, 2], (1, 2), range(1, 3), array("q", [1, 2]), array("b", [1, 2]), [True, 2.0]):
+                self.assertTrue(one == other and other == one and not one != other, (one, other))
+            for other in ([1], [1, 2, 3], [1, 3], [2, 1], (), range(2), range(1, 10**30), array("q", [1]), array("d", [1, 2.5]), [1, "2"], [1, 2**70],
+                          "12", b"\1\2", {1: 2}, {1, 2}, iter([1, 2]), 1, Samples([1, 2], [1, 2])):
+                self.assertTrue(one != other and other != one and not one == other, (one, other))
+            self.assertRaises(TypeError, hash, one)
+
+    def test_what_an_element_does_when_it_is_compared(self) -> None:
+        class Odd:
+            def __init__(self, says: BaseException) -> None:
+                self.says = says
+
+            def __eq__(self, other: object) -> bool:
+                raise self.says
+
+        shared = livevec.SharedVector(Vector([1, 2]))
+        for one in (Vector([1, 2]), shared):
+            self.assertFalse(one == [1, Odd(TypeError())])
+            self.assertRaises(KeyError, lambda: one == [1, Odd(KeyError())])
+            self.assertEqual((one, one.push(3) and len(one)), ([1, 2, 3], 3))
 
     def test_what_is_of_one_process_is_never_copied(self) -> None:
         v, board = Vector([1] * 8), Board(seats=1)

@@ -196,8 +196,9 @@ class Compared(unittest.TestCase):
         for series in (late, early):
             series.expire(1)
         self.assertTrue(late == early)
-        self.assertFalse(one == late or one == [1, 2])
+        self.assertFalse(one == late)
         self.assertTrue(SharedSamples(Samples([0, 5], [7, 7])) == SharedSamples(Samples([0, 5], [7, 7])) != SharedSamples(Samples([0, 6], [7, 7])))
+        self.assertTrue(SharedSamples(Samples([0, 5], [7, 7])) == Samples([0, 5], [7, 7]) != SharedSeries(Series([7, 7])))
         self.assertRaises(TypeError, hash, one)
         one.close()
         self.assertRaises(livevec.Closed, lambda: one == same)

@@ -9,6 +9,7 @@ from array import array
 from typing import TYPE_CHECKING, Any, Callable, Iterable, Optional, Sequence, Union, overload
 
 from ._buffers import _address, _as_column
+from ._compared import _Compared
 from ._kinds import _Chosen, _kind_of, _Mapped, _Stated, _Summed, _Value, Kind
 from ._numbers import _as_i64, _whole
 from ._ranges import _as_rows, _as_table
@@ -26,7 +27,7 @@ if TYPE_CHECKING:
     _Ranges = Union[Iterable[Sequence[Optional[int]]], memoryview, _NumpyArray]
 
 
-class _ByKind:
+class _ByKind(_Compared):
     """The part of `Vector`, `Series`, `Samples` and what threads share of these that answers by one kind.
 
     What a question costs: of a series, O(log n) by the kind's tree, which the first question by that kind makes in O(n). Of a vector, O(log n), and

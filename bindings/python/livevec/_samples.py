@@ -83,7 +83,7 @@ class Samples(_ByIndex):
     series: `s[i]`, `s.sum(lo, hi)`, `s.where_least(lo, hi)`, `for x in s` and so on. So are edits: `pop`, `write` (or `s[i] = x`), `truncate` and
     `expire`. A window of time is a range of indices, which `between` and `last` tell; `value_between` and `value_of_last` give its value at once.
 
-    Two of them are equal where their times and values are, whatever their indices and edits. A copy, also one by `copy` or by `pickle`, has the same
+    `s == t` is true of samples whose times and values are the same, whatever their indices and edits, and of nothing else. A copy, also one by `copy` or by `pickle`, has the same
     samples under the same indices, and goes on at the same edit.
 
     `times` and `values` are pushed at the start, as by `push_many`. `save` gives them as bytes, and `Samples.load` makes some of them. Raises
@@ -93,6 +93,7 @@ class Samples(_ByIndex):
     __slots__ = ()
     _made_of, _name = _SamplesSlot, "Samples"
     _begin_load, _end_load = _begin, _end
+    _has_times = True
 
     def __init__(self, times: Iterable[int] = (), values: Iterable[int] = ()) -> None:
         self._changes = 0
@@ -126,11 +127,6 @@ class Samples(_ByIndex):
             raise Earlier(self.sample(self.size - 1).time, did.done, did.place)
         if did.refusal:
             raise _refuse(did.refusal, 0, did.done, did.place)
-
-    def __eq__(self, other: object) -> bool:
-        if not isinstance(other, Samples):
-            return NotImplemented
-        return len(self) == len(other) and self.to_array() == other.to_array() and self.times() == other.times()
 
     def expire_before(self, time: int) -> int:
         """Drops the samples that were taken before a time, and gives how many they were. O(log n). It takes no memory, and gives memory
@@ -231,6 +227,9 @@ class Samples(_ByIndex):
         return self._rolled(of, lambda first, last: starts[first - origin : last - origin], lo, hi, into)
 
     # Within.
+
+    def _columns(self) -> tuple[array[int], ...]:
+        return self.to_array(), self.times()
 
     def _window(self, told: _Window, given: str) -> Window:
         if told.refusal:

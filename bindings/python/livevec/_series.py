@@ -33,7 +33,7 @@ class Series(_ByIndex):
     without `hi`; where no `lo` is given they start at `first`, and where no `hi` is given they go up to `size`. No index counts from the end. An answer
     equals the plain left fold of the range after the last edit, by all six kinds.
 
-    Two series are equal where their elements are, whatever their indices and edits, so that a series has no hash. A copy, also one by `copy` or by
+    `s == t` compares elements as `Vector` does, whatever their indices and edits; so a series has no hash. A copy, also one by `copy` or by
     `pickle`, has the same elements under the same indices, and goes on at the same edit.
 
     `elements` are pushed at the start; `save` gives it as bytes, of which `Series.load` makes one again. Raises NoMemory. The memory is given back by
@@ -101,8 +101,3 @@ class Series(_ByIndex):
     def swap(self, first: int, second: int) -> int:
         """Exchanges the elements under two indices, and gives the one under the first now. O(log n). Raises Worn, NotKept."""
         return self._edited(_make_edit(self._at, _SWAP, self._index(first), self._index(second), _NO_VALUE)).value
-
-    def __eq__(self, other: object) -> bool:
-        if not isinstance(other, Series):
-            return NotImplemented
-        return len(self) == len(other) and self.to_array() == other.to_array()

@@ -188,17 +188,6 @@ class _Shared(_ByKind, Generic[_Of]):
         """A copy of what is shared, which no other thread has: as its own `copy` makes one. Linear."""
         return cast(_Of, self._read(lambda of: of.copy()))
 
-    def __eq__(self, other: object) -> bool:
-        """Whether two have the same elements, and samples the same times too. What each has is copied under its own lock, one after the other, so
-        that no thread waits for both. Linear."""
-        if not isinstance(other, _Shared) or type(self._of) is not type(other._of):
-            return NotImplemented
-        return self is other or self._columns() == other._columns()
-
-    def _columns(self) -> tuple[array[int], ...]:
-        """What is compared, all after one edit: a copy."""
-        return (self.to_array(),)
-
     def scan_inclusive(self, lo: Optional[int] = None, hi: Optional[int] = None) -> Scan:
         """The values of each beginning of a range, the element itself included, all after one edit. Linear."""
         return self._numbered(lambda of: of.scan_inclusive(lo, hi))

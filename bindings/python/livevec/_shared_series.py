@@ -127,6 +127,7 @@ class SharedSamples(_SharedByIndex[Samples]):
     """
 
     __slots__ = ()
+    _has_times = True
 
     def __init__(self, samples: Optional[Samples] = None) -> None:
         super().__init__(Samples() if samples is None else _of(samples, Samples))
@@ -156,7 +157,7 @@ class SharedSamples(_SharedByIndex[Samples]):
         return self._read(lambda samples: samples.times(lo, hi))
 
     def _columns(self) -> tuple[array[int], ...]:
-        return self._read(lambda samples: (samples.to_array(), samples.times()))
+        return self._read(lambda samples: samples._columns())
 
     def times_into(self, buffer: Union[WriteableBuffer, _NumpyArray], lo: Optional[int] = None, hi: Optional[int] = None) -> int:
         """As `Samples.times_into`, all after one edit."""

@@ -33,7 +33,7 @@ class Vector(_Edits, _Questions, _Scans, _Claims, _Saved):
     before the first element is that element's; other than a slice, a range that goes past the vector's end is refused. An answer equals the plain
     left fold of the range after the last edit.
 
-    Two vectors are equal where their elements are, so that a vector has no hash. A copy, also one by `copy` or by `pickle`, has elements, limits,
+    `v == w` compares elements, with another vector or series, a list, a tuple, a range or an `array.array`; so a vector has no hash. A copy, also one by `copy` or by `pickle`, has elements, limits,
     table and kind; its edits are the pushes of its elements. `save` gives the elements as bytes, and `load` makes a vector of them.
 
     `elements` are pushed at the start. There are limits of buckets, of which k have room for 8 * (2**k - 1) elements, and of edits. `table` is that of the
@@ -84,11 +84,6 @@ class Vector(_Edits, _Questions, _Scans, _Claims, _Saved):
 
     def __reduce__(self) -> tuple[Any, ...]:
         return _remade, (type(self), self.to_array(), *self._limits)
-
-    def __eq__(self, other: object) -> bool:
-        if not isinstance(other, Vector):
-            return NotImplemented
-        return len(self) == len(other) and self.to_array() == other.to_array()
 
     def __repr__(self) -> str:
         try:
