@@ -328,6 +328,22 @@ class Numpy(unittest.TestCase):
         self.assertEqual(vector[0], 4)
         self.assertRaises(ValueError, vector.__array__, copy=False)
 
+    def test_reductions(self) -> None:
+        rows = Vector([3, -1, 2]), Series([9, 3, -1, 2]), Samples([0, 1, 1], [3, -1, 2])
+        rows[1].expire(1)
+        shared = livevec.SharedVector(rows[0].copy()), livevec.SharedSeries(rows[1].copy()), livevec.SharedSamples(rows[2].copy())
+        for holder in (*rows, *shared):
+            self.assertEqual((numpy.sum(holder), numpy.sum(holder, 0), numpy.min(holder), numpy.max(holder), numpy.mean(holder)), (4, 4, -1, 3, 4 / 3))
+            for given in ({"axis": 1}, {"axis": -1}, {"axis": ()}, {"dtype": "int32"}, {"out": numpy.zeros((), dtype="int64")}):
+                with self.assertRaisesRegex(TypeError, "axis is None or 0" if "axis" in given else f"a sum takes no {next(iter(given))}"):
+                    numpy.sum(holder, **given)
+        far = Vector([2**63 - 1, 1])
+        with numpy.errstate(all="raise"):
+            self.assertEqual((numpy.sum(far), numpy.sum(numpy.asarray(far)), sum(far)), (-(2**63), -(2**63), 2**63))
+        self.assertEqual(numpy.sum(Vector()), 0)
+        for reduction in (numpy.min, numpy.max):
+            self.assertRaises(ValueError, reduction, Vector())
+
     def test_columns_without_a_copy(self) -> None:
         sums = numpy.asarray(Series(range(10)).rolling("sum", 3).cells)
         self.assertEqual((sums.dtype, sums.tolist()), (numpy.int64, [sum(range(max(0, i - 2), i + 1)) for i in range(10)]))

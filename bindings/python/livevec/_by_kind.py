@@ -56,8 +56,13 @@ class _ByKind(_Compared):
         of = _kind_of(kind)
         return _value_of(of, self._valued(of, lo, hi))
 
-    def sum(self, lo: Optional[int] = None, hi: Optional[int] = None) -> int:
-        """The sum, wherever it fits 64 bits; else modulo 2**64, as `Values.sum` has it. Costs what `value` does, and raises as it does."""
+    def sum(self, lo: Optional[int] = None, hi: Optional[int] = None, *, axis: Optional[int] = None, dtype: None = None, out: None = None) -> int:
+        """The sum, wherever it fits 64 bits; else modulo 2**64, as `Values.sum` has it. Costs what `value` does, and raises as it does.
+
+        `numpy.sum(v)` calls it with the last three parameters, so that it costs no copy; it is a Python number, and wraps as numpy's sums of int64 do.
+        Raises TypeError of an `axis` but None and 0, and of any `dtype` or `out`."""
+        if axis is not None or dtype is not None or out is not None:
+            _as_one_row(axis, dtype, out)
         return _signed(self._valued(Kind.SUM, lo, hi).sum)
 
     def least(self, lo: Optional[int] = None, hi: Optional[int] = None) -> Optional[int]:
@@ -312,6 +317,15 @@ class _ManyByKind(_ByKind):
             last = edit
             _put(answers, kind, size, cells[(first - lo) * width :])
         return last
+
+
+def _as_one_row(axis: Any, dtype: Any, out: Any) -> None:
+    """That numpy asks for no more than the sum of one row."""
+    if axis is not None and axis != 0:
+        raise TypeError(f"axis is None or 0, since the elements are one row, not {axis!r}")
+    for name, given in (("dtype", dtype), ("out", out)):
+        if given is not None:
+            raise TypeError(f"a sum takes no {name}, for it is a Python number: numpy.asarray makes an array, whose sum takes one")
 
 
 # how many windows a call of C is asked for; its answers take 256 KiB
