@@ -10,7 +10,7 @@ import sys
 import time
 from array import array
 
-from livevec import Series, Vector, rolling
+from livevec import Series, Vector
 
 try:
     import numpy
@@ -170,7 +170,11 @@ def batches_of(chance):
 
 def whole_of(chance):
     column = array("q", (chance.randint(-1000, 1000) for _ in range(WHOLE)))
-    told = timed("livevec whole", 1, lambda: rolling(column, SHORT))
+
+    def ours():
+        with Series(column) as series:
+            return {kind: series.rolling(kind, SHORT).cells for kind in ("sum", "greatest")}
+    told = timed("livevec whole", 1, ours)
     if numpy is not None:
         into = {kind: numpy.empty(WHOLE, dtype="int64") for kind in ("sum", "greatest")}
 

@@ -12,7 +12,7 @@ from array import array
 from typing import Any
 
 import livevec
-from livevec import BadRange, Kind, NotKept, OutOfRange, Samples, Series, ShortBuffer, Summary, Vector, rolling
+from livevec import BadRange, Kind, NotKept, OutOfRange, Samples, Series, ShortBuffer, Summary, Vector
 from plain import value_of
 
 try:
@@ -198,14 +198,12 @@ class Rolling(unittest.TestCase):
         # the last one's window is that of `last`
         self.assertEqual(load.rolling_span("sum", 60)[1][-1], load.value_of_last("sum", 60))
 
-    def test_a_column_at_once(self) -> None:
-        told = rolling([3, 1, 4, 1, 5], 2, "least")
-        self.assertEqual({name: column.tolist() for name, column in told.items()}, {"least": [3, 1, 1, 1, 1]})
-        told = rolling([5, 6, 7], 10, ["sum", Kind.LEAST], times=[0, 9, 10])
-        self.assertEqual({name: column.tolist() for name, column in told.items()}, {"sum": [5, 11, 13], "least": [5, 5, 6]})
-        self.assertEqual(rolling([], 3)["sum"].tolist(), [])
-        self.assertRaises(livevec.Earlier, rolling, [1, 2], 3, times=[2, 1])
-        self.assertRaises(ValueError, rolling, [1, 2], 3, ["median"])
+    def test_a_column_by_hand(self) -> None:
+        self.assertEqual(Series([3, 1, 4, 1, 5]).rolling("least", 2).cells.tolist(), [3, 1, 1, 1, 1])
+        load = Samples([0, 9, 10], [5, 6, 7])
+        self.assertEqual([load.rolling_span(kind, 10).cells.tolist() for kind in ("sum", Kind.LEAST)], [[5, 11, 13], [5, 5, 6]])
+        self.assertEqual(Series().rolling("sum", 3).cells.tolist(), [])
+        self.assertRaises(ValueError, load.rolling, "median", 3)
 
 
 class Alike(unittest.TestCase):
@@ -387,14 +385,14 @@ class Pandas(unittest.TestCase):
     def test_rolling_as_pandas_does(self) -> None:
         chance = random.Random(1)
         frame = pandas.DataFrame({"load": [chance.randint(-50, 50) for _ in range(500)]})
-        told = frame.assign(**rolling(frame["load"], 24, ["sum", "least", "greatest"]))
-        windows = frame["load"].rolling(24, min_periods=1)
+        series, windows = Series(frame["load"]), frame["load"].rolling(24, min_periods=1)
+        told = frame.assign(**{kind: series.rolling(kind, 24).cells for kind in ("sum", "least", "greatest")})
         for name, wanted in (("sum", windows.sum()), ("least", windows.min()), ("greatest", windows.max())):
             self.assertEqual(told[name].tolist(), wanted.astype("int64").tolist())
         seconds = pandas.Series([chance.choice((0, 1, 5, 90)) for _ in range(500)]).cumsum()
         frame.index = pandas.to_datetime(seconds, unit="s")
-        told = rolling(frame["load"], 60, times=seconds)
-        self.assertEqual(told["sum"].tolist(), frame["load"].rolling("60s").sum().astype("int64").tolist())
+        told = Samples(seconds, frame["load"]).rolling_span("sum", 60)
+        self.assertEqual(told.cells.tolist(), frame["load"].rolling("60s").sum().astype("int64").tolist())
 
 
 if __name__ == "__main__":

@@ -7,7 +7,7 @@ from array import array
 from typing import Optional, Union
 
 from livevec import Answered, Board, Column, Delivered, Finished, Job, Kind, LongReduced, NotKept, Note, Outrun, Queries, Receipt, Reduced
-from livevec import BestRun, Placed, Refusal, Sample, Samples, Scan, Seat, Series, SharedSamples, SharedSeries, SharedVector, Subscriber, Summary, Values, Vector, Window, rolling
+from livevec import BestRun, Placed, Refusal, Sample, Samples, Scan, Seat, Series, SharedSamples, SharedSeries, SharedVector, Subscriber, Summary, Values, Vector, Window
 
 
 class Prices(Vector):
@@ -74,7 +74,7 @@ def kinds_as_they_are_told(prices: Vector, readings: Series, load: Samples, shar
     table: memoryview = memoryview(room).cast("B").cast("q", [len(room) // 2, 2])
     taken += prices.value_many(of, table, into=table) + len(readings.value_many("sum", table))
     column: Column = readings.rolling("sum", 60)
-    cells: memoryview = rolling(room, 60, ["sum", Kind.LEAST], times=room)["sum"] or load.rolling_span("sum", 60).cells
+    cells: memoryview = column.cells or load.rolling_span("sum", 60).cells
     print(least, pairs, states, some, every, column, cells)
     return sums + taken + sum(prices.value_many("sum", [(0, 1)])) + prices.total(1) + readings.total()
 

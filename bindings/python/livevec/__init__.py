@@ -38,7 +38,6 @@ from ._refusals import (
     NoSuchName, NotInOrder, NotKept, NotSaved, OtherTable, OtherVersion, OutOfRange, Outrun, Overtaken, Refusal, SeatsOut, ShortBuffer, Stranger,
     TooLarge, TooLong, TooMany, TooWide, Worn,
 )
-from ._rolling import rolling
 from ._samples import Sample, Samples, Window
 from ._scans import Column, Scan
 from ._series import Series
@@ -58,7 +57,7 @@ __all__ = [
     "SharedVector", "SharedSeries", "SharedSamples", "Subscriber", "Receipt",
     "Refusal", "Worn", "Empty", "OutOfRange", "TooLarge", "Full", "NoMemory", "BadRange", "BadLimits", "BadTable", "Stranger", "Closed",
     "ShortBuffer", "TooWide", "Outrun", "Contended", "Overtaken", "NoSeat", "SeatsOut", "Busy", "OtherVersion", "Damaged", "OtherTable", "TooLong",
-    "Series", "LongReduced", "Lent", "NotKept", "Samples", "Sample", "Window", "Earlier", "NotSaved", "rolling",
+    "Series", "LongReduced", "Lent", "NotKept", "Samples", "Sample", "Window", "Earlier", "NotSaved",
     "BadKind", "NameTaken", "NoSuchName", "TooMany", "BadName",
     "library_version", "journal", "transcript", "audit", "audit_front", "restore", "JournalEdit", "Recorded", "Verdict", "NotInOrder", "NoFront",
     "MOST_BUCKETS", "MOST_EDITS", "MOST_BOARD_BUCKETS", "MOST_SEATS", "SUMMARY_BYTES", "MOST_QUERIES",
