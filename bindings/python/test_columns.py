@@ -73,7 +73,7 @@ class Many(unittest.TestCase):
                 table = memoryview(array(code, [9, 10, 8, 301, 5, 4])).cast("B").cast(code, [3, 2])
                 with self.assertRaises(refusal) as caught:
                     holder.value_many("sum", table, into=room)
-                self.assertEqual((caught.exception.place, caught.exception.given), (1, "ranges[1]"))
+                self.assertEqual((caught.exception.place, caught.exception.given), (1, "ranges[1] = (8, 301)"))
                 with self.assertRaises(BadRange) as caught:
                     holder.value_many("sum", table[2:], into=room)
                 self.assertEqual(caught.exception.place, 0)
@@ -281,8 +281,8 @@ class Said(unittest.TestCase):
         self.said("index 6: out of range: the size is 4", OutOfRange, v.swap, 0, 6)
         self.said("the range 2 to 9: out of range: the size is 4", OutOfRange, v.sum, 2, 9)
         self.said("the range 3 to 1: a range whose start is past its end", BadRange, v.ask, 3, 1)
-        self.said("ranges[1]: out of range: the size is 4", OutOfRange, v.value_many, "sum", [(0, 4), (0, 5)])
-        self.said("indices[2]: out of range: the size is 4", OutOfRange, v.write_many, [0, 1, 4], [0, 0, 0])
+        self.said("ranges[1] = (-1, 5): out of range: the size is 4", OutOfRange, v.value_many, "sum", [(0, None), (-1, 5), (0, 9)])
+        self.said("indices[2] = 4: out of range: the size is 4", OutOfRange, v.write_many, [0, 1, 4], [0, 0, 0])
         self.said("the element is a whole number, not 1.5, which is a float", TypeError, v.push, 1.5)
         self.said("the index is a whole number, not '0', which is a str", TypeError, v.write, "0", 1)
         self.said("the end of the range is a whole number, not 'x', which is a str", TypeError, v.sum, 0, "x")
@@ -298,12 +298,45 @@ class Said(unittest.TestCase):
         self.said("index 1: out of range: kept are the indices from 2 up to 4", IndexError, lambda: s[1])
         self.said("the range 1 to 3: out of range: kept are the indices from 2 up to 4", NotKept, s.sum, 1, 3)
         self.said("the range 4 to 3: a range whose start is past its end", BadRange, s.least, 4, 3)
-        self.said("ranges[0]: out of range: kept are the indices from 2 up to 4", NotKept, s.value_many, "sum", [(1, 3)])
+        self.said("ranges[0] = (1, 3): out of range: kept are the indices from 2 up to 4", NotKept, s.value_many, "sum", [(1, 3)])
         self.said("index -1: out of range: kept are the indices from 2 up to 4", NotKept, lambda: s[-1:])
         self.said("the span -5 is outside 0 to 18446744073709551615", OverflowError, Samples().last, -5)
         self.said("the times 9 to 3: a range whose start is past its end", BadRange, Samples([1], [2]).between, 9, 3)
         self.said("the range 9 to 3: a range whose start is past its end", BadRange, Samples([1], [2]).value_between, "sum", 9, 3)
         self.said("until is a whole number, not None, which is a NoneType", TypeError, Samples().between, 9, None)
+
+    def test_the_first_wrong_one_of_many(self) -> None:
+        vector, series = Vector([1, 2]), Series([1, 2, 3])
+        series.expire(1)
+        load = Samples([0, 60], [7, 7])
+        shared = livevec.SharedVector(Vector([1, 2])), livevec.SharedSeries(series.copy()), livevec.SharedSamples(load.copy())
+        before = [holder.edits for holder in (vector, series, load, *shared)]
+        text = "elements[5000] is a whole number, not 'x', which is a str"
+        for holder in (vector, series, *shared[:2]):
+            self.said(text, TypeError, holder.extend, ("x" if place >= 5000 else place for place in range(9000)))
+            self.said("elements[1] 9223372036854775808 does not fit 64 bits: it is from -2**63 to 2**63 - 1", OverflowError, holder.extend, array("Q", [0, 2**63]))
+            self.said("values[1] is a whole number, not None, which is a NoneType", TypeError, holder.write_many, [0, 0], iter([1, None]))
+            self.said("ranges[1]: the end of the range is a whole number, not 2.5, which is a float", TypeError, holder.value_many, "sum", iter([(1, 2), (1, 2.5)]))
+        self.said(text, TypeError, vector.summary().extended, ("x" if place >= 5000 else place for place in range(9000)))
+        for many in (vector, shared[0]):
+            self.said("indices[1] = -3: out of range: the size is 2", OutOfRange, many.write_many, iter([0, -3, 9]), [5, 5, 5])
+        for kept in (series, shared[1]):
+            self.said("indices[1] = -3: out of range: kept are the indices from 1 up to 3", NotKept, kept.write_many, iter([1, -3, 9]), [5, 5, 5])
+            self.said("ranges[1] = (2, 1): a range whose start is past its end", BadRange, kept.value_many, "sum", [(1, 2), (2, 1)])
+        for times in (load, shared[2]):
+            self.said("times[0] = 59: earlier than the last sample, whose time is 60", livevec.Earlier, times.push_many, [59, 70], [1, 1])
+            self.said("time 59: earlier than the last sample, whose time is 60", livevec.Earlier, times.push, 59, 1)
+        self.said("times[1] = 4: earlier than the last sample, whose time is 5", livevec.Earlier, Samples, iter([5, 4]), [1, 1])
+        self.assertEqual([holder.edits for holder in (vector, series, load, *shared)], before)
+        self.said("table[1][2] = 8: an automaton's table with an entry above 7", livevec.BadTable, Vector, table=[[0] * 4, [0, 0, 8, 9], *[[0] * 4] * 6])
+        self.said("table[1][2] is a whole number, not 'x', which is a str", TypeError, Vector, table=[[0] * 4, [0, 0, "x", 0], *[[0] * 4] * 6])
+
+    def test_what_a_generator_raises_is_its_own(self) -> None:
+        def failing() -> Any:
+            yield 1
+            raise TypeError("mine")
+
+        self.said("mine", TypeError, Vector, failing())
 
     def test_of_a_shared_vector(self) -> None:
         with livevec.SharedVector(Vector([1, 2])) as shared:

@@ -114,7 +114,7 @@ class Windows(Twin):
             refused = caught.exception
             self.assertEqual((refused.pushed, refused.place, refused.newest), (pushed, pushed, newest))
             again = pickle.loads(pickle.dumps(refused))
-            self.assertEqual((str(again), again.newest, again.pushed, again.place), ("earlier than the last sample, whose time is 91", 91, pushed, pushed))
+            self.assertEqual((str(again), again.newest, again.pushed, again.place), (f"times[{pushed}] = 90: earlier than the last sample, whose time is 91", 91, pushed, pushed))
         self.assertIsInstance(refused, ValueError)
         self.assertRaises(ValueError, load.push_many, [1, 2], [1])
         self.assertRaises(ValueError, Samples, [1])

@@ -3,6 +3,7 @@ from __future__ import annotations
 
 import collections.abc
 import ctypes
+import itertools
 import struct
 import sys
 from array import array
@@ -63,18 +64,24 @@ def _view_of(values: Any, what: str) -> Optional[memoryview]:
     return None if given.dtype.kind == "O" else _view_of(given, what)
 
 
+# so many elements that are gone through are held at once, so that the first wrong one can be named
+_IN_HAND = 4096
+
+
 def _array_of(values: Any, what: str) -> array[int]:
-    """Elements that are gone through, as an array; where one is no such number, which."""
-    try:
-        return array("q", values)
-    except (TypeError, OverflowError):
-        if isinstance(values, collections.abc.Iterable) and not isinstance(values, (str, collections.abc.Iterator)):
-            # what may be gone through again
-            for place, value in enumerate(values):
+    """Elements that are gone through once, as an array; where one is no such number, which."""
+    if isinstance(values, str) or not isinstance(values, collections.abc.Iterable) and not hasattr(values, "__getitem__"):
+        raise TypeError(f"{what} are whole numbers one by one, in a list, a buffer or what else can be gone through, not {values!r}")
+    made, rest = array("q"), iter(values)
+    while some := list(itertools.islice(rest, _IN_HAND)):
+        try:
+            made.fromlist(some)
+        except (TypeError, OverflowError):
+            # the array is as it was, so its length is the place of the first of these
+            for place, value in enumerate(some, len(made)):
                 _as_i64(value, f"{what}[{place}]")
-        elif not isinstance(values, collections.abc.Iterator):
-            raise TypeError(f"{what} are whole numbers one by one, in a list, a buffer or what else can be gone through, not {values!r}") from None
-        raise
+            raise
+    return made
 
 
 def _as_buffer(values: Iterable[int], what: str = "elements") -> memoryview:
@@ -89,8 +96,7 @@ def _as_buffer(values: Iterable[int], what: str = "elements") -> memoryview:
     order, kind = view.format[:-1], view.format[-1:]
     if kind not in "bBhHiIlLqQnN?" or order not in ("", "@", "=", "<", ">", "!"):
         raise TypeError(f"{what} are whole numbers, and this buffer's format is {view.format!r}")
-    # array checks them one by one
-    return memoryview(array("q", struct.unpack(f"{order}{len(view)}{kind}", view.tobytes())))
+    return memoryview(_array_of(struct.unpack(f"{order}{len(view)}{kind}", view.tobytes()), what))
 
 
 def _writable(buffer: Any, what: str) -> memoryview:

@@ -261,8 +261,11 @@ class _ManyByKind(_ByKind):
         """Ranges that needn't be gone through, as C wants them, where a buffer has such."""
         raise NotImplementedError
 
-    def _asked_many(self, kind: Kind, pairs: WriteableBuffer, answers: bytearray, length: int, is_last: bool) -> Optional[int]:
-        """Asks C, and gives the last edit; None where a range was refused and that is not the last word."""
+    def _asked_many(
+        self, kind: Kind, pairs: WriteableBuffer, answers: bytearray, length: int, named: Optional[Callable[[int], str]],
+    ) -> Optional[int]:
+        """Asks C, and gives the last edit. `named` says which range stands at a place, for the text of a refusal; without it, None where a range was
+        refused, for that is not the last word."""
         raise NotImplementedError
 
     def _answers(self, kind: Kind, ranges: Any, room: Optional[memoryview]) -> tuple[int, bytearray, int]:
@@ -272,15 +275,27 @@ class _ManyByKind(_ByKind):
         length = 0 if table is None else len(table)
         if quick is not None:
             answers = _answers_for(kind, length, room)
-            edit = self._asked_many(kind, quick, answers, length, False)
+            edit = self._asked_many(kind, quick, answers, length, None)
             if edit is not None:
                 return edit, answers, length
-        pairs = self._pairs(_as_rows(ranges if table is None else table))
-        length = len(pairs) // 2
+        rows = _as_rows(ranges if table is None else table)
+        pairs, length = self._whole_pairs(rows), len(rows)
         answers = _answers_for(kind, length, room)
-        edit = self._asked_many(kind, pairs, answers, length, True)
+        edit = self._asked_many(kind, pairs, answers, length, lambda place: f"ranges[{place}] = {tuple(rows[place])}")
         assert edit is not None
         return edit, answers, length
+
+    def _whole_pairs(self, rows: list[Any]) -> array[int]:
+        """As `_pairs`; a TypeError says which range has an end that is no whole number."""
+        try:
+            return self._pairs(rows)
+        except TypeError:
+            for place, row in enumerate(rows):
+                try:
+                    self._pairs([row])
+                except TypeError as error:
+                    raise TypeError(f"ranges[{place}]: {error}") from None
+            raise
 
     def _rolled(self, kind: Kind, starts: Callable[[int, int], array[int]], lo: int, hi: int, into: Any) -> Union[Column, int]:
         """The values of ranges up to each element, it included, as a column; `starts` gives where those of the elements of a range start."""
@@ -311,7 +326,8 @@ class _ManyByKind(_ByKind):
                 size = lo + length - first
                 pairs, answers = pairs[: 2 * size], answers[: size * ctypes.sizeof(_Values)]
             pairs[0::2], pairs[1::2] = starts(first, first + size), _numbers(code, first + 1, first + size + 1)
-            edit = self._asked_many(kind, pairs, answers, size, size == length)
+            named = (lambda place: f"the range {pairs[2 * place]} to {pairs[2 * place + 1]}") if size == length else None
+            edit = self._asked_many(kind, pairs, answers, size, named)
             if edit is None or last not in (None, edit):
                 return None
             last = edit

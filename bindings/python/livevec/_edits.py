@@ -103,7 +103,8 @@ class _Edits(_Elements):
         through, is put into such an array first.
 
         All elements are pushed, or none. Raises Worn, Full and NoMemory where one would be refused: nothing has changed then, and its `pushed` is
-        0. Raises TypeError and OverflowError of a buffer of several dimensions, of floats or of what else is no whole number of 64 bits.
+        0. Raises TypeError and OverflowError of a buffer of several dimensions, of floats or of what else is no whole number of 64 bits:
+        of elements that come one by one, the text names the first wrong one and its place, as in `elements[1] is a whole number, not 'x'`.
         """
         self._extended(_as_buffer(values))
 
@@ -138,15 +139,15 @@ class _Edits(_Elements):
         All writes are made, or none. Raises Worn or OutOfRange where one is refused: its `place` says which. Raises NoMemory too. Raises
         ValueError unless there are as many values as indices, and what `extend` raises of such as are no numbers.
         """
-        places, elements = _as_places(indices, self), _as_buffer(values, "values")
-        length = len(places)
+        given, elements = _as_buffer(indices, "indices"), _as_buffer(values, "values")
+        places, length = _as_places(given, self), len(given)
         if length != len(elements):
             raise ValueError(f"there are {length} indices and {len(elements)} values")
         rows: tuple[WriteableBuffer, WriteableBuffer] = places, elements
         did = _write_many(self._at, *(ctypes.byref(_address(row)) if length else None for row in rows), length)
         self._changes += did.done
         if did.refusal:
-            raise _refuse(did.refusal, did.detail, did.done, did.place, f"indices[{did.place}]" if did.refusal in _PLACED else "")
+            raise _refuse(did.refusal, did.detail, did.done, did.place, f"indices[{did.place}] = {given[did.place]}" if did.refusal in _PLACED else "")
 
     def clear(self) -> None:
         """Drops all elements, by one edit. O(log n) amortised. Raises Worn, NoMemory. It gives no memory back."""

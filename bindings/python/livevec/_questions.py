@@ -61,13 +61,17 @@ class _Questions(_Elements, _ManyByKind):
     def _quick(self, view: memoryview) -> Optional[array[int]]:
         return _low_words(view)
 
-    def _asked_many(self, kind: Kind, pairs: WriteableBuffer, answers: bytearray, length: int, is_last: bool) -> Optional[int]:
+    def _asked_many(
+        self, kind: Kind, pairs: WriteableBuffer, answers: bytearray, length: int, named: Optional[Callable[[int], str]],
+    ) -> Optional[int]:
         did = _value_many(self._at, kind.value, _addressed(pairs, length), ctypes.byref(_address(answers)), length)
         if not did.refusal:
             return did.edit
-        if is_last or did.refusal not in _PLACED:
-            raise _refuse(did.refusal, did.detail, 0, did.place, f"ranges[{did.place}]" if did.refusal in _PLACED else "")
-        return None
+        if did.refusal not in _PLACED:
+            raise _refuse(did.refusal, did.detail, 0, did.place)
+        if named is None:
+            return None
+        raise _refuse(did.refusal, did.detail, 0, did.place, named(did.place))
 
     def _located(self, what: str, lo: Optional[int], hi: Optional[int], number: int = 0) -> Optional[_Found]:
         start, end = self._range(lo, hi)

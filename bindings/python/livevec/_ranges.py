@@ -3,9 +3,9 @@ from __future__ import annotations
 
 import sys
 from array import array
-from typing import Any, Iterable, Optional, Sized
+from typing import Any, Optional, Sized
 
-from ._buffers import _as_buffer, _view_of
+from ._buffers import _view_of
 from ._limits import _MOST_U32
 from ._numbers import _whole
 from ._refusals import BadRange, OutOfRange, _refuse, _words_of
@@ -32,11 +32,10 @@ def _ends(lo: int, hi: Optional[int], holder: Sized) -> tuple[int, int]:
     return lo, hi
 
 
-def _as_places(indices: Iterable[int], holder: Sized) -> array[int]:
+def _as_places(indices: memoryview, holder: Sized) -> array[int]:
     """Indices as C wants them, side by side, where a negative one counts from the end. What C can't be given it is given as one that it refuses."""
-    buffer = _as_buffer(indices, "indices")
-    quick = _low_words(buffer)
-    return array("I", (_place(index, holder) for index in buffer.tolist())) if quick is None else quick
+    quick = _low_words(indices)
+    return array("I", (_place(index, holder) for index in indices.tolist())) if quick is None else quick
 
 
 def _as_pairs(rows: list[Any], holder: Sized) -> array[int]:
@@ -90,7 +89,7 @@ def _given(lo: Optional[int], hi: Optional[int], holder: Sized) -> tuple[int, in
     if lo is None:
         lo = 0
     try:
-        return _ends(_whole(lo, "the start of a range"), None if hi is None else _whole(hi, "the end of a range"), holder)
+        return _ends(_whole(lo, "the start of the range"), None if hi is None else _whole(hi, "the end of the range"), holder)
     except BadRange:
         return 1, 0
     except OutOfRange:

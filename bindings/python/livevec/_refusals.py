@@ -14,7 +14,7 @@ class Refusal(Exception):
     of a ShortBuffer and the other edit of an Outrun, else 0.
     `pushed` is how many elements were taken by the `extend`, or written by the `write_many`, that was refused: none; or how many samples by the
     `push_many`. `place` is which of many writes, pushes or questions was refused, counted from 0. `given` names what of the call was wrong, as
-    "index 7" or "the range 5 to 3", where that is known.
+    "index 7", "the range 5 to 3", "indices[2] = 7", "ranges[0] = (5, 3)" or "times[1] = 60", where that is known.
     """
 
     number: int = 0
@@ -241,13 +241,13 @@ class Earlier(Refusal, ValueError):
 
     number, says = 21, "earlier than the last sample"
 
-    def __init__(self, newest: int = 0, pushed: int = 0, place: int = 0) -> None:
-        super().__init__(0, pushed, place)
-        self.args = (f"earlier than the last sample, whose time is {newest}",)
+    def __init__(self, newest: int = 0, pushed: int = 0, place: int = 0, given: str = "") -> None:
+        super().__init__(0, pushed, place, given)
+        self.args = (self._said(f"earlier than the last sample, whose time is {newest}"),)
         self.newest = newest
 
     def __reduce__(self) -> tuple[Any, ...]:
-        return type(self), (self.newest, self.pushed, self.place)
+        return type(self), (self.newest, self.pushed, self.place, self.given)
 
 
 _REFUSALS = {it.number: it for it in (Worn, Empty, OutOfRange, TooLarge, Full, NoMemory, BadRange, BadLimits, BadTable, Stranger, TooWide, Contended,

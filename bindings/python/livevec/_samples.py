@@ -107,7 +107,7 @@ class Samples(_ByIndex):
         OverflowError where a number does not fit 64 bits."""
         did = _push(self._at, _as_i64(time, "the time"), _as_i64(value, "the value"))
         if did.refusal == Earlier.number:
-            raise Earlier(did.value)
+            raise Earlier(did.value, given=f"time {time}")
         return self._edited(did).place
 
     def push_many(self, times: Iterable[int], values: Iterable[int]) -> None:
@@ -124,7 +124,7 @@ class Samples(_ByIndex):
         did = _push_many(self._at, *(ctypes.byref(_address(row)) if length else None for row in rows), length)
         self._changes += did.done
         if did.refusal == Earlier.number:
-            raise Earlier(self.sample(self.size - 1).time, did.done, did.place)
+            raise Earlier(self.sample(self.size - 1).time, did.done, did.place, f"times[{did.place}] = {rows[0][did.place]}")
         if did.refusal:
             raise _refuse(did.refusal, 0, did.done, did.place)
 

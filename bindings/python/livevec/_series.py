@@ -89,14 +89,14 @@ class Series(_ByIndex):
         many values as indices.
         """
         # of an index below 0 C makes one that is never kept; a copy, for C looks at them twice while other threads run
-        places, elements = bytearray(_as_buffer(indices, "indices")), _as_buffer(values, "values")
-        length = len(places) // 8
+        given, elements = _as_buffer(indices, "indices"), _as_buffer(values, "values")
+        places, length = bytearray(given), len(given)
         if length != len(elements):
             raise ValueError(f"there are {length} indices and {len(elements)} values")
         rows: tuple[WriteableBuffer, WriteableBuffer] = places, elements
         did = _write_many(self._at, *(ctypes.byref(_address(row)) if length else None for row in rows), length)
         self._changes += did.done
-        _all_kept(did, "indices")
+        _all_kept(did, lambda place: f"indices[{place}] = {given[place]}")
 
     def swap(self, first: int, second: int) -> int:
         """Exchanges the elements under two indices, and gives the one under the first now. O(log n). Raises Worn, NotKept."""

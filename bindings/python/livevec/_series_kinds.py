@@ -43,9 +43,9 @@ _exact_sum = _call("livevec_series_exact_sum", _SeriesSummed, _slot, _u64, _u64)
 _value_many = _call("livevec_series_value_many", _SeriesMany, _slot, _u32, _pointer, _pointer, _size, by=_released)
 
 
-def _all_kept(told: _SeriesMany, what: str) -> None:
-    """That none of many writes or questions was refused."""
-    given = f"{what}[{told.place}]" if told.refusal in _PLACED else ""
+def _all_kept(told: _SeriesMany, named: Callable[[int], str]) -> None:
+    """That none of many writes or questions was refused, each of which has a name by its place."""
+    given = named(told.place) if told.refusal in _PLACED else ""
     if told.refusal == NotKept.number:
         raise NotKept(told.first, told.size, told.place, given)
     if told.refusal:
@@ -112,11 +112,13 @@ class _SeriesKinds(_SeriesRanges, _ManyByKind):
         # a copy, for C looks at them twice while other threads run, which may write to what the caller has
         return bytearray(view.tobytes()) if view.itemsize == 8 and view.nbytes else None
 
-    def _asked_many(self, kind: Kind, pairs: WriteableBuffer, answers: bytearray, length: int, is_last: bool) -> Optional[int]:
+    def _asked_many(
+        self, kind: Kind, pairs: WriteableBuffer, answers: bytearray, length: int, named: Optional[Callable[[int], str]],
+    ) -> Optional[int]:
         did = _value_many(self._at, kind.value, _addressed(pairs, length), ctypes.byref(_address(answers)), length)
-        if did.refusal and not is_last and did.refusal in _PLACED:
+        if named is None and did.refusal in _PLACED:
             return None
-        _all_kept(did, "ranges")
+        _all_kept(did, named or str)
         return did.edit
 
     def _column(self, inclusive: bool, kind: Kind, lo: Optional[int], hi: Optional[int], at: Optional[int], most: Optional[int]) -> Column:
