@@ -9,6 +9,7 @@
 #include <cstddef>
 #include <cstdint>
 #include <iterator>
+#include <limits>
 #include <memory>
 #include <optional>
 #include <stdexcept>
@@ -61,13 +62,16 @@ template <class Word> struct index_of {
     /** Takes an integer, or an unscoped enum. */
     template <class Integer, class = std::enable_if_t<std::is_integral_v<Integer> || (std::is_enum_v<Integer> && std::is_convertible_v<Integer, std::int64_t>)>>
     constexpr index_of(Integer at) noexcept
-        : value(static_cast<std::uint64_t>(at)), given(static_cast<std::uint64_t>(at)), is_negative(!std::is_unsigned_v<Integer> && static_cast<std::int64_t>(at) < 0)
+        : value(most), given(static_cast<std::uint64_t>(at)), is_negative(!std::is_unsigned_v<Integer> && static_cast<std::int64_t>(at) < 0)
     {
-        constexpr Word most = static_cast<Word>(-1);
-        value = is_negative || given > most ? most : static_cast<Word>(given);
+        if (!is_negative && given <= most)
+            value = static_cast<Word>(given);
     }
     /** Gives it. */
     constexpr operator Word() const noexcept { return value; }
+
+  private:
+    static constexpr Word most = std::numeric_limits<Word>::max();
 };
 /** An index of a vector. */
 using position = index_of<std::uint32_t>;

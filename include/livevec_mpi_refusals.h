@@ -6,14 +6,14 @@
 
 static inline void livevec_mpi_put_(livevec_summary *into, size_t place, uint32_t word)
 {
-    for (int i = 0; i < 4; i++)
+    for (unsigned i = 0; i < 4; i++)
         into->bytes[place + i] = (uint8_t)(word >> (8 * i));
 }
 
 static inline uint32_t livevec_mpi_got_(const livevec_summary *from, size_t place)
 {
     uint32_t word = 0;
-    for (int i = 0; i < 4; i++)
+    for (unsigned i = 0; i < 4; i++)
         word |= (uint32_t)from->bytes[place + i] << (8 * i);
     return word;
 }

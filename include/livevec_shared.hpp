@@ -176,10 +176,10 @@ class shared_form : public asked<shared<Of>, typename Of::position_type> {
     }
 
     /** One more that is told which answers of these queries change. Before its first look each counts as told what `queries` says. O(1). */
-    subscriber subscribe(queries asked)
+    subscriber subscribe(queries questions)
     {
         subscriber made;
-        made.seat_->asked.emplace(std::move(asked));
+        made.seat_->asked.emplace(std::move(questions));
         check(livevec_shared_subscribe(&here().lock, made.slot(), made.seat_->asked->slot()));
         return made;
     }

@@ -40,7 +40,7 @@ static void windows_beside_rows()
         const window wanted{index(std::min(since, until)), index(std::max(since, until))}, last{index(times.back() - i % 40 + 1), times.size()};
         IS(ends(load.between(std::min(since, until), std::max(since, until))) == wanted);
         IS(ends(load.last(static_cast<std::uint64_t>(i % 40))) == last);
-        const auto at = [&](std::uint64_t i) { return values.begin() + static_cast<std::ptrdiff_t>(i); };
+        const auto at = [&](std::uint64_t place) { return values.begin() + static_cast<std::ptrdiff_t>(place); };
         const std::int64_t sum = std::accumulate(at(wanted.first), at(wanted.second), std::int64_t(0));
         IS(static_cast<std::int64_t>(load.value_between(livevec::kind::sum, std::min(since, until), std::max(since, until)).values.sum) == sum);
         const livevec_series_reduced most = load.value_of_last(livevec::kind::greatest, static_cast<std::uint64_t>(i % 40));

@@ -35,7 +35,7 @@ struct did {
     std::int64_t value;
     std::uint32_t first, second;
 };
-using receipts = std::map<std::uint32_t, did>;
+using receipts = std::map<std::uint64_t, did>;
 
 static void redo(list &all, const did &it)
 {
@@ -135,13 +135,13 @@ static receipts feed(livevec::shared_vector &shared, std::uint64_t seed, int rou
                 break;
             case 7: {
                 const list many{value, 5, -value};
-                const std::uint32_t last = shared.push_many(many);
+                const std::uint64_t last = shared.push_many(many);
                 for (std::uint32_t i = 0; i < 3; i++)
                     all[last - 2 + i] = {did::push, many[i], 0, 0};
                 break;
             }
             case 8: {
-                const std::uint32_t last = shared.write_many(std::vector<std::uint32_t>{index, other}, list{value, 9});
+                const std::uint64_t last = shared.write_many(std::vector<std::uint32_t>{index, other}, list{value, 9});
                 all[last - 1] = {did::write, value, index, 0};
                 all[last] = {did::write, 9, other, 0};
                 break;

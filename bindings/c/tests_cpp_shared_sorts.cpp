@@ -92,7 +92,7 @@ static void threads_share_a_series()
     std::vector<std::thread> feeders;
     for (int i = 0; i < 4; i++)
         feeders.emplace_back([&] {
-            for (std::uint64_t before = 0, i = 0; i < 2000; i++) {
+            for (std::uint64_t before = 0, pushes = 0; pushes < 2000; pushes++) {
                 const std::uint64_t edit = of.push(2).edit;
                 IS(before < edit);
                 before = edit;
