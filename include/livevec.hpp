@@ -16,7 +16,7 @@
  * They go in as integers (livevec::element), as a list in braces, as two iterators, as any range of integers, or as a view of an array of
  * std::int64_t. They come out as a copy: in a std::vector, or in a buffer of the caller's. begin() makes one copy, and the iterators go through it:
  * later edits change nothing of what they show, and no reference leads into the vector itself. Ranges are of indices from `lo` up to `hi`, `hi`
- * excluded; an index is any integer (livevec::position).
+ * excluded; an index is any integer (livevec::position), and so is a count or a span of time that isn't negative (livevec::amount).
  *
  * @par Costs
  * n is the number of elements. "After edits" a query of a kind costs at most O(log n) more for each edit since the last query of that kind, and the
@@ -234,7 +234,7 @@ class vector : public inner::with_jobs, public inner::asked<vector, position> {
     [[nodiscard]] std::uint32_t saved_length() const { return inner::counted(livevec_saved_length(slot())); }
     /** The saved bytes from a place on, in whole numbers of 8, as many as a buffer takes, and how many they are; 0 at the end. `from` starts at 0, and goes
      * on by what was told. O(n) for each piece. */
-    std::size_t save_into(std::uint64_t from, view<std::uint8_t> buffer) const
+    std::size_t save_into(amount_long from, view<std::uint8_t> buffer) const
     {
         return inner::checked(livevec_save(slot(), from, buffer.data(), buffer.size())).length;
     }

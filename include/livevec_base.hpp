@@ -78,6 +78,26 @@ using position = index_of<std::uint32_t>;
 /** An index of a series, or of samples. */
 using position_long = index_of<std::uint64_t>;
 
+namespace inner {
+[[noreturn]] void refuse_negative(std::int64_t given);
+}
+
+/** A count, a span of time, or a place to go on from, as calls take it: any integer but a negative one, and no floating-point number. One that doesn't fit
+ * Word is the greatest Word, which is as good as any that reaches past the end. */
+template <class Word> struct amount_of : index_of<Word> {
+    /** Takes an integer, or an unscoped enum. One below 0 is refused with LIVEVEC_OUT_OF_RANGE, so before the call that takes it; what() tells it. */
+    template <class Integer, class = std::enable_if_t<std::is_constructible_v<index_of<Word>, Integer>>>
+    constexpr amount_of(Integer much) : index_of<Word>(much)
+    {
+        if (this->is_negative)
+            inner::refuse_negative(static_cast<std::int64_t>(this->given));
+    }
+};
+/** A count of 32 bits. */
+using amount = amount_of<std::uint32_t>;
+/** A count, or a span of time, of 64 bits. */
+using amount_long = amount_of<std::uint64_t>;
+
 /** Why a call was refused: a ::livevec_refusal, and its detail. What is thrown is also a std::out_of_range if an index or a range is wrong, else a
  * std::runtime_error; it can be caught as either. A refused call changes nothing. */
 class refused {
@@ -241,6 +261,12 @@ template <class Refused> [[noreturn]] void raise(const Refused &why, const std::
     if (why.number() == LIVEVEC_OUT_OF_RANGE || why.number() == LIVEVEC_BAD_RANGE)
         throw thrown<Refused, std::out_of_range>(why, text);
     throw thrown<Refused, std::runtime_error>(why, text);
+}
+
+/** Throws as no amount is negative. */
+[[noreturn]] inline void refuse_negative(std::int64_t given)
+{
+    throw thrown<refused, std::out_of_range>(refused(LIVEVEC_OUT_OF_RANGE), "out of range: " + std::to_string(given) + " is below 0");
 }
 
 /** The digits of an index. */

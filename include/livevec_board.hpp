@@ -70,11 +70,11 @@ class [[nodiscard]] seat {
     livevec::kind kind() const noexcept { return kind_; }
 
     /** Puts an element from -32768 to 32767 at the end, and gives its index. O(1) a try. */
-    std::uint32_t push(element value, std::uint32_t tries = 1000) { return inner::checked(livevec_seat_push(slot(), value, tries)).place; }
+    std::uint32_t push(element value, amount tries = 1000) { return inner::checked(livevec_seat_push(slot(), value, tries)).place; }
     /** Drops the last element, and gives it. O(1) a try. */
-    std::int64_t pop(std::uint32_t tries = 1000) { return inner::checked(livevec_seat_pop(slot(), tries)).value; }
+    std::int64_t pop(amount tries = 1000) { return inner::checked(livevec_seat_pop(slot(), tries)).value; }
     /** Overwrites the element at an index, and gives the one before. O(1) a try. */
-    std::int64_t write(position index, element value, std::uint32_t tries = 1000)
+    std::int64_t write(position index, element value, amount tries = 1000)
     {
         return inner::checked(livevec_seat_write(slot(), index, value, tries), index).value;
     }
@@ -89,7 +89,7 @@ class [[nodiscard]] seat {
     [[nodiscard]] livevec_reduced reduce(position lo, position hi) const { return inner::checked(livevec_seat_reduce(slot(), lo, hi), lo, hi); }
 
     /** Computes the summary of a block, the eight elements from index 8 * block on, so that reductions read less. O(1). */
-    livevec_renewed refresh(std::uint32_t block) { return inner::checked(livevec_seat_refresh(slot(), block)); }
+    livevec_renewed refresh(amount block) { return inner::checked(livevec_seat_refresh(slot(), block)); }
 
     /** Gives the seat back now. Every later call is refused with LIVEVEC_NULL. O(1). */
     void close() noexcept { slot_.reset(); }
@@ -158,7 +158,7 @@ class [[nodiscard]] closed {
 class board : public inner::owned<livevec_board, livevec_free_board> {
   public:
     /** Of a kind, 1 to 8 seats, 1 to 9 buckets (k hold 8 * (2^k - 1) elements, 9 hold 4,088) and 1 to 16,777,215 edits. O(elements it may hold). */
-    explicit board(livevec::kind kind, std::uint32_t seats = 8, limits most = {9, 16777215}) : lobby_(std::make_shared<inner::lobby>(seats)), kind_(kind)
+    explicit board(livevec::kind kind, amount seats = 8, limits most = {9, 16777215}) : lobby_(std::make_shared<inner::lobby>(seats)), kind_(kind)
     {
         inner::check(livevec_board_new(slot(), inner::number(kind), most.buckets, most.edits, seats));
     }

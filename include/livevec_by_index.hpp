@@ -225,7 +225,7 @@ class by_index : public owned<Slot, Free>, public asked<Self, position_long> {
     [[nodiscard]] std::uint64_t saved_length() const { return counted_long(livevec_series_saved_length(series_slot())); }
     /** The saved bytes from a place on, in whole numbers of 8, as many as a buffer takes, and how many they are; 0 at the end. `from` starts at 0, and goes
      * on by what was told. O(length); the piece with the checksum, the last 8 bytes, O(n). */
-    std::size_t save_into(std::uint64_t from, view<std::uint8_t> buffer) const
+    std::size_t save_into(amount_long from, view<std::uint8_t> buffer) const
     {
         const livevec_series_scanned told = livevec_series_save(series_slot(), from, buffer.data(), buffer.size());
         check(told.refusal);

@@ -46,7 +46,7 @@ namespace inner {
 class with_jobs : public owned<livevec_vector, livevec_free> {
   public:
     /** Computes at most so many summaries in place, and gives how many. O(log n) for each. */
-    std::uint32_t refresh(std::uint32_t jobs) { return counted(livevec_refresh(slot(), jobs)); }
+    std::uint32_t refresh(amount jobs) { return counted(livevec_refresh(slot(), jobs)); }
     /** Forgets all claims, so that their nodes may be claimed again. O(n). */
     void forget() { check(livevec_forget(slot())); }
     /** Whether an outcome would be taken. O(1). */
@@ -73,7 +73,7 @@ class with_jobs : public owned<livevec_vector, livevec_free> {
     }
     /** Jobs of the blocks that need one, of at most `limit` from block `first` on, if there are any. None is claimed: threads that share the work ask for
      * different blocks. O(limit). */
-    [[nodiscard]] std::optional<batch> copy_blocks(std::uint32_t first, std::uint32_t limit) const
+    [[nodiscard]] std::optional<batch> copy_blocks(amount first, amount limit) const
     {
         batch made;
         made.size_ = counted(livevec_blocks(slot(), made.slot(), first, limit));
@@ -81,7 +81,7 @@ class with_jobs : public owned<livevec_vector, livevec_free> {
     }
     /** The job of a subtree: of the 4,096 elements from 4096 * number on. None if these aren't all there, or if the first or the last of their blocks
      * has its summary already: then `copy_blocks` does less. None is claimed. It copies 32 KB. */
-    [[nodiscard]] std::optional<subtree> copy_subtree(std::uint32_t number) const
+    [[nodiscard]] std::optional<subtree> copy_subtree(amount number) const
     {
         subtree made(number);
         return counted(livevec_subtree(slot(), made.slot(), number)) ? std::optional<subtree>(std::move(made)) : std::nullopt;

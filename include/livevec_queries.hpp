@@ -21,17 +21,18 @@ inline livevec_vector *handle_of(const vector &of) noexcept { return of.slot(); 
 template <class Self, class Slot, std::uint32_t (*Free)(Slot *)> livevec_series *handle_of(const by_index<Self, Slot, Free> &of) noexcept { return of.series_slot(); }
 } // namespace inner
 
-/** What a standing query asks: `query(kind::greatest).last(100).at_least(90)`. Of all, and told of at each change, if nothing is said. */
+/** What a standing query asks: `query(kind::greatest).last(100).at_least(90)`. Of all, and told of at each change, if nothing is said. What is negative
+ * where a livevec::amount_long is wanted is refused with LIVEVEC_OUT_OF_RANGE. */
 class query {
   public:
     /** By a kind. */
     query(kind of) noexcept : asked_{inner::number(of), LIVEVEC_BETWEEN, LIVEVEC_EACH_CHANGE, 0, UINT64_MAX, 0} {}
     /** Of a range, which may reach past the end: what of it exists is asked. */
-    query between(std::uint64_t lo, std::uint64_t hi) const noexcept { return over(LIVEVEC_BETWEEN, lo, hi); }
+    query between(amount_long lo, amount_long hi) const noexcept { return over(LIVEVEC_BETWEEN, lo, hi); }
     /** Of the last so many elements, or of all if there are fewer. */
-    query last(std::uint64_t count) const noexcept { return over(LIVEVEC_LAST, count, 0); }
+    query last(amount_long count) const noexcept { return over(LIVEVEC_LAST, count, 0); }
     /** Of the samples of the last so much time, as samples::last has them. */
-    query within(std::uint64_t time) const noexcept { return over(LIVEVEC_WITHIN, time, 0); }
+    query within(amount_long time) const noexcept { return over(LIVEVEC_WITHIN, time, 0); }
     /** Told of only as its answer begins or ends to be at least so much. No elements, a map and states never are; a sum is signed here. */
     query at_least(std::int64_t x) const noexcept { return by(LIVEVEC_AT_LEAST, x); }
     /** The same of at most so much. */
@@ -75,7 +76,7 @@ class [[nodiscard]] queries : public inner::owned<livevec_queries, livevec_free_
     void watch(std::string_view name, const query &asked) { inner::check(livevec_watch_query(slot(), bytes(name), name.size(), &asked.asked_)); }
 
     /** Registers a query: the value of a range by a kind. The range may reach past the end, and what of it exists is asked; left out, it is all. O(q). */
-    void watch(std::string_view name, kind of, std::uint64_t lo = 0, std::uint64_t hi = UINT64_MAX) { watch(name, query(of).between(lo, hi)); }
+    void watch(std::string_view name, kind of, amount_long lo = 0, amount_long hi = UINT64_MAX) { watch(name, query(of).between(lo, hi)); }
 
     /** Forgets one; the others keep their order, and what they were told. O(q). */
     void unwatch(std::string_view name) { inner::check(livevec_unwatch(slot(), bytes(name), name.size())); }

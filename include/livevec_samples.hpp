@@ -104,8 +104,9 @@ class samples : public inner::by_index<samples, livevec_samples, livevec_free_sa
 
     /** The samples from time `since` up to `until`: one at `since` is among them, one at `until` isn't. O(log n). */
     [[nodiscard]] livevec_window between(element since, element until) const { return window(livevec_samples_between(slot(), since, until), since, until); }
-    /** The samples of the last `span` of time, whose times are above that of the last sample minus `span`. O(log n). */
-    [[nodiscard]] livevec_window last(position_long span) const { return window(livevec_samples_last(slot(), span)); }
+    /** The samples of the last `span` of time, whose times are above that of the last sample minus `span`. A negative span is refused with
+     * LIVEVEC_OUT_OF_RANGE, here and below. O(log n). */
+    [[nodiscard]] livevec_window last(amount_long span) const { return window(livevec_samples_last(slot(), span)); }
 
     /** The value of the window that `between` gives, by one kind. O(log n); the first time O(n), which makes the tree. */
     [[nodiscard]] livevec_series_reduced value_between(kind of, element since, element until) const
@@ -113,7 +114,7 @@ class samples : public inner::by_index<samples, livevec_samples, livevec_free_sa
         return window(livevec_samples_value(slot(), inner::number(of), since, until), since, until);
     }
     /** The value of the window that `last` gives, by one kind. O(log n); the first time O(n), which makes the tree. */
-    [[nodiscard]] livevec_series_reduced value_of_last(kind of, position_long span) const
+    [[nodiscard]] livevec_series_reduced value_of_last(kind of, amount_long span) const
     {
         return window(livevec_samples_value_of_last(slot(), inner::number(of), span));
     }

@@ -318,7 +318,7 @@ class [[nodiscard]] shared<vector> : public inner::shared_form<vector> {
 
     /** Starts so many more workers, or is refused with LIVEVEC_NO_MEMORY and starts none. Each computes summaries as livevec_worker_work says: no answer
      * changes by it, `reduce` gets quick. O(count). */
-    void start_workers(std::size_t count)
+    void start_workers(amount_long count)
     {
         std::vector<inner::shared_worker> made;
         try {
@@ -416,14 +416,14 @@ class [[nodiscard]] shared<samples> : public inner::shared_by_index<samples> {
     /** The samples of a window of time, as samples::between. Another thread may edit before the next call: within a `with` it doesn't. O(log n). */
     [[nodiscard]] livevec_window between(element since, element until) const { return answer(&samples::between, since, until); }
     /** The samples of the last `span` of time, as samples::last. Another thread may edit before the next call: within a `with` it doesn't. O(log n). */
-    [[nodiscard]] livevec_window last(position_long span) const { return answer(&samples::last, span); }
+    [[nodiscard]] livevec_window last(amount_long span) const { return answer(&samples::last, span); }
     /** The value of a window of time by one kind, as samples::value_between. O(log n); the first time O(n), which makes the tree. */
     [[nodiscard]] livevec_series_reduced value_between(kind by, element since, element until) const
     {
         return answer(&samples::value_between, by, since, until);
     }
     /** The value of the last `span` of time by one kind, as samples::value_of_last. O(log n); the first time O(n), which makes the tree. */
-    [[nodiscard]] livevec_series_reduced value_of_last(kind by, position_long span) const { return answer(&samples::value_of_last, by, span); }
+    [[nodiscard]] livevec_series_reduced value_of_last(kind by, amount_long span) const { return answer(&samples::value_of_last, by, span); }
 };
 
 /** A vector that threads share. */

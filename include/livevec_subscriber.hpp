@@ -57,11 +57,9 @@ class [[nodiscard]] subscriber {
     }
 
     /** Makes it pause so long after each look from now on, or twice as long as the look took if that is longer, so that edits are not held up; at first
-     * it is a millisecond. With 0 it doesn't pause at all: each edit may be looked at then, and waits for the look. O(1). */
-    void set_pause(std::chrono::nanoseconds pause)
-    {
-        inner::check(livevec_subscriber_set_pause(slot(), static_cast<std::uint64_t>(pause.count() > 0 ? pause.count() : 0)));
-    }
+     * it is a millisecond. With 0 it doesn't pause at all: each edit may be looked at then, and waits for the look. A negative pause is refused with
+     * LIVEVEC_OUT_OF_RANGE. O(1). */
+    void set_pause(std::chrono::nanoseconds pause) { inner::check(livevec_subscriber_set_pause(slot(), amount_long(pause.count()))); }
 
   private:
     template <class Of> friend class inner::shared_form;

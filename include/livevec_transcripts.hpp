@@ -34,7 +34,7 @@ class not_restored : public refused {
 class transcript {
   public:
     /** All accepted edits of a vector behind the first `from`. O(length). */
-    [[nodiscard]] static std::vector<livevec_edit> journal(const vector &v, std::uint32_t from = 0)
+    [[nodiscard]] static std::vector<livevec_edit> journal(const vector &v, amount from = 0)
     {
         const std::uint32_t last = v.edits();
         std::vector<livevec_edit> edits(from < last ? last - from : 0);
@@ -42,7 +42,7 @@ class transcript {
         return edits;
     }
     /** The same into a buffer, as many as it takes, and how many they are. O(length). */
-    static std::size_t journal_into(const vector &v, std::uint32_t from, view<livevec_edit> edits)
+    static std::size_t journal_into(const vector &v, amount from, view<livevec_edit> edits)
     {
         const livevec_journal_read told = livevec_journal(v.slot(), from, edits.data(), edits.size());
         inner::check(told.refusal);

@@ -373,9 +373,21 @@ static void takes_any_integer_as_an_index()
     IS(livevec::to_string(0) == "0" && livevec::to_string(livevec::vector{INT64_MIN, INT64_MIN}.total(0, 2)) == "-18446744073709551616");
 }
 
+/* A count is no negative number, and one that is too large is as many as there are. */
+static void takes_no_negative_count()
+{
+    livevec::vector of{1, 2, 3, 4, 5, 6, 7, 8};
+    IS(refusal_of([&] { of.refresh(-1); }) == LIVEVEC_OUT_OF_RANGE && refusal_of([&] { (void)of.copy_blocks(0, -1); }) == LIVEVEC_OUT_OF_RANGE);
+    IS(refusal_of([&] { (void)of.copy_subtree(-1); }) == LIVEVEC_OUT_OF_RANGE && refusal_of([&] { (void)livevec::transcript::journal(of, -1); }) == LIVEVEC_OUT_OF_RANGE);
+    std::vector<std::uint8_t> room(8);
+    IS(refusal_of([&] { (void)of.save_into(-8, room); }) == LIVEVEC_OUT_OF_RANGE && refusal_of([] { livevec::board(livevec::kind::sum, -1); }) == LIVEVEC_OUT_OF_RANGE);
+    IS(of.refresh((std::uint64_t(1) << 32) + 1) == 1 && of.refresh(1) == 0);
+}
+
 int main()
 {
     takes_any_integer_as_an_index();
+    takes_no_negative_count();
     goes_in_and_comes_out();
     goes_through_a_copy();
     takes_ranges_of_integers();

@@ -21,6 +21,7 @@ static void sits_at_a_board()
     IS(one.push(-7) == 0 && two->push(12) == 1 && one.write(0, 5) == -7 && two->size() == 2 && (*two)[1] == 12);
     const livevec_reduced least = one.reduce(0, 2);
     IS(least.edit == 3 && least.values.any && least.values.least == 5);
+    IS(refusal_of([&] { one.push(1, -1); }) == LIVEVEC_OUT_OF_RANGE);
     IS(refusal_of([&] { one.push(40000); }) == LIVEVEC_TOO_WIDE && refusal_of([&] { one.refresh(0); }) == LIVEVEC_OUT_OF_RANGE);
     IS(refusal_of([&] { (void)board.close(); }) == LIVEVEC_SEATS_OUT);
     IS(refused(LIVEVEC_CONTENDED).is_outrun() && refused(LIVEVEC_OVERTAKEN).is_outrun() && !refused(LIVEVEC_FULL).is_outrun());

@@ -41,9 +41,23 @@ static void spans_and_bounds()
     IS(refusal_of([&] { (void)windows.notes(feed); }) == LIVEVEC_BAD_KIND && refusal_of([&] { (void)windows.answer(livevec::vector(), "ten"); }) == LIVEVEC_BAD_KIND);
 }
 
+/* A negative span, count or end is refused before there is a query; what is too long is all. */
+static void negative_spans()
+{
+    const livevec::query sum(livevec::kind::sum);
+    livevec::queries set;
+    const int below = -1;
+    IS(refusal_of([&] { (void)sum.last(below); }) == LIVEVEC_OUT_OF_RANGE && refusal_of([&] { (void)sum.within(INT64_MIN); }) == LIVEVEC_OUT_OF_RANGE);
+    IS(refusal_of([&] { (void)sum.between(below, 2); }) == LIVEVEC_OUT_OF_RANGE && refusal_of([&] { (void)sum.between(0, below); }) == LIVEVEC_OUT_OF_RANGE);
+    IS(refusal_of([&] { set.watch("all", livevec::kind::sum, 0, below); }) == LIVEVEC_OUT_OF_RANGE);
+    set.watch("all", sum.last(UINT64_MAX));
+    IS(told(set, livevec::vector{4, 5}) == "all 9 at 2; 2");
+}
+
 void queries()
 {
     spans_and_bounds();
+    negative_spans();
     livevec::vector feed;
     livevec::queries set;
     set.watch("total", livevec::kind::sum);

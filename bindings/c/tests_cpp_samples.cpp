@@ -4,6 +4,7 @@
 #include <algorithm>
 #include <cstdint>
 #include <numeric>
+#include <stdexcept>
 #include <utility>
 #include <vector>
 
@@ -58,6 +59,13 @@ static void samples_by_hand()
     livevec::samples load{{-5, 10}, {-5, 20}, {7, 30}};
     IS(ends(load.last(0)) == window(3, 3) && ends(load.last(1)) == window(2, 3) && ends(load.last(UINT64_MAX)) == window(0, 3));
     IS(ends(load.between(-5, 7)) == window(0, 2) && ends(load.between(8, 9)) == window(3, 3) && ends(load.between(INT64_MIN, -5)) == window(0, 0));
+    IS(refusal_of([&] { (void)load.last(-1); }) == LIVEVEC_OUT_OF_RANGE);
+    try {
+        (void)load.value_of_last(livevec::kind::sum, -60);
+        IS(false);
+    } catch (const std::out_of_range &refused) {
+        IS(refused.what() == std::string("out of range: -60 is below 0"));
+    }
     IS(refusal_of([&] { (void)load.between(7, 6); }) == LIVEVEC_BAD_RANGE && refusal_of([&] { (void)load.value_between(livevec::kind::sum, 7, 6); }) == LIVEVEC_BAD_RANGE);
     try {
         load.push(6, 1);

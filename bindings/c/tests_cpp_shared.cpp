@@ -66,6 +66,8 @@ static void looks_sleeps_and_has_the_last_notes()
     IS(told.size() == 1 && told[0].edit == 3 && told[0].values.sum == 15);
     IS(shared.write(0, 4).value == 4 && alerts.look().empty());
     // a pause doesn't hold up the close, nor does a sleep
+    IS(refusal_of([&] { alerts.set_pause(std::chrono::nanoseconds(-1)); }) == LIVEVEC_OUT_OF_RANGE);
+    IS(refusal_of([&] { shared.start_workers(-1); }) == LIVEVEC_OUT_OF_RANGE);
     alerts.set_pause(std::chrono::hours(1));
     shared.push(1);
     IS((*alerts.next())[0].values.sum == 16);
