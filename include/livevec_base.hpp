@@ -361,18 +361,25 @@ template <class Slot, std::uint32_t (*Free)(Slot *)> struct freed {
     }
 };
 
-/** Owns a handle, whose place stays the same: a handle is never copied, so that a pointer to it is what moves. */
-template <class Slot, std::uint32_t (*Free)(Slot *)> class owned {
+/** Owns a handle, whose place stays the same: a handle is never copied, so that a pointer to it is what moves. That is a std::shared_ptr<Slot> if loans
+ * hold the handle too. */
+template <class Slot, std::uint32_t (*Free)(Slot *), class Pointer = std::unique_ptr<Slot, freed<Slot, Free>>> class owned {
   public:
+    /** Takes what another has. */
+    owned(owned &&) noexcept = default;
+    /** Takes what another has. */
+    owned &operator=(owned &&) noexcept = default;
     /** The handle, for calls of livevec.h; null if this was moved from. */
     Slot *slot() const noexcept { return slot_.get(); }
 
   protected:
     /** An empty handle. */
-    owned() : slot_(new Slot{}) {}
+    owned() : slot_(new Slot{}, freed<Slot, Free>()) {}
+    /** Frees it. */
+    ~owned() = default;
 
     /** The handle. */
-    std::unique_ptr<Slot, freed<Slot, Free>> slot_;
+    Pointer slot_;
 };
 
 /** The elements of a list in braces. */

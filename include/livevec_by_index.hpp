@@ -10,6 +10,7 @@
 #include <cstddef>
 #include <cstdint>
 #include <initializer_list>
+#include <memory>
 #include <optional>
 #include <string>
 #include <utility>
@@ -47,15 +48,16 @@ inline livevec_series *elements_of(livevec_samples *slot) noexcept { return slot
 
 } // namespace inner
 
-/** The elements of a range in place: they are lent by a series, or by samples, and nothing is copied. They are good while this exists. Its end gives
- * them back, and must come before that of what lent them. Until then each other call at that is refused with LIVEVEC_BUSY. */
+/** The elements of a range in place: they are lent by a series, or by samples, and nothing is copied. They are good while this exists, also if what lent
+ * them is moved, is given others' elements, or ends: its memory is freed when both have ended. The end of this gives them back. Until then each other
+ * call at what lent them, or at what that was moved to, is refused with LIVEVEC_BUSY. */
 class lent {
   public:
     using value_type = std::int64_t;              /**< an element */
     using const_iterator = const std::int64_t *; /**< goes through the elements */
 
     /** Takes what another has. O(1). */
-    lent(lent &&other) noexcept : slot_(std::exchange(other.slot_, nullptr)), edit_(other.edit_), elements_(std::exchange(other.elements_, array_view())) {}
+    lent(lent &&other) noexcept : slot_(std::move(other.slot_)), edit_(other.edit_), elements_(std::exchange(other.elements_, array_view())) {}
     /** Exchanges with another. O(1). */
     lent &operator=(lent &&other) noexcept
     {
@@ -68,7 +70,7 @@ class lent {
     ~lent()
     {
         if (slot_)
-            livevec_series_give_back(slot_);
+            livevec_series_give_back(slot_.get());
     }
 
     /** The first element. O(1). */
@@ -88,9 +90,12 @@ class lent {
 
   private:
     template <class Self, class Slot, std::uint32_t (*Free)(Slot *)> friend class inner::by_index;
-    lent(livevec_series *slot, const livevec_series_view &view) noexcept : slot_(slot), edit_(view.edit), elements_(view.elements, view.length) {}
+    lent(std::shared_ptr<livevec_series> slot, const livevec_series_view &view) noexcept
+        : slot_(std::move(slot)), edit_(view.edit), elements_(view.elements, view.length)
+    {
+    }
 
-    livevec_series *slot_;
+    std::shared_ptr<livevec_series> slot_;
     std::uint64_t edit_;
     array_view elements_;
 };
@@ -101,7 +106,7 @@ namespace inner {
  * `first` up to `size`: any other index is refused by livevec::not_kept. A kind has a tree from the first query of that kind on. With it a query is
  * O(log n), and each edit renews the tree at once. */
 template <class Self, class Slot, std::uint32_t (*Free)(Slot *)>
-class by_index : public owned<Slot, Free>, public asked<Self, position_long> {
+class by_index : public owned<Slot, Free, std::shared_ptr<Slot>>, public asked<Self, position_long> {
   public:
     /** Drops the last element, and gives it. Each edit that is accepted has the next number. O(1) for each tree. */
     std::int64_t pop() { return kept(livevec_series_pop(series_slot()), std::uint64_t(0)).value; }
@@ -154,7 +159,11 @@ class by_index : public owned<Slot, Free>, public asked<Self, position_long> {
     [[nodiscard]] std::vector<std::int64_t> elements() const { return read(first(), size()); }
 
     /** The elements of a range without a copy, lent until what this gives ends: no other call succeeds meanwhile. O(1). */
-    [[nodiscard]] lent lend(position_long lo, position_long hi) { return lent(series_slot(), kept(livevec_series_lend(series_slot(), lo, hi), lo, hi)); }
+    [[nodiscard]] lent lend(position_long lo, position_long hi)
+    {
+        const livevec_series_view told = kept(livevec_series_lend(series_slot(), lo, hi), lo, hi);
+        return lent(std::shared_ptr<livevec_series>(this->slot_, series_slot()), told);
+    }
 
     /** Makes the tree of a kind, if there is none. O(n) then. */
     void prepare(kind of) { check(livevec_series_prepare(series_slot(), number(of))); }

@@ -4,6 +4,7 @@
 #include <algorithm>
 #include <cstdint>
 #include <numeric>
+#include <optional>
 #include <utility>
 #include <vector>
 
@@ -43,10 +44,37 @@ static void moved()
     IS(refusal_of([&] { to.pop(); }) == LIVEVEC_BUSY);
 }
 
+/* What lent the elements may end, move or take others' while they are out. The sanitizer of addresses sees that they are there, and freed in the end. */
+static void outlives_its_series()
+{
+    livevec::lent some = livevec::series{1, 2, 3}.lend(1, 3);
+    IS(some.size() == 2 && some[0] == 2 && some[1] == 3);
+    livevec::series from{4, 5, 6}, to;
+    livevec::lent of_from = from.lend(0, 2);
+    to = std::move(from);
+    IS(refusal_of([&] { to.push(7); }) == LIVEVEC_BUSY && refusal_of([&] { (void)from.size(); }) == LIVEVEC_NULL && of_from[1] == 5);
+    to = livevec::series{8};
+    IS(to.push(9) == 1 && of_from[1] == 5);
+    some = std::move(of_from);
+    IS(some.size() == 2 && some[0] == 4);
+    std::optional<livevec::samples> load(livevec::samples{{1, 50}, {3, 70}});
+    some = load->lend(0, 2);
+    load.reset();
+    IS(some[1] == 70);
+    livevec::shared<livevec::series> shared(livevec::series{1, 2});
+    shared.with([&](livevec::series &within) { some = within.lend(0, 2); });
+    IS(refusal_of([&] { shared.push(3); }) == LIVEVEC_BUSY);
+    livevec::series back = shared.close();
+    IS(refusal_of([&] { back.push(3); }) == LIVEVEC_BUSY && some[1] == 2);
+    { const livevec::lent last = std::move(some); }
+    IS(back.push(3) == 2);
+}
+
 void lent()
 {
     of_a_series();
     moved();
+    outlives_its_series();
     livevec::samples load{{1, 50}, {3, 70}, {3, 60}};
     IS(load.lend(1, 3)[1] == 60);
     IS(load.push(4, 80) == 3);
