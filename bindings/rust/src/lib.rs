@@ -3,7 +3,7 @@
 //! The library is written and proved in Rattle. This crate binds its C form, `liblivevec.a`; `build.rs` says where it is looked for.
 //! The library's calls are proved, the crate over them is tested.
 //!
-//! A [`Vector`] is one thread's at a time. A [`Board`] is for several at once, without a lock, of elements of 16 bits.
+//! A [`Vector`] is edited by one thread at a time. A [`Board`] is for several at once, without a lock, of elements of 16 bits.
 //! A [`Series`] goes on: its elements and edits are bounded by memory alone, and its front may expire.
 //! [`Samples`] are such values with times, for windows of time.
 //! [`Queries`] are names for questions, and tell which answers have changed.

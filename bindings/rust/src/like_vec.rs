@@ -1,6 +1,6 @@
 //! What a vector has as `std`'s `Vec` has it, where it can: made of elements, emptied, cloned, compared.
 
-use crate::{Refusal, Truncated, Vector};
+use crate::{Queries, Refusal, Samples, Series, Truncated, Vector};
 
 /// Made of elements, and into them again.
 impl Vector {
@@ -176,3 +176,18 @@ macro_rules! is_like_vec {
 pub(crate) use is_like_vec;
 
 is_like_vec!(Vector, "By elements: limits, edits and tables may differ. Linear.");
+
+macro_rules! are_made_of_nothing {
+    ($($of:ident)*) => {
+        $(
+            /// As `new`. Panics if there is no memory, as `Vec` does; `new` never panics.
+            impl Default for $of {
+                fn default() -> $of {
+                    $of::new().unwrap_or_else(|refusal| panic!("{refusal}"))
+                }
+            }
+        )*
+    };
+}
+
+are_made_of_nothing!(Vector Series Samples Queries);

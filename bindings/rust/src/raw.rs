@@ -4,8 +4,9 @@
 //! What C asks of who calls, and how it is kept here:
 //! - A slot starts as zeros: [`Slot::empty`].
 //! - A slot is never copied or moved: it lies in a box of its own, which lives as long as the handle, and no one is given the slot itself.
-//! - A slot serves one call at a time: a handle of a vector, a set of queries, an outcome, a board or a seat is not `Sync`, so that its `&self` calls stay
-//!   on one thread, and none of the C calls calls back. A job's slot is used by calls that own or borrow the job alone.
+//! - A call that edits has its slot for itself, and calls that read may be at one slot together: one waits until the other ends. A handle of a vector or
+//!   a series is `Sync`, since the types over these make edits by `&mut self` alone. A handle of a set of queries, an outcome, a board or a seat is not
+//!   `Sync`, so that its `&self` calls stay on one thread. None of the C calls calls back. A job's slot is used by calls that own or borrow the job alone.
 //!
 //! What only a handle that is borrowed alone may do is kept by the types over these: here each call takes `&self`.
 

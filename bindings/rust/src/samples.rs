@@ -30,12 +30,7 @@ use crate::{AsIndex, Indices, Kind, Refusal, RefusedAt, Value, Values, raw};
 /// # }
 /// ```
 ///
-/// They may be sent to another thread, and can't be shared by `&`: a question may make a tree.
-///
-/// ```compile_fail
-/// fn shared<T: Sync>(_: T) {}
-/// shared(livevec::Samples::new().unwrap());
-/// ```
+/// They may be sent to another thread, and read by several through `&`, as a [`Vector`](crate::Vector) may.
 pub struct Samples {
     values: Series,
 }

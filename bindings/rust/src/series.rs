@@ -48,12 +48,7 @@ use crate::{AsIndex, Indices, Kind, Refusal, RefusedAt, Value, Values, raw};
 /// # }
 /// ```
 ///
-/// It may be sent to another thread, and can't be shared by `&`, as a [`Vector`](crate::Vector) can't.
-///
-/// ```compile_fail
-/// fn shared<T: Sync>(_: T) {}
-/// shared(livevec::Series::new().unwrap());
-/// ```
+/// It may be sent to another thread, and read by several through `&`, as a [`Vector`](crate::Vector) may.
 pub struct Series {
     pub(crate) raw: raw::series::Series,
 }

@@ -156,6 +156,13 @@ impl Summary {
     }
 }
 
+/// That of no elements, as [`Summary::empty`].
+impl Default for Summary {
+    fn default() -> Summary {
+        Summary::empty()
+    }
+}
+
 impl fmt::Debug for Summary {
     fn fmt(&self, f: &mut fmt::Formatter<'_>) -> fmt::Result {
         f.debug_struct("Summary")

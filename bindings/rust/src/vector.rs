@@ -28,16 +28,26 @@ use crate::{Edit, Kind, Limits, Popped, Pushed, Refusal, Reserved, Swapped, Trun
 /// # }
 /// ```
 ///
-/// What `std`'s `Vec` has and this can't: `Default` and `Clone`, for memory may be wanting and they can't say so ([`new`](Vector::new) and
-/// [`try_clone`](Vector::try_clone) can); `Index`, for it lends the element itself, and the library gives elements by value alone
-/// ([`get`](Vector::get)). `Extend` and `FromIterator` are there, and panic where an element is refused; nothing else here panics.
+/// What `std`'s `Vec` has and this hasn't: `Clone`, for which it has [`try_clone`](Vector::try_clone), which says if there is no memory; and `Index`,
+/// which lends the element itself, while the library gives elements by value ([`get`](Vector::get)). `Default`, `Extend` and `FromIterator` panic if
+/// there is no memory or an element is refused; nothing else here panics.
 ///
-/// Threads: a `Vector` may be sent to another thread. It can't be shared by `&`, for a question keeps what it computed. Put it into a
-/// `Mutex`, or hand the work out as [`Job`](crate::Job)s.
+/// Threads: a `Vector` may be sent to another thread, and read by several threads through `&`. A question keeps what it computed, so reads of one
+/// vector don't run in parallel: one waits until the other ends. Edits take `&mut`: put it into an `RwLock`, or take a [`Shared`](crate::Shared).
 ///
-/// ```compile_fail
-/// fn shared<T: Sync>(_: T) {}
-/// shared(livevec::Vector::new().unwrap());
+/// ```
+/// use livevec::{Refusal, Vector};
+///
+/// # fn main() -> Result<(), Refusal> {
+/// let mut latencies = Vector::default();
+/// latencies.extend_from_slice(&[120, 80, 4000, 95])?;
+/// std::thread::scope(|scope| {
+///     let sum = scope.spawn(|| latencies.sum(..));
+///     assert_eq!(latencies.greatest(..), Ok(Some(4000)));
+///     assert_eq!(sum.join().unwrap(), Ok(4295));
+/// });
+/// # Ok(())
+/// # }
 /// ```
 pub struct Vector {
     pub(crate) raw: raw::Vector,

@@ -2,7 +2,7 @@
 
 mod plain;
 
-use std::sync::Mutex;
+use std::sync::{Mutex, RwLock};
 use std::thread;
 
 use livevec::{Accepted, Job, Node, Outcome, Refusal, Vector};
@@ -83,6 +83,6 @@ fn what_may_go_to_another_thread() {
     sends::<Job>();
     sends::<Outcome>();
     shares::<Job>();
-    shares::<Mutex<Vector>>();
+    shares::<RwLock<Vector>>();
     shares::<Refusal>();
 }

@@ -25,7 +25,7 @@ unsafe extern "C" {
 impl Vector {
     /// Jobs of blocks, and how many they are, where any of them wants one.
     pub(crate) fn copy_blocks(&self, first: u32, limit: u32) -> Result<Option<(u32, Batch)>, Refusal> {
-        // SAFETY: the vector's slot is full, and no other call is at it, since `self` is not `Sync`; the batch's is as `filled` says.
+        // SAFETY: the vector's slot is full, and no call is at it but reads, as this is one; the batch's is as `filled` says.
         let (slot, jobs) = Slot::filled(|batch| unsafe { livevec_blocks(self.at(), batch, first, limit) })?;
         Ok((jobs.value > 0).then_some((jobs.value, Batch { slot })))
     }

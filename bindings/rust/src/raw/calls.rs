@@ -1,7 +1,7 @@
 //! How calls of C are declared, and made at the slot of a handle: by a row for each. A handle has `at`, which leads to its slot.
 //!
-//! For each of these calls the slot is full, since its handle was made, and no other call is at it, since the handle is not `Sync` and C never calls
-//! back. What is passed besides is plain, or so much of an array as there is.
+//! For each of these calls the slot is full, since its handle was made. No other call is at it but reads beside a read, as `raw.rs` says. What is passed
+//! besides is plain, or so much of an array as there is.
 
 use std::ffi::c_void;
 

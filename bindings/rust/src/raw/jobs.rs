@@ -57,12 +57,12 @@ impl Vector {
     }
 
     pub(crate) fn vouches_for(&self, outcome: &Outcome) -> bool {
-        // SAFETY: see above; the outcome's slot is full, and no other call is at it, since an outcome is not `Sync` either.
+        // SAFETY: see above; the outcome's slot is full, and no other call is at it, since an outcome is not `Sync`.
         unsafe { livevec_vet(self.slot.get(), outcome.work.outcome.get()) }.yes
     }
 
     pub(crate) fn accept(&mut self, outcome: &Outcome) -> Result<Became, Refusal> {
-        // SAFETY: see above; the outcome's slot is full, and no other call is at it, since an outcome is not `Sync` either.
+        // SAFETY: see above; the outcome's slot is full, and no other call is at it, since an outcome is not `Sync`.
         unsafe { livevec_accept(self.at(), outcome.work.outcome.get()) }.answered()
     }
 }

@@ -91,8 +91,8 @@ impl Queries {
         Ok(Queries { slot })
     }
 
-    // For each call below: the slots are full, since `self` and what is asked were made, and no other call is at them, since neither is `Sync`
-    // and C never calls back. So many bytes of a name are read from a slice that has them.
+    // For each call below: the slots are full, since `self` and what is asked were made. No other call is at the set, which is not `Sync`, and only reads
+    // are at what is asked, as this is one there. So many bytes of a name are read from a slice that has them.
 
     pub(crate) fn watch(&mut self, name: &[u8], query: &Query) -> Result<(), Refusal> {
         // SAFETY: see above.

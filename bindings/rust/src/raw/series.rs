@@ -16,8 +16,10 @@ pub(crate) struct Series {
     pub(super) slot: Boxed,
 }
 
-// SAFETY: as of a vector: between calls a slot may go to another thread, and it is not `Sync`, by its cell.
+// SAFETY: as of a vector: between calls a slot may go to another thread.
 unsafe impl Send for Series {}
+// SAFETY: as of a vector: reads may be made by several threads.
+unsafe impl Sync for Series {}
 
 unsafe extern "C" {
     fn livevec_series_new(slot: *mut Slot) -> u32;

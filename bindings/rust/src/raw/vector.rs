@@ -18,8 +18,11 @@ pub(crate) struct Vector {
 }
 
 // SAFETY: between calls a slot may go to another thread, says the header; the memory behind it is from malloc. A `Vector` that is sent is
-// owned, so no call of it is under way. It is not `Sync`, by its cell: two threads with `&Vector` could be in two calls at one slot.
+// owned, so no call of it is under way.
 unsafe impl Send for Vector {}
+// SAFETY: reads of one slot may be made by several threads, says the header: one waits until the other ends, also where it keeps what it computes. All
+// that `&self` of the type over this does are reads; and C itself refuses an edit beside another call.
+unsafe impl Sync for Vector {}
 
 impl Vector {
     pub(crate) fn new(buckets: u32, edits: u32) -> Result<Vector, Refusal> {
