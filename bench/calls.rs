@@ -47,7 +47,7 @@ fn by_livevec(start: &[i64], steps: &[Step]) -> Result<Vec<Both>, Refusal> {
     series.prepare(livevec::Kind::Greatest)?;
     let mut told = Vec::with_capacity(steps.len());
     for step in steps {
-        let end = series.push(step.value)?.index as usize + 1;
+        let end = series.push(step.value)?.index + 1;
         if let Some((place, value)) = step.late {
             series.write(end - WINDOW + place, value)?;
         }
@@ -132,7 +132,7 @@ const SPANS: [u64; 3] = [60, 300, 3_600];
 const BEFORE: usize = 28_800;
 
 /// The sum, the greatest and the count of each span.
-type Spans = [(i64, i64, u64); 3];
+type Spans = [(i64, i64, usize); 3];
 
 fn samples_by_livevec(samples: &[(i64, i64)]) -> Result<Vec<Spans>, Refusal> {
     let (times, values): (Vec<i64>, Vec<i64>) = samples[..BEFORE].iter().copied().unzip();
@@ -147,7 +147,7 @@ fn samples_by_livevec(samples: &[(i64, i64)]) -> Result<Vec<Spans>, Refusal> {
         for (told, span) in spans.iter_mut().zip(SPANS) {
             let window = load.last(span);
             let Value::Sum(sum) = load.value_of_last(livevec::Kind::Sum, span)? else { unreachable!() };
-            *told = (sum, load.values().greatest(window.clone())?.unwrap_or(0), window.end - window.start);
+            *told = (sum, load.values().greatest(window.clone())?.unwrap_or(0), window.len());
         }
         told.push(spans);
     }
@@ -164,7 +164,7 @@ fn samples_by_deque(samples: &[(i64, i64)]) -> Vec<Spans> {
         SPANS.map(|span| {
             let from = held.partition_point(|&(at, _)| at <= time - span as i64);
             let values = || held.range(from..).map(|&(_, value)| value);
-            (values().sum(), values().max().expect("there are some"), values().len() as u64)
+            (values().sum(), values().max().expect("there are some"), values().len())
         })
     };
     samples[BEFORE..].iter().map(sample).collect()

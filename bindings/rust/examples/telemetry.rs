@@ -33,7 +33,7 @@ impl Store for Kept {
         self.load.subscribe(queries)
     }
 
-    fn take(&self, time: i64, values: &[i64]) -> Result<u64, Refusal> {
+    fn take(&self, time: i64, values: &[i64]) -> Result<usize, Refusal> {
         // two calls with no other writer's between them
         self.load.with(|load| {
             let first = load.values().size();
@@ -42,7 +42,7 @@ impl Store for Kept {
         })?
     }
 
-    fn correct(&self, number: u64, value: i64) -> Result<(), Refusal> {
+    fn correct(&self, number: usize, value: i64) -> Result<(), Refusal> {
         match self.load.write(number, value) {
             Err(Refusal::NotKept { .. }) => Ok(()),
             written => written.map(drop),
@@ -57,7 +57,7 @@ impl Store for Kept {
         self.load.with(|load| {
             let window = load.last(seconds);
             let of = |kind| Ok::<i64, Refusal>(number(load.value_of_last(kind, seconds)?));
-            Ok(Window { samples: window.end - window.start, sum: of(Kind::Sum)?, greatest: of(Kind::Greatest)? })
+            Ok(Window { samples: window.len(), sum: of(Kind::Sum)?, greatest: of(Kind::Greatest)? })
         })?
     }
 

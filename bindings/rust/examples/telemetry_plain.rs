@@ -12,7 +12,7 @@ use day::{HOT, Store, Window};
 #[derive(Default)]
 struct Last {
     samples: VecDeque<(i64, i64)>,
-    forgotten: u64,
+    forgotten: usize,
 }
 
 #[derive(Default)]
@@ -39,17 +39,17 @@ impl Store for Plain {
         Ok(false)
     }
 
-    fn take(&self, time: i64, values: &[i64]) -> Result<u64, Infallible> {
+    fn take(&self, time: i64, values: &[i64]) -> Result<usize, Infallible> {
         let mut last = self.locked();
-        let first = last.forgotten + last.samples.len() as u64;
+        let first = last.forgotten + last.samples.len();
         last.samples.extend(values.iter().map(|&value| (time, value)));
         Ok(first)
     }
 
-    fn correct(&self, number: u64, value: i64) -> Result<(), Infallible> {
+    fn correct(&self, number: usize, value: i64) -> Result<(), Infallible> {
         let last = &mut *self.locked();
         if number >= last.forgotten {
-            last.samples[(number - last.forgotten) as usize].1 = value;
+            last.samples[number - last.forgotten].1 = value;
         }
         Ok(())
     }
@@ -68,7 +68,7 @@ impl Store for Plain {
         let newest = last.samples.back().expect("there are some").0;
         let from = last.samples.partition_point(|&(time, _)| time <= newest - seconds as i64);
         let values = || last.samples.range(from..).map(|&(_, value)| value);
-        Ok(Window { samples: values().len() as u64, sum: values().sum(), greatest: values().max().expect("there are some") })
+        Ok(Window { samples: values().len(), sum: values().sum(), greatest: values().max().expect("there are some") })
     }
 
     fn look(&self, was_hot: &mut bool) -> Result<Option<i64>, Infallible> {

@@ -8,13 +8,13 @@ use crate::{Refusal, Vector, raw};
 #[derive(Debug, Clone, Copy, PartialEq, Eq, Hash, Default)]
 pub struct Taken {
     /// Their summaries are kept from now on.
-    pub installed: u64,
+    pub installed: usize,
     /// They were kept already.
-    pub held: u64,
+    pub held: usize,
     /// Edits overtook them.
-    pub stale: u64,
+    pub stale: usize,
     /// The vector can't vouch for them: they are another vector's, as a rule.
-    pub strangers: u64,
+    pub strangers: usize,
 }
 
 /// Jobs of blocks, of 8 elements side by side each. It holds nothing of its vector, so any thread may [`run`](Batch::run) it.
@@ -36,8 +36,8 @@ pub struct Batch {
 impl Batch {
     /// How many jobs there are: one at least. O(1).
     #[allow(clippy::len_without_is_empty)]
-    pub fn len(&self) -> u32 {
-        self.jobs
+    pub fn len(&self) -> usize {
+        self.jobs as usize
     }
 
     /// Computes all. Linear. Refused with `NoMemory`; the jobs are let go then, and since none is claimed, the vector has them still.
@@ -77,6 +77,7 @@ impl Vector {
     /// changes by it. Linear in the batch. Takes no memory, and is refused by a vector never.
     pub fn take_in(&mut self, outcomes: BatchOutcome) -> Result<Taken, Refusal> {
         let did = self.raw.accept_blocks(outcomes.raw)?;
-        Ok(Taken { installed: did.installed, held: did.held, stale: did.stale, strangers: did.strangers })
+        let [installed, held, stale, strangers] = [did.installed, did.held, did.stale, did.strangers].map(|many| many as usize);
+        Ok(Taken { installed, held, stale, strangers })
     }
 }

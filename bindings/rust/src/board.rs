@@ -143,7 +143,7 @@ pub struct Seat {
 impl Seat {
     /// Puts an element at the end. O(1) a try. Refused with `TooWide`, `Worn`, `Full`, `Contended`.
     pub fn push(&mut self, value: i64, tries: u32) -> Result<Pushed, Refusal> {
-        self.raw.push(value, tries).map(|did| Pushed { edit: did.edit, index: did.place })
+        self.raw.push(value, tries).map(|did| Pushed { edit: did.edit, index: did.place as usize })
     }
 
     /// Drops the last element. O(1) a try. Refused with `Worn`, `Empty`, `Contended`, `Overtaken`.
@@ -162,8 +162,8 @@ impl Seat {
     }
 
     /// How many elements there are. O(1). Another seat may change it at once.
-    pub fn len(&self) -> u32 {
-        self.raw.size()
+    pub fn len(&self) -> usize {
+        self.raw.size() as usize
     }
 
     /// Whether there is no element. Another seat may change it at once.
@@ -223,8 +223,8 @@ impl Closed {
     }
 
     /// How many elements there are.
-    pub fn len(&self) -> u32 {
-        self.raw.closed_size()
+    pub fn len(&self) -> usize {
+        self.raw.closed_size() as usize
     }
 
     /// Whether there is no element.
@@ -245,7 +245,7 @@ impl Closed {
 
     /// A copy of all elements. Linear. Refused with `NoMemory` alone.
     pub fn to_vec(&self) -> Result<Vec<i64>, Refusal> {
-        let length = self.len() as usize;
+        let length = self.len();
         let mut elements = Vec::new();
         elements.try_reserve_exact(length).map_err(|_| Refusal::NoMemory)?;
         elements.resize(length, 0);

@@ -12,16 +12,16 @@ pub type Elements<'a> = Through<&'a Vector>;
 pub type IntoElements = Through<Vector>;
 
 // So many elements are read by one call.
-const AT_ONCE: u64 = 128;
+const AT_ONCE: usize = 128;
 
 /// The iterator over a vector's elements, or a series', which has it or borrows it: [`Elements`], [`IntoElements`], and those of
 /// [`series`](crate::series). It reads 128 elements by one call, and takes no memory.
 pub struct Through<V> {
     of: V,
     // what is still to be given: those of `read` from `given` on up to `filled`, then lo..hi
-    lo: u64,
-    hi: u64,
-    read: [i64; AT_ONCE as usize],
+    lo: usize,
+    hi: usize,
+    read: [i64; AT_ONCE],
     given: usize,
     filled: usize,
 }
@@ -30,34 +30,34 @@ mod source {
     /// What has elements in a range of indices.
     pub trait Source {
         /// Puts those of a range into a buffer, and tells how many they are.
-        fn fill(&self, lo: u64, hi: u64, room: &mut [i64]) -> usize;
+        fn fill(&self, lo: usize, hi: usize, room: &mut [i64]) -> usize;
     }
 }
 
 use source::Source;
 
 impl Source for Vector {
-    fn fill(&self, lo: u64, hi: u64, room: &mut [i64]) -> usize {
+    fn fill(&self, lo: usize, hi: usize, room: &mut [i64]) -> usize {
         self.raw.read(lo as u32, hi as u32, room).expect("the range lies within the vector").length as usize
     }
 }
 
 impl Source for Series {
-    fn fill(&self, lo: u64, hi: u64, room: &mut [i64]) -> usize {
-        self.raw.read(lo, hi, room).expect("the range is kept").length as usize
+    fn fill(&self, lo: usize, hi: usize, room: &mut [i64]) -> usize {
+        self.raw.read(lo as u64, hi as u64, room).expect("the range is kept").length as usize
     }
 }
 
 impl<V: Source> Source for &V {
-    fn fill(&self, lo: u64, hi: u64, room: &mut [i64]) -> usize {
+    fn fill(&self, lo: usize, hi: usize, room: &mut [i64]) -> usize {
         (**self).fill(lo, hi, room)
     }
 }
 
 impl<V: Source> Through<V> {
     // The range lies within what it is of.
-    pub(crate) fn new(of: V, lo: u64, hi: u64) -> Through<V> {
-        Through { of, lo, hi, read: [0; AT_ONCE as usize], given: 0, filled: 0 }
+    pub(crate) fn new(of: V, lo: usize, hi: usize) -> Through<V> {
+        Through { of, lo, hi, read: [0; AT_ONCE], given: 0, filled: 0 }
     }
 
     fn fill(&mut self) {
@@ -84,7 +84,7 @@ impl<V: Source> Iterator for Through<V> {
     }
 
     fn size_hint(&self) -> (usize, Option<usize>) {
-        let left = self.filled - self.given + (self.hi - self.lo) as usize;
+        let left = self.filled - self.given + (self.hi - self.lo);
         (left, Some(left))
     }
 }
@@ -119,7 +119,7 @@ impl IntoIterator for Vector {
     type IntoIter = IntoElements;
 
     fn into_iter(self) -> IntoElements {
-        let size = self.len().into();
+        let size = self.len();
         Through::new(self, 0, size)
     }
 }

@@ -59,6 +59,11 @@ pub(crate) fn narrow(index: impl AsIndex) -> u32 {
     u32::try_from(index.exact()).unwrap_or(u32::MAX)
 }
 
+/// An index as a `usize`; what no list has is one that is past the end of each.
+pub(crate) fn exact(index: impl AsIndex) -> usize {
+    usize::try_from(index.exact()).unwrap_or(usize::MAX)
+}
+
 /// An index as C takes that of a series; what C can't be given is given as one that it refuses.
 pub(crate) fn wide(index: impl AsIndex) -> u64 {
     u64::try_from(index.exact()).unwrap_or(u64::MAX)

@@ -25,6 +25,9 @@
 #![warn(missing_docs, missing_debug_implementations)]
 #![deny(unsafe_code)]
 
+#[cfg(not(target_pointer_width = "64"))]
+compile_error!("livevec is for targets of 64 bits: there each index and each length is a usize");
+
 mod blocks;
 mod board;
 mod columns;

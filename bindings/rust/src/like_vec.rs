@@ -25,7 +25,7 @@ impl Vector {
 
     /// A copy of all elements. Linear. Refused with `NoMemory` alone.
     pub fn to_vec(&self) -> Result<Vec<i64>, Refusal> {
-        let length = self.len() as usize;
+        let length = self.len();
         let mut elements = Vec::new();
         elements.try_reserve_exact(length).map_err(|_| Refusal::NoMemory)?;
         elements.resize(length, 0);
@@ -156,7 +156,7 @@ macro_rules! is_like_vec {
 
         impl PartialEq<[i64]> for $of {
             fn eq(&self, other: &[i64]) -> bool {
-                u64::from(self.len()) == other.len() as u64 && self.iter().eq(other.iter().copied())
+                self.len() == other.len() && self.iter().eq(other.iter().copied())
             }
         }
 

@@ -53,7 +53,7 @@ impl Vector {
 
     /// How many more elements the limits allow: the buckets of a vector have 8, 16, 32 and so on.
     fn room(&self) -> usize {
-        8 * ((1 << self.limits.buckets()) - 1) - self.len() as usize
+        8 * ((1 << self.limits.buckets()) - 1) - self.len()
     }
 
     /// Writes each value at the index of the same place, in order, by one call. An index may come twice: the later value stays. Linear in how
@@ -77,8 +77,7 @@ impl Vector {
     /// ```
     pub fn write_many<I: AsIndex>(&mut self, indices: &[I], values: &[i64]) -> Result<u32, RefusedAt> {
         if indices.len() != values.len() {
-            let wanted = indices.len().try_into().unwrap_or(u32::MAX);
-            return Err(RefusedAt::of_all(Refusal::ShortBuffer { wanted }));
+            return Err(RefusedAt::of_all(Refusal::ShortBuffer { wanted: indices.len() }));
         }
         let indices = many(indices, I::as_narrow(indices), narrow).map_err(RefusedAt::of_all)?;
         self.raw.write_many(&indices, values)

@@ -3,27 +3,27 @@
 use crate::values::ends;
 use crate::{Indices, Vector};
 
-/// What is found of one of the two, and its searches. `$ends` makes a range's ends as C takes them.
+/// An element, and its index.
+#[derive(Debug, Clone, Copy, PartialEq, Eq, Hash)]
+pub struct Placed {
+    /// The index.
+    pub index: usize,
+    /// The element.
+    pub value: i64,
+}
+
+/// One or more neighbours that add up to the most.
+#[derive(Debug, Clone, PartialEq, Eq, Hash)]
+pub struct BestRun {
+    /// Their indices.
+    pub range: std::ops::Range<usize>,
+    /// What they add up to, which is exact.
+    pub sum: i128,
+}
+
+/// The searches of one of the two, whose indices C has as `$number`. `$ends` makes a range's ends as C takes them.
 macro_rules! is_searched {
-    ($of:ident, $index:ty, $refused:literal, |$it:ident, $range:ident| $ends:expr) => {
-        /// An element, and its index.
-        #[derive(Debug, Clone, Copy, PartialEq, Eq, Hash)]
-        pub struct Placed {
-            /// The index.
-            pub index: $index,
-            /// The element.
-            pub value: i64,
-        }
-
-        /// One or more neighbours that add up to the most.
-        #[derive(Debug, Clone, PartialEq, Eq, Hash)]
-        pub struct BestRun {
-            /// Their indices.
-            pub range: std::ops::Range<$index>,
-            /// What they add up to, which is exact.
-            pub sum: i128,
-        }
-
+    ($of:ident, $number:ty, $refused:literal, |$it:ident, $range:ident| $ends:expr) => {
         /// Searches. Each costs what `value` does, by the kind that it names.
         impl $of {
             /// The first of the least elements, and its index; none of an empty range. It asks the kind of the least.
@@ -37,20 +37,23 @@ macro_rules! is_searched {
             /// # Ok(())
             /// # }
             /// ```
-            pub fn where_least(&self, range: impl Indices) -> Result<Option<Placed>, crate::Refusal> {
+            pub fn where_least(&self, range: impl Indices) -> Result<Option<crate::Placed>, crate::Refusal> {
                 self.placed(crate::raw::Wanted::Least, range)
             }
 
             /// The first of the greatest elements, and its index; none of an empty range. It asks the kind of the greatest. Refused as `where_least`.
-            pub fn where_greatest(&self, range: impl Indices) -> Result<Option<Placed>, crate::Refusal> {
+            pub fn where_greatest(&self, range: impl Indices) -> Result<Option<crate::Placed>, crate::Refusal> {
                 self.placed(crate::raw::Wanted::Greatest, range)
             }
 
             /// The indices of the best run: of several the one that ends first, and of those the shortest. There is none of an empty range. It asks the kind
             /// of best runs. Refused as `where_least`.
-            pub fn where_best(&self, range: impl Indices) -> Result<Option<BestRun>, crate::Refusal> {
+            pub fn where_best(&self, range: impl Indices) -> Result<Option<crate::BestRun>, crate::Refusal> {
                 let told = self.found(crate::raw::Wanted::Best, range, 0)?;
-                Ok(told.map(|found| BestRun { range: found.lo..found.hi, sum: crate::places::total(found.sum_high, found.sum_low) }))
+                Ok(told.map(|found| crate::BestRun {
+                    range: found.lo as usize..found.hi as usize,
+                    sum: crate::places::total(found.sum_high, found.sum_low),
+                }))
             }
 
             /// The least end up to which the elements of a range, from its start on, add up to `sum` or more; none if they do at no end. Elements may be
@@ -63,12 +66,12 @@ macro_rules! is_searched {
             /// # Ok(())
             /// # }
             /// ```
-            pub fn where_reaches(&self, range: impl Indices, sum: i64) -> Result<Option<$index>, crate::Refusal> {
-                Ok(self.found(crate::raw::Wanted::Reaches, range, sum)?.map(|found| found.hi))
+            pub fn where_reaches(&self, range: impl Indices, sum: i64) -> Result<Option<usize>, crate::Refusal> {
+                Ok(self.found(crate::raw::Wanted::Reaches, range, sum)?.map(|found| found.hi as usize))
             }
 
             /// The greatest start from which on the elements of a range, up to its end, do; none if they do from no start. Else as `where_reaches`.
-            pub fn where_reaches_back(&self, range: impl Indices, sum: i64) -> Result<Option<$index>, crate::Refusal> {
+            pub fn where_reaches_back(&self, range: impl Indices, sum: i64) -> Result<Option<usize>, crate::Refusal> {
                 self.index_of(crate::raw::Wanted::ReachesBack, range, sum)
             }
 
@@ -82,22 +85,22 @@ macro_rules! is_searched {
             /// # Ok(())
             /// # }
             /// ```
-            pub fn where_first_at_least(&self, range: impl Indices, bound: i64) -> Result<Option<$index>, crate::Refusal> {
+            pub fn where_first_at_least(&self, range: impl Indices, bound: i64) -> Result<Option<usize>, crate::Refusal> {
                 self.index_of(crate::raw::Wanted::FirstAtLeast, range, bound)
             }
 
             /// The same of the first element that is at most `bound`. It asks the kind of the least.
-            pub fn where_first_at_most(&self, range: impl Indices, bound: i64) -> Result<Option<$index>, crate::Refusal> {
+            pub fn where_first_at_most(&self, range: impl Indices, bound: i64) -> Result<Option<usize>, crate::Refusal> {
                 self.index_of(crate::raw::Wanted::FirstAtMost, range, bound)
             }
 
             /// The same of the last element that is at least `bound`.
-            pub fn where_last_at_least(&self, range: impl Indices, bound: i64) -> Result<Option<$index>, crate::Refusal> {
+            pub fn where_last_at_least(&self, range: impl Indices, bound: i64) -> Result<Option<usize>, crate::Refusal> {
                 self.index_of(crate::raw::Wanted::LastAtLeast, range, bound)
             }
 
             /// The same of the last element that is at most `bound`. It asks the kind of the least.
-            pub fn where_last_at_most(&self, range: impl Indices, bound: i64) -> Result<Option<$index>, crate::Refusal> {
+            pub fn where_last_at_most(&self, range: impl Indices, bound: i64) -> Result<Option<usize>, crate::Refusal> {
                 self.index_of(crate::raw::Wanted::LastAtMost, range, bound)
             }
 
@@ -106,19 +109,19 @@ macro_rules! is_searched {
                 wanted: crate::raw::Wanted,
                 $range: impl Indices,
                 x: i64,
-            ) -> Result<Option<crate::raw::Found<$index>>, crate::Refusal> {
+            ) -> Result<Option<crate::raw::Found<$number>>, crate::Refusal> {
                 let $it = self;
                 let (lo, hi) = $ends;
                 let told = self.raw.find(wanted, lo, hi, x)?;
                 Ok(told.found.then_some(told))
             }
 
-            fn placed(&self, wanted: crate::raw::Wanted, range: impl Indices) -> Result<Option<Placed>, crate::Refusal> {
-                Ok(self.found(wanted, range, 0)?.map(|found| Placed { index: found.lo, value: found.value }))
+            fn placed(&self, wanted: crate::raw::Wanted, range: impl Indices) -> Result<Option<crate::Placed>, crate::Refusal> {
+                Ok(self.found(wanted, range, 0)?.map(|found| crate::Placed { index: found.lo as usize, value: found.value }))
             }
 
-            fn index_of(&self, wanted: crate::raw::Wanted, range: impl Indices, x: i64) -> Result<Option<$index>, crate::Refusal> {
-                Ok(self.found(wanted, range, x)?.map(|found| found.lo))
+            fn index_of(&self, wanted: crate::raw::Wanted, range: impl Indices, x: i64) -> Result<Option<usize>, crate::Refusal> {
+                Ok(self.found(wanted, range, x)?.map(|found| found.lo as usize))
             }
         }
     };

@@ -46,8 +46,8 @@ impl Query {
     }
 
     /// Of the last so many elements, or of all where there are fewer.
-    pub fn last(self, count: u64) -> Query {
-        self.over(1, count, 0)
+    pub fn last(self, count: usize) -> Query {
+        self.over(1, count as u64, 0)
     }
 
     /// Of the samples of the last so much time, as [`Samples::last`](crate::Samples::last) has them.

@@ -28,19 +28,19 @@ pub enum Refusal {
     /// 3: an index, or the end of a range, is past the end.
     OutOfRange {
         /// How many elements there are.
-        size: u32,
+        size: usize,
     },
     /// 3 too, of a [`Series`](crate::Series): an index, or an end of a range, isn't kept.
     NotKept {
         /// The first index that is kept.
-        first: u64,
+        first: usize,
         /// The index behind the last.
-        size: u64,
+        size: usize,
     },
     /// 4: more was to be reserved than the limits allow.
     TooLarge {
         /// The most elements.
-        limit: u32,
+        limit: usize,
     },
     /// 5: there are as many elements as the limits allow.
     Full,
@@ -82,7 +82,7 @@ pub enum Refusal {
     /// 103: a buffer shorter than what it should take, or not as many values as there are indices.
     ShortBuffer {
         /// How many values it should take, or there should be.
-        wanted: u32,
+        wanted: usize,
     },
     /// 105: somebody has each of the board's seats.
     NoSeat,
@@ -119,8 +119,8 @@ impl Refusal {
         match number {
             1 => Refusal::Worn,
             2 => Refusal::Empty,
-            3 => Refusal::OutOfRange { size: detail },
-            4 => Refusal::TooLarge { limit: detail },
+            3 => Refusal::OutOfRange { size: detail as usize },
+            4 => Refusal::TooLarge { limit: detail as usize },
             5 => Refusal::Full,
             6 => Refusal::NoMemory,
             7 => Refusal::BadRange,
@@ -134,7 +134,7 @@ impl Refusal {
             17 => Refusal::Contended { edit: detail },
             18 => Refusal::Overtaken { edit: detail },
             22 => Refusal::NotSaved,
-            103 => Refusal::ShortBuffer { wanted: detail },
+            103 => Refusal::ShortBuffer { wanted: detail as usize },
             105 => Refusal::NoSeat,
             106 => Refusal::SeatsOut,
             108 => Refusal::Busy,

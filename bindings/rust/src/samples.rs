@@ -66,7 +66,7 @@ impl Samples {
 
     /// Puts a sample at the end. O(1) amortised, and as much again for each tree. Refused with `Worn`, `Full`, `Earlier`, `NoMemory`, in this order.
     pub fn push(&mut self, time: i64, value: i64) -> Result<Pushed, Refusal> {
-        self.values.raw.push_sample(time, value).map(|did| Pushed { edit: did.edit, index: did.place })
+        self.values.raw.push_sample(time, value).map(|did| Pushed { edit: did.edit, index: did.place as usize })
     }
 
     /// Pushes each value with the time at the same place, in order, by one call, up to the first that is refused. Linear. Tells the number of the
@@ -88,8 +88,7 @@ impl Samples {
     /// ```
     pub fn push_many(&mut self, times: &[i64], values: &[i64]) -> Result<u64, RefusedAt> {
         if times.len() != values.len() {
-            let wanted = times.len().try_into().unwrap_or(u32::MAX);
-            return Err(RefusedAt::of_all(Refusal::ShortBuffer { wanted }));
+            return Err(RefusedAt::of_all(Refusal::ShortBuffer { wanted: times.len() }));
         }
         self.values.raw.push_samples(times, values)
     }
@@ -121,7 +120,7 @@ impl Samples {
 
     /// Drops the samples that were taken before a time. O(log n). It takes no memory, and gives memory back. Refused with `Worn`.
     pub fn expire_before(&mut self, time: i64) -> Result<Dropped, Refusal> {
-        self.values.raw.expire_before(time).map(|did| Dropped { edit: did.edit, dropped: did.place })
+        self.values.raw.expire_before(time).map(|did| Dropped { edit: did.edit, dropped: did.place as usize })
     }
 
     /// Makes the tree of a kind, as [`Series::prepare`] does, in O(n). Refused with `NoMemory`.
@@ -153,15 +152,15 @@ impl Samples {
     }
 
     /// The indices of the samples whose times are in a range, its end excluded. O(log n). Refused with `BadRange`.
-    pub fn between(&self, times: Range<i64>) -> Result<Range<u64>, Refusal> {
-        self.values.raw.between(times.start, times.end).map(|window| window.lo..window.hi)
+    pub fn between(&self, times: Range<i64>) -> Result<Range<usize>, Refusal> {
+        self.values.raw.between(times.start, times.end).map(|window| window.lo as usize..window.hi as usize)
     }
 
     /// The indices of the samples of the last `span` of time: those whose times are above that of the last sample less `span`. Of a span of 0
     /// there is none, and of 1 those with the last one's time. O(log n).
-    pub fn last(&self, span: u64) -> Range<u64> {
+    pub fn last(&self, span: u64) -> Range<usize> {
         let window = self.values.raw.last(span).expect("samples that are there have a window");
-        window.lo..window.hi
+        window.lo as usize..window.hi as usize
     }
 
     /// The value by one kind of the samples whose times are in a range. O(log n): the kind's tree is made first, in O(n), where there is none. Refused with

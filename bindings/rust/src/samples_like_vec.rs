@@ -8,16 +8,16 @@ use crate::indices::Indices;
 use crate::{Refusal, RefusedAt, Sample, Samples, raw, series};
 
 // So many times are read by one call.
-const AT_ONCE: u64 = 128;
+const AT_ONCE: usize = 128;
 
 /// The samples of a range of [`Samples`], which can't be edited meanwhile. It reads 128 by two calls, and takes no memory.
 pub struct Timed<'a> {
     samples: &'a Samples,
     values: series::Elements<'a>,
     // the times of those that are still to be given: of `read` from `given` on up to `filled`, then those of lo..hi
-    lo: u64,
-    hi: u64,
-    read: [i64; AT_ONCE as usize],
+    lo: usize,
+    hi: usize,
+    read: [i64; AT_ONCE],
     given: usize,
     filled: usize,
 }
@@ -144,12 +144,12 @@ impl Samples {
     pub fn samples(&self, range: impl Indices) -> Result<Timed<'_>, Refusal> {
         let (lo, hi) = self.values().ends(range);
         self.values().raw.read(lo, hi, &mut [])?;
-        Ok(self.through(lo, hi))
+        Ok(self.through(lo as usize, hi as usize))
     }
 
-    fn through(&self, lo: u64, hi: u64) -> Timed<'_> {
+    fn through(&self, lo: usize, hi: usize) -> Timed<'_> {
         let values = Through::new(self.values(), lo, hi);
-        Timed { samples: self, values, lo, hi, read: [0; AT_ONCE as usize], given: 0, filled: 0 }
+        Timed { samples: self, values, lo, hi, read: [0; AT_ONCE], given: 0, filled: 0 }
     }
 }
 

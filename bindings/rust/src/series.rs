@@ -7,7 +7,6 @@ pub use crate::Stopped;
 pub use crate::series_edits::{Dropped, Popped, Pushed, Swapped, Written};
 pub use crate::series_kinds::Filled;
 pub use crate::series_lent::Lent;
-pub use crate::series_places::{BestRun, Placed};
 pub use crate::series_scans::Running;
 
 /// The elements of a range of a [`Series`], which can't be edited meanwhile.
@@ -79,7 +78,7 @@ impl Series {
 
     /// Puts an element at the end. O(1) amortised, and as much again for each tree. Refused with `Worn`, `Full`, `NoMemory`, in this order.
     pub fn push(&mut self, value: i64) -> Result<Pushed, Refusal> {
-        self.raw.edit(EditKind::Push, 0, 0, value).map(|did| Pushed { edit: did.edit, index: did.place })
+        self.raw.edit(EditKind::Push, 0, 0, value).map(|did| Pushed { edit: did.edit, index: did.place as usize })
     }
 
     /// Pushes each element in order, by one call: all are pushed, or none. Linear. Tells the number of the last edit.
@@ -106,13 +105,13 @@ impl Series {
 
     /// Drops the elements from an index on, which is [`size`](Series::size) then. O(log n). Refused with `Worn`, `NotKept`, in this order.
     pub fn truncate(&mut self, size: impl AsIndex) -> Result<Dropped, Refusal> {
-        self.raw.edit(EditKind::Truncate, wide(size), 0, 0).map(|did| Dropped { edit: did.edit, dropped: did.place })
+        self.raw.edit(EditKind::Truncate, wide(size), 0, 0).map(|did| Dropped { edit: did.edit, dropped: did.place as usize })
     }
 
     /// Drops the elements before an index, which is [`first`](Series::first) then. The others keep their indices. O(1) amortised. It gives memory back,
     /// and is never refused for memory. Refused with `Worn`, `NotKept`, in this order.
     pub fn expire(&mut self, index: impl AsIndex) -> Result<Dropped, Refusal> {
-        self.raw.edit(EditKind::Expire, wide(index), 0, 0).map(|did| Dropped { edit: did.edit, dropped: did.place })
+        self.raw.edit(EditKind::Expire, wide(index), 0, 0).map(|did| Dropped { edit: did.edit, dropped: did.place as usize })
     }
 
     /// The element under an index. O(1). Refused with `NotKept` alone.
@@ -121,17 +120,17 @@ impl Series {
     }
 
     /// The index of the first element that is kept; where none is, that of the next that is pushed. O(1).
-    pub fn first(&self) -> u64 {
-        self.raw.first()
+    pub fn first(&self) -> usize {
+        self.raw.first() as usize
     }
 
     /// The index behind the last element. O(1).
-    pub fn size(&self) -> u64 {
-        self.raw.size()
+    pub fn size(&self) -> usize {
+        self.raw.size() as usize
     }
 
     /// How many elements are kept. O(1).
-    pub fn len(&self) -> u64 {
+    pub fn len(&self) -> usize {
         self.size() - self.first()
     }
 
@@ -192,7 +191,7 @@ impl Series {
     /// while lo < readings.size() {
     ///     let many = readings.read_into(lo.., &mut piece)?;
     ///     all.extend(&piece[..many]);
-    ///     lo += many as u64;
+    ///     lo += many;
     /// }
     /// assert_eq!(all, [20, 22, 19, 25, 24]);
     /// # Ok(())
@@ -245,8 +244,8 @@ impl Series {
     /// What a range starts and ends with. What C can't be given it is given as a range that it refuses alike.
     pub(crate) fn ends(&self, range: impl Indices) -> (u64, u64) {
         let (lo, hi) = range.ends();
-        let lo = lo.unwrap_or_else(|| i128::from(self.first()));
-        let hi = hi.unwrap_or_else(|| i128::from(self.size()));
+        let lo = lo.unwrap_or_else(|| i128::from(self.raw.first()));
+        let hi = hi.unwrap_or_else(|| i128::from(self.raw.size()));
         match (u64::try_from(lo), u64::try_from(hi)) {
             (Ok(lo), Ok(hi)) => (lo, hi),
             _ if lo > hi => (1, 0),

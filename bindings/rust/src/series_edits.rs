@@ -6,7 +6,7 @@ pub struct Pushed {
     /// The number of this edit.
     pub edit: u64,
     /// The index under which the element stands.
-    pub index: u64,
+    pub index: usize,
 }
 
 /// An accepted pop.
@@ -42,5 +42,5 @@ pub struct Dropped {
     /// The number of this edit.
     pub edit: u64,
     /// How many elements were dropped.
-    pub dropped: u64,
+    pub dropped: usize,
 }

@@ -41,8 +41,7 @@ impl Series {
     /// ```
     pub fn write_many<I: AsIndex>(&mut self, indices: &[I], values: &[i64]) -> Result<u64, RefusedAt> {
         if indices.len() != values.len() {
-            let wanted = indices.len().try_into().unwrap_or(u32::MAX);
-            return Err(RefusedAt::of_all(Refusal::ShortBuffer { wanted }));
+            return Err(RefusedAt::of_all(Refusal::ShortBuffer { wanted: indices.len() }));
         }
         let indices = many(indices, I::as_wide(indices), wide).map_err(RefusedAt::of_all)?;
         self.raw.write_many(&indices, values)

@@ -90,7 +90,7 @@ impl Series {
     pub fn elements(&self, range: impl Indices) -> Result<Elements<'_>, Refusal> {
         let (lo, hi) = self.ends(range);
         self.raw.read(lo, hi, &mut [])?;
-        Ok(Through::new(self, lo, hi))
+        Ok(Through::new(self, lo as usize, hi as usize))
     }
 }
 

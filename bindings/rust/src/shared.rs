@@ -147,9 +147,9 @@ macro_rules! forwarded {
 pub(crate) use forwarded;
 
 /// The questions that a vector, a series and the values of samples answer alike, by calls of `$of`: those that tell an edit by `$ask`, the others by
-/// `$read`. `$index`, `Placed`, `BestRun`, `Answered` and `Reduced` are those of where it is used.
+/// `$read`. `Answered` and `Reduced` are those of where it is used.
 macro_rules! questions {
-    ($of:ident, $read:ident, $ask:ident, $index:ty, |$it:ident| $asked:expr) => {
+    ($of:ident, $read:ident, $ask:ident, |$it:ident| $asked:expr) => {
         crate::shared::forwarded! {
             #[doc = concat!("As [`", stringify!($of), "::sum`].")]
             $read sum(range: impl Indices) -> i64;
@@ -174,17 +174,17 @@ macro_rules! questions {
             #[doc = concat!("As [`", stringify!($of), "::where_best`].")]
             $read where_best(range: impl Indices) -> Option<BestRun>;
             #[doc = concat!("As [`", stringify!($of), "::where_reaches`].")]
-            $read where_reaches(range: impl Indices, sum: i64) -> Option<$index>;
+            $read where_reaches(range: impl Indices, sum: i64) -> Option<usize>;
             #[doc = concat!("As [`", stringify!($of), "::where_reaches_back`].")]
-            $read where_reaches_back(range: impl Indices, sum: i64) -> Option<$index>;
+            $read where_reaches_back(range: impl Indices, sum: i64) -> Option<usize>;
             #[doc = concat!("As [`", stringify!($of), "::where_first_at_least`].")]
-            $read where_first_at_least(range: impl Indices, bound: i64) -> Option<$index>;
+            $read where_first_at_least(range: impl Indices, bound: i64) -> Option<usize>;
             #[doc = concat!("As [`", stringify!($of), "::where_first_at_most`].")]
-            $read where_first_at_most(range: impl Indices, bound: i64) -> Option<$index>;
+            $read where_first_at_most(range: impl Indices, bound: i64) -> Option<usize>;
             #[doc = concat!("As [`", stringify!($of), "::where_last_at_least`].")]
-            $read where_last_at_least(range: impl Indices, bound: i64) -> Option<$index>;
+            $read where_last_at_least(range: impl Indices, bound: i64) -> Option<usize>;
             #[doc = concat!("As [`", stringify!($of), "::where_last_at_most`].")]
-            $read where_last_at_most(range: impl Indices, bound: i64) -> Option<$index>;
+            $read where_last_at_most(range: impl Indices, bound: i64) -> Option<usize>;
         }
 
         #[doc = concat!("As [`", stringify!($of), "::value_many`]: all after one edit. The ranges are gone through before the lock is taken.")]
@@ -339,13 +339,13 @@ impl Shared {
         /// As [`Vector::get`].
         read get(index: impl AsIndex) -> i64;
         /// How many elements there are.
-        count len() -> u32;
+        count len() -> usize;
         /// Whether there is no element.
         count is_empty() -> bool;
         /// As [`Vector::value`].
         read value(kind: Kind, range: impl Indices) -> Value;
         /// As [`Vector::capacity`].
-        count capacity() -> u32;
+        count capacity() -> usize;
         /// As [`Vector::last`].
         count last() -> Option<i64>;
         /// As [`Vector::to_vec`]: a copy, after one edit.
@@ -360,7 +360,7 @@ impl Shared {
         ask scan_exclusive(range: impl Indices) -> Scan;
     }
 
-    questions!(Vector, read, ask, u32, |vector| vector);
+    questions!(Vector, read, ask, |vector| vector);
 
     /// As [`Vector::scan_inclusive_into`].
     pub fn scan_inclusive_into<'a, K: Column>(

@@ -2,9 +2,9 @@
 
 use std::ops::Range;
 
-use crate::series::{Answered, BestRun, Dropped, Filled, Placed, Popped, Pushed, Reduced, Swapped, Written};
+use crate::series::{Answered, Dropped, Filled, Popped, Pushed, Reduced, Swapped, Written};
 use crate::shared::{Sharing, forwarded, questions, sealed};
-use crate::{AsIndex, Column, Indices, Kind, Refusal, RefusedAt, Sample, Samples, Series, Shared, Value, Values, raw};
+use crate::{AsIndex, BestRun, Column, Indices, Kind, Placed, Refusal, RefusedAt, Sample, Samples, Series, Shared, Value, Values, raw};
 
 impl sealed::Sealed for Series {}
 impl Sharing for Series {
@@ -106,11 +106,11 @@ impl Shared<Series> {
         /// As [`Series::get`].
         read get(index: impl AsIndex) -> i64;
         /// The index of the first element that is kept.
-        count first() -> u64;
+        count first() -> usize;
         /// The index behind the last element.
-        count size() -> u64;
+        count size() -> usize;
         /// How many elements are kept.
-        count len() -> u64;
+        count len() -> usize;
         /// Whether none is kept.
         count is_empty() -> bool;
         /// As [`Series::value`].
@@ -127,7 +127,7 @@ impl Shared<Series> {
         read save() -> Vec<u8>;
     }
 
-    questions!(Series, read, ask, u64, |series| series);
+    questions!(Series, read, ask, |series| series);
     scans!(|series| series);
 
     /// As [`Series::extend_from_slice`]: no other edit comes between. Tells the number of the last edit.
@@ -160,11 +160,11 @@ impl Shared<Samples> {
         /// As [`Samples::get`].
         read get(index: impl AsIndex) -> Sample;
         /// The index of the first sample that is kept.
-        values_count first() -> u64;
+        values_count first() -> usize;
         /// The index behind the last sample.
-        values_count size() -> u64;
+        values_count size() -> usize;
         /// How many samples are kept.
-        values_count len() -> u64;
+        values_count len() -> usize;
         /// Whether none is kept.
         values_count is_empty() -> bool;
         /// As [`Samples::to_vec`]: a copy, after one edit.
@@ -172,9 +172,9 @@ impl Shared<Samples> {
         /// As [`Samples::times`]: a copy, after one edit.
         read times(range: impl Indices) -> Vec<i64>;
         /// As [`Samples::between`]. Before the next call another thread may edit; within a [`with`](Shared::with) it doesn't.
-        read between(times: Range<i64>) -> Range<u64>;
+        read between(times: Range<i64>) -> Range<usize>;
         /// As [`Samples::last`]. Before the next call another thread may edit; within a [`with`](Shared::with) it doesn't.
-        count last(span: u64) -> Range<u64>;
+        count last(span: u64) -> Range<usize>;
         /// As [`Samples::save`]: after one edit.
         read save() -> Vec<u8>;
         /// As [`Samples::value`]: of a window of time.
@@ -183,7 +183,7 @@ impl Shared<Samples> {
         read value_of_last(kind: Kind, span: u64) -> Value;
     }
 
-    questions!(Series, values, ask_values, u64, |samples| samples.values());
+    questions!(Series, values, ask_values, |samples| samples.values());
     scans!(|samples| samples.values());
 
     /// As [`Samples::push_many`]: no other edit comes between. Tells the number of the last edit.

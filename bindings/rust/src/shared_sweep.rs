@@ -36,7 +36,7 @@ impl Portion {
     /// How many blocks are to be computed.
     fn blocks(&self) -> u32 {
         match self {
-            Portion::Batch(batch) => batch.len(),
+            Portion::Batch(batch) => batch.len() as u32,
             Portion::Subtree(_) => BLOCKS,
         }
     }
@@ -80,7 +80,7 @@ impl Sweep {
         let (portion, end) = match subtree {
             Some(subtree) => (Some(Portion::Subtree(subtree)), self.next + BLOCKS),
             None => {
-                let end = self.end_of_batch(vector.len() / 8);
+                let end = self.end_of_batch((vector.len() / 8) as u32);
                 (vector.copy_blocks(self.next, end - self.next)?.map(Portion::Batch), end)
             }
         };
@@ -113,7 +113,7 @@ impl Sweep {
         let instead = if is_taken { Ok(None) } else { vector.copy_blocks(BLOCKS * outcome.number(), BLOCKS) };
         match instead {
             Ok(Some(batch)) => return Some(Portion::Batch(batch)),
-            Ok(None) => self.back(u64::from(is_taken)),
+            Ok(None) => self.back(usize::from(is_taken)),
             Err(_) => self.lost(vector),
         }
         None
@@ -121,7 +121,7 @@ impl Sweep {
 
     /// A portion is back, and so many nodes are new that want one above them: its blocks, or the top of a subtree. Each has a seventh of a node above
     /// it.
-    fn back(&mut self, installed: u64) {
+    fn back(&mut self, installed: usize) {
         self.out -= 1;
         self.above += installed as u32 / 7 + 1;
     }

@@ -12,9 +12,9 @@ pub struct Recorded {
     /// The edit that the answer named.
     pub edit: u32,
     /// The first index of its range.
-    pub lo: u32,
+    pub lo: usize,
     /// The index behind its last.
-    pub hi: u32,
+    pub hi: usize,
     /// The value by one kind.
     pub value: Value,
 }
@@ -139,7 +139,8 @@ impl Vector {
     }
 
     /// The text of the transcript of all edits and of answers, which rise by their edits. It is sound where each answer is true, which is for
-    /// [`Verdict::of`] to say. Linear in both. Refused with `NotInOrder`, `NoMemory`.
+    /// [`Verdict::of`] to say. Linear in both. Refused with `OutOfRange` of an index that no vector may have (2^32 or more), then with `NotInOrder`,
+    /// `NoMemory`.
     ///
     /// ```
     /// use livevec::{Recorded, Value, Vector, Verdict};
@@ -156,7 +157,12 @@ impl Vector {
     /// ```
     pub fn transcript(&self, answers: &[Recorded]) -> Result<String, Refusal> {
         let mut flat = raw::roomy(answers.len())?;
-        flat.extend(answers.iter().map(|it| calls::Recorded::new(it.edit, it.lo, it.hi, it.value)));
+        for it in answers {
+            let (Ok(lo), Ok(hi)) = (u32::try_from(it.lo), u32::try_from(it.hi)) else {
+                return Err(Refusal::OutOfRange { size: self.len() });
+            };
+            flat.push(calls::Recorded::new(it.edit, lo, hi, it.value));
+        }
         let text = self.raw.transcript(&flat)?;
         // all of it is ASCII
         Ok(String::from_utf8(text).unwrap_or_default())
@@ -204,10 +210,10 @@ fn edit_of(flat: calls::FlatEdit) -> Edit {
     match flat.what {
         1 => Edit::Push(flat.value),
         2 => Edit::Pop,
-        3 => Edit::Write { index: flat.index, value: flat.value },
-        4 => Edit::Reserve(flat.index),
-        5 => Edit::Swap { first: flat.index, second: flat.second },
-        _ => Edit::Truncate(flat.index),
+        3 => Edit::Write { index: flat.index as usize, value: flat.value },
+        4 => Edit::Reserve(flat.index as usize),
+        5 => Edit::Swap { first: flat.index as usize, second: flat.second as usize },
+        _ => Edit::Truncate(flat.index as usize),
     }
 }
 

@@ -74,7 +74,7 @@ pub struct Pushed {
     /// The number of this edit.
     pub edit: u32,
     /// Where the element stands.
-    pub index: u32,
+    pub index: usize,
 }
 
 /// An accepted pop.
@@ -101,7 +101,7 @@ pub struct Reserved {
     /// The number of this edit.
     pub edit: u32,
     /// The capacity after it.
-    pub capacity: u32,
+    pub capacity: usize,
 }
 
 /// An accepted swap.
@@ -119,7 +119,7 @@ pub struct Truncated {
     /// The number of this edit.
     pub edit: u32,
     /// How many elements were dropped.
-    pub dropped: u32,
+    pub dropped: usize,
 }
 
 /// An edit of a vector, as [`Vector::verdict`](crate::Vector::verdict) is asked about it.
@@ -132,21 +132,21 @@ pub enum Edit {
     /// An element is overwritten.
     Write {
         /// Where.
-        index: u32,
+        index: usize,
         /// By what.
         value: i64,
     },
     /// Room for so many elements in all.
-    Reserve(u32),
+    Reserve(usize),
     /// Two elements change places.
     Swap {
         /// Where one of them stands.
-        first: u32,
+        first: usize,
         /// Where the other stands.
-        second: u32,
+        second: usize,
     },
     /// So many elements are kept, the first ones.
-    Truncate(u32),
+    Truncate(usize),
 }
 
 /// Many pushes, many writes, or many questions, of which one was refused. By `?` it becomes its [`Refusal`], so that a function has one error type.
@@ -214,10 +214,10 @@ pub enum Accepted {
 
 /// The start and the end of a range of indices, where `size` is the end of one that is open. What C can't be given it is given as a range that
 /// it refuses alike.
-pub(crate) fn ends(range: impl Indices, size: impl FnOnce() -> u32) -> (u32, u32) {
+pub(crate) fn ends(range: impl Indices, size: impl FnOnce() -> usize) -> (u32, u32) {
     let (lo, hi) = range.ends();
     let lo = lo.unwrap_or(0);
-    let hi = hi.unwrap_or_else(|| i128::from(size()));
+    let hi = hi.unwrap_or_else(|| size() as i128);
     match (u32::try_from(lo), u32::try_from(hi)) {
         (Ok(lo), Ok(hi)) => (lo, hi),
         _ if lo > hi => (1, 0),

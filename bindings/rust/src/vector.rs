@@ -3,7 +3,7 @@
 use std::fmt;
 
 use crate::elements::Elements;
-use crate::indices::{AsIndex, Indices, narrow};
+use crate::indices::{AsIndex, Indices, exact, narrow};
 use crate::values::ends;
 use crate::{Edit, Kind, Limits, Popped, Pushed, Refusal, Reserved, Swapped, Truncated, Written, raw};
 
@@ -121,7 +121,7 @@ impl Vector {
 
     /// Puts an element at the end. O(log n) amortised. Refused with `Worn`, `Full`, `NoMemory`, in this order.
     pub fn push(&mut self, value: i64) -> Result<Pushed, Refusal> {
-        self.raw.edit(Edit::Push(value)).map(|did| Pushed { edit: did.edit, index: did.place })
+        self.raw.edit(Edit::Push(value)).map(|did| Pushed { edit: did.edit, index: did.place as usize })
     }
 
     /// Drops the last element. O(log n). Refused with `Worn`, `Empty`, `NoMemory`, in this order.
@@ -131,25 +131,25 @@ impl Vector {
 
     /// Overwrites an element. O(log n) amortised. Refused with `Worn`, `OutOfRange`, `NoMemory`, in this order.
     pub fn write(&mut self, index: impl AsIndex, value: i64) -> Result<Written, Refusal> {
-        self.raw.edit(Edit::Write { index: narrow(index), value }).map(|did| Written { edit: did.edit, before: did.value })
+        self.raw.edit(Edit::Write { index: exact(index), value }).map(|did| Written { edit: did.edit, before: did.value })
     }
 
     /// Makes room for so many elements in all: linear in the room. Refused with `Worn`, `TooLarge`, `NoMemory`, in this order. It is an edit
     /// like any other.
     pub fn reserve(&mut self, elements: impl AsIndex) -> Result<Reserved, Refusal> {
-        self.raw.edit(Edit::Reserve(narrow(elements))).map(|did| Reserved { edit: did.edit, capacity: did.place })
+        self.raw.edit(Edit::Reserve(exact(elements))).map(|did| Reserved { edit: did.edit, capacity: did.place as usize })
     }
 
     /// Exchanges the elements at two indices, which may be one. O(log n) amortised. Refused with `Worn`, `OutOfRange`, `NoMemory`, in this order.
     pub fn swap(&mut self, first: impl AsIndex, second: impl AsIndex) -> Result<Swapped, Refusal> {
-        let edit = Edit::Swap { first: narrow(first), second: narrow(second) };
+        let edit = Edit::Swap { first: exact(first), second: exact(second) };
         self.raw.edit(edit).map(|did| Swapped { edit: did.edit, first: did.value })
     }
 
     /// Keeps so many elements, the first ones, and drops the others. O(log n) amortised. Refused with `Worn`, `OutOfRange`, `NoMemory`, in this order. It gives
     /// no memory back.
     pub fn truncate(&mut self, elements: impl AsIndex) -> Result<Truncated, Refusal> {
-        self.raw.edit(Edit::Truncate(narrow(elements))).map(|did| Truncated { edit: did.edit, dropped: did.place })
+        self.raw.edit(Edit::Truncate(exact(elements))).map(|did| Truncated { edit: did.edit, dropped: did.place as usize })
     }
 
     /// Why an edit would be refused, want of memory apart, or `Ok` where it would be accepted. O(1), and changes nothing.
@@ -181,8 +181,8 @@ impl Vector {
     }
 
     /// How many elements there are. O(1).
-    pub fn len(&self) -> u32 {
-        self.raw.size()
+    pub fn len(&self) -> usize {
+        self.raw.size() as usize
     }
 
     /// Whether there is no element.
@@ -191,8 +191,8 @@ impl Vector {
     }
 
     /// How many elements have room without another bucket. O(1).
-    pub fn capacity(&self) -> u32 {
-        self.raw.capacity()
+    pub fn capacity(&self) -> usize {
+        self.raw.capacity() as usize
     }
 
     /// The number of the last edit, which is how many were accepted. O(1).
@@ -219,20 +219,20 @@ impl Vector {
     /// # }
     /// ```
     pub fn iter(&self) -> Elements<'_> {
-        Elements::new(self, 0, self.len().into())
+        Elements::new(self, 0, self.len())
     }
 
     /// The elements of a range; O(1) for each. Refused with `BadRange`, `OutOfRange`, in this order.
     pub fn elements(&self, range: impl Indices) -> Result<Elements<'_>, Refusal> {
-        let (lo, hi) = ends(range, || self.len());
+        let size = self.len();
+        let (lo, hi) = ends(range, || size);
         if lo > hi {
             return Err(Refusal::BadRange);
         }
-        let size = self.len();
-        if hi > size {
+        if hi as usize > size {
             return Err(Refusal::OutOfRange { size });
         }
-        Ok(Elements::new(self, lo.into(), hi.into()))
+        Ok(Elements::new(self, lo as usize, hi as usize))
     }
 
     /// Fills the front of a buffer with the elements of a range, by one call, and gives that front. Linear in the range.

@@ -16,10 +16,10 @@ fn filled() -> Vector {
 #[test]
 fn batches_come_late() {
     let mut vector = filled();
-    let blocks = u64::from(vector.len()) / 8;
+    let blocks = vector.len() / 8;
     let first = vector.copy_blocks(0, u32::MAX).unwrap().unwrap();
     let again = vector.copy_blocks(0, u32::MAX).unwrap().unwrap();
-    assert_eq!((u64::from(first.len()), format!("{first:?}")), (blocks, format!("Batch {{ len: {blocks}, .. }}")));
+    assert_eq!((first.len(), format!("{first:?}")), (blocks, format!("Batch {{ len: {blocks}, .. }}")));
     vector.write(17, 0).unwrap();
     vector.truncate(SIZE as u32 - 5).unwrap();
     let taken = vector.take_in(first.run().unwrap()).unwrap();
@@ -84,5 +84,5 @@ fn four_workers_refresh_all_again_and_again() {
         shared.write(9, 9 + (1..=round).sum::<i64>()).unwrap();
     }
     shared.stop_workers().unwrap();
-    assert_eq!(i64::from(shared.close().unwrap().len()), SIZE);
+    assert_eq!(shared.close().unwrap().len() as i64, SIZE);
 }

@@ -125,13 +125,13 @@ fn insist<T>(mut call: impl FnMut() -> Result<T, Refusal>) -> Result<T, Refusal>
 }
 
 /// Pushes the number, then writes over each of its elements, and sums all the while. Gives its edits and places.
-fn play(seat: &mut Seat, number: i64) -> (Vec<u32>, Vec<u32>) {
+fn play(seat: &mut Seat, number: i64) -> (Vec<u32>, Vec<usize>) {
     let (mut edits, mut places) = (Vec::new(), Vec::new());
     let sums = |seat: &Seat, last: u32| {
         let size = seat.len();
         let told = insist(|| seat.reduce(..size)).unwrap();
         let Value::Sum(sum) = told.value else { panic!("a board of sums tells {told:?}") };
-        assert!(told.edit >= last && sum >= i64::from(size) && sum <= i64::from(size) * (100 + THREADS));
+        assert!(told.edit >= last && sum >= size as i64 && sum <= size as i64 * (100 + THREADS));
     };
     for _ in 0..ROUNDS {
         let did = insist(|| seat.push(number, 3)).unwrap();
@@ -154,7 +154,7 @@ fn play(seat: &mut Seat, number: i64) -> (Vec<u32>, Vec<u32>) {
 fn eight_threads_share_one_list_of_edits() {
     let mut board = Board::new(Kind::Sum, 8).unwrap();
     let mut seats: Vec<Seat> = (0..THREADS).map(|_| board.sit().unwrap()).collect();
-    let played: Vec<(Vec<u32>, Vec<u32>)> = thread::scope(|scope| {
+    let played: Vec<(Vec<u32>, Vec<usize>)> = thread::scope(|scope| {
         let threads: Vec<_> = seats.iter_mut().zip(1..).map(|(seat, number)| scope.spawn(move || play(seat, number))).collect();
         threads.into_iter().map(|thread| thread.join().unwrap()).collect()
     });
@@ -165,7 +165,7 @@ fn eight_threads_share_one_list_of_edits() {
     let elements = closed.to_vec().unwrap();
     let (mut edits, mut places) = (Vec::new(), Vec::new());
     for (number, (its_edits, its_places)) in (1..).zip(&played) {
-        assert!(its_places.iter().all(|&place| elements[place as usize] == 100 + number));
+        assert!(its_places.iter().all(|&place| elements[place] == 100 + number));
         edits.extend_from_slice(its_edits);
         places.extend_from_slice(its_places);
     }

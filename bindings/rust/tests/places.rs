@@ -9,73 +9,70 @@ use livevec::{Refusal, Samples, Series, Vector};
 use plain::numbers;
 
 /// An element or a run where it stands, as all three tell it.
-type Placed = Option<(u64, i64)>;
-type Run = Option<(Range<u64>, i128)>;
+type Placed = Option<(usize, i64)>;
+type Run = Option<(Range<usize>, i128)>;
 
 /// What is asked of each of the three.
 trait Asked {
     fn extreme(&self, greatest: bool, range: Range<usize>) -> Result<Placed, Refusal>;
     fn best(&self, range: Range<usize>) -> Result<Run, Refusal>;
-    fn reaches(&self, back: bool, range: Range<usize>, sum: i64) -> Result<Option<u64>, Refusal>;
-    fn within(&self, last: bool, most: bool, range: Range<usize>, bound: i64) -> Result<Option<u64>, Refusal>;
+    fn reaches(&self, back: bool, range: Range<usize>, sum: i64) -> Result<Option<usize>, Refusal>;
+    fn within(&self, last: bool, most: bool, range: Range<usize>, bound: i64) -> Result<Option<usize>, Refusal>;
 }
 
 macro_rules! asked {
-    ($type:ty, $index:ty, $it:ident => $series:expr) => {
+    ($type:ty, $it:ident => $series:expr) => {
         impl Asked for $type {
             fn extreme(&self, greatest: bool, range: Range<usize>) -> Result<Placed, Refusal> {
-                let ($it, range) = (self, range.start as $index..range.end as $index);
+                let $it = self;
                 let told = if greatest { $series.where_greatest(range) } else { $series.where_least(range) };
-                told.map(|placed| placed.map(|placed| (u64::from(placed.index), placed.value)))
+                told.map(|placed| placed.map(|placed| (placed.index, placed.value)))
             }
             fn best(&self, range: Range<usize>) -> Result<Run, Refusal> {
-                let ($it, range) = (self, range.start as $index..range.end as $index);
+                let $it = self;
                 let told = $series.where_best(range)?;
-                Ok(told.map(|run| (u64::from(run.range.start)..u64::from(run.range.end), run.sum)))
+                Ok(told.map(|run| (run.range, run.sum)))
             }
-            fn reaches(&self, back: bool, range: Range<usize>, sum: i64) -> Result<Option<u64>, Refusal> {
-                let ($it, range) = (self, range.start as $index..range.end as $index);
-                let told = if back { $series.where_reaches_back(range, sum) } else { $series.where_reaches(range, sum) };
-                told.map(|index| index.map(u64::from))
+            fn reaches(&self, back: bool, range: Range<usize>, sum: i64) -> Result<Option<usize>, Refusal> {
+                let $it = self;
+                if back { $series.where_reaches_back(range, sum) } else { $series.where_reaches(range, sum) }
             }
-            fn within(&self, last: bool, most: bool, range: Range<usize>, bound: i64) -> Result<Option<u64>, Refusal> {
-                let ($it, range) = (self, range.start as $index..range.end as $index);
-                let told = match (last, most) {
+            fn within(&self, last: bool, most: bool, range: Range<usize>, bound: i64) -> Result<Option<usize>, Refusal> {
+                let $it = self;
+                match (last, most) {
                     (false, false) => $series.where_first_at_least(range, bound),
                     (false, true) => $series.where_first_at_most(range, bound),
                     (true, false) => $series.where_last_at_least(range, bound),
                     (true, true) => $series.where_last_at_most(range, bound),
-                };
-                told.map(|index| index.map(u64::from))
+                }
             }
         }
     };
 }
-asked!(Vector, u32, it => it);
-asked!(Series, u64, it => it);
-asked!(Samples, u64, it => it.values());
+asked!(Vector, it => it);
+asked!(Series, it => it);
+asked!(Samples, it => it.values());
 
 fn best_of(list: &[i64], range: Range<usize>) -> Run {
     let sum = |start: usize, end: usize| list[start..end].iter().map(|&x| i128::from(x)).sum::<i128>();
     let runs = (range.start + 1..=range.end).flat_map(|end| (range.start..end).map(move |start| (start, end)));
-    runs.max_by_key(|&(start, end)| (sum(start, end), Reverse(end), start)).map(|(start, end)| (start as u64..end as u64, sum(start, end)))
+    runs.max_by_key(|&(start, end)| (sum(start, end), Reverse(end), start)).map(|(start, end)| (start..end, sum(start, end)))
 }
 
 /// All searches of a range, by some numbers.
 fn look(asked: &impl Asked, list: &[i64], range: Range<usize>, sum: i64, bound: i64) {
-    let placed = |at: usize| (at as u64, list[at]);
+    let placed = |at: usize| (at, list[at]);
     let total = |part: &[i64]| part.iter().map(|&x| i128::from(x)).sum::<i128>() >= sum.into();
-    let some = |index: Option<usize>| Ok(index.map(|index| index as u64));
     assert_eq!(asked.extreme(false, range.clone()), Ok(range.clone().min_by_key(|&at| list[at]).map(placed)));
     assert_eq!(asked.extreme(true, range.clone()), Ok(range.clone().min_by_key(|&at| Reverse(list[at])).map(placed)));
     assert_eq!(asked.best(range.clone()), Ok(best_of(list, range.clone())));
     let Range { start, end } = range;
-    assert_eq!(asked.reaches(false, range.clone(), sum), some((start..=end).find(|&end| total(&list[start..end]))));
-    assert_eq!(asked.reaches(true, range.clone(), sum), some((start..=end).rev().find(|&start| total(&list[start..end]))));
+    assert_eq!(asked.reaches(false, range.clone(), sum), Ok((start..=end).find(|&end| total(&list[start..end]))));
+    assert_eq!(asked.reaches(true, range.clone(), sum), Ok((start..=end).rev().find(|&start| total(&list[start..end]))));
     for most in [false, true] {
         let within = |&at: &usize| if most { list[at] <= bound } else { list[at] >= bound };
-        assert_eq!(asked.within(false, most, range.clone(), bound), some(range.clone().find(within)));
-        assert_eq!(asked.within(true, most, range.clone(), bound), some(range.clone().rev().find(within)));
+        assert_eq!(asked.within(false, most, range.clone(), bound), Ok(range.clone().find(within)));
+        assert_eq!(asked.within(true, most, range.clone(), bound), Ok(range.clone().rev().find(within)));
     }
 }
 

@@ -2,7 +2,7 @@
 
 mod plain;
 
-use livevec::{Kind, Refusal, Sample, Samples, Value, series};
+use livevec::{Kind, Placed, Refusal, Sample, Samples, Value, series};
 use plain::{numbers, plain};
 
 /// The plain twin: the sample under index i has `times[i]` and `values[i]`, from `first` on.
@@ -21,7 +21,7 @@ impl Twin {
     }
 
     fn not_kept(&self) -> Refusal {
-        Refusal::NotKept { first: self.first as u64, size: self.times.len() as u64 }
+        Refusal::NotKept { first: self.first, size: self.times.len() }
     }
 
     fn push(&mut self, load: &mut Samples, time: i64, value: i64) {
@@ -30,7 +30,7 @@ impl Twin {
             Some(newest) if time < newest => assert_eq!(load.push(time, value), Err(Refusal::Earlier { newest })),
             _ => {
                 self.edits += 1;
-                let pushed = series::Pushed { edit: self.edits, index: self.times.len() as u64 };
+                let pushed = series::Pushed { edit: self.edits, index: self.times.len() };
                 assert_eq!(load.push(time, value), Ok(pushed));
                 self.times.push(time);
                 self.values.push(value);
@@ -40,24 +40,24 @@ impl Twin {
 
     fn drop_before(&mut self, index: usize, did: Result<series::Dropped, Refusal>) {
         self.edits += 1;
-        assert_eq!(did, Ok(series::Dropped { edit: self.edits, dropped: (index - self.first) as u64 }));
+        assert_eq!(did, Ok(series::Dropped { edit: self.edits, dropped: index - self.first }));
         self.first = index;
     }
 
     fn look(&self, load: &Samples, since: i64, until: i64) {
         let (lo, hi) = (self.since(since.into()), self.since(until.into()));
-        assert_eq!(load.between(since..until), Ok(lo as u64..hi as u64));
+        assert_eq!(load.between(since..until), Ok(lo..hi));
         for kind in Kind::ALL {
             assert_eq!(load.value(kind, since..until), Ok(plain(kind, &self.values[lo..hi])));
         }
         for span in [0, 1, 5, 40, 1 << 63, u64::MAX] {
             let newest = self.times[self.first..].last().map_or(0, |&newest| i128::from(newest));
             let (lo, hi) = (self.since(newest - i128::from(span) + 1), self.times.len());
-            assert_eq!(load.last(span), lo as u64..hi as u64);
+            assert_eq!(load.last(span), lo..hi);
             assert_eq!(load.value_of_last(Kind::Greatest, span), Ok(plain(Kind::Greatest, &self.values[lo..hi])));
         }
         let values = load.values();
-        assert_eq!((values.first(), values.size(), values.edits()), (self.first as u64, self.times.len() as u64, self.edits));
+        assert_eq!((values.first(), values.size(), values.edits()), (self.first, self.times.len(), self.edits));
     }
 }
 
@@ -75,7 +75,7 @@ fn windows_are_those_of_plain_loops() {
             }
             1 if twin.first < twin.times.len() => {
                 let index = twin.first + 1;
-                twin.drop_before(index, load.expire(index as u64));
+                twin.drop_before(index, load.expire(index));
             }
             2 if twin.first < twin.times.len() => {
                 twin.edits += 1;
@@ -85,7 +85,7 @@ fn windows_are_those_of_plain_loops() {
             3 if twin.first < twin.times.len() => {
                 let at = twin.first + next(twin.times.len() - twin.first);
                 twin.edits += 1;
-                assert_eq!(load.write(at as u64, 3), Ok(series::Written { edit: twin.edits, before: twin.values[at] }));
+                assert_eq!(load.write(at, 3), Ok(series::Written { edit: twin.edits, before: twin.values[at] }));
                 twin.values[at] = 3;
             }
             _ => twin.push(&mut load, newest + next(5) as i64 - 1, next(2001) as i64 - 1000),
@@ -97,8 +97,8 @@ fn windows_are_those_of_plain_loops() {
             assert_eq!(load.times(..), Ok(twin.times[twin.first..].to_vec()));
             assert_eq!(load.values().to_vec(..), Ok(twin.values[twin.first..].to_vec()));
             let at = twin.times.len() - 1;
-            assert_eq!(load.get(at as u64), Ok(Sample { time: twin.times[at], value: twin.values[at] }));
-            assert_eq!(load.get(at as u64 + 1), Err(twin.not_kept()));
+            assert_eq!(load.get(at), Ok(Sample { time: twin.times[at], value: twin.values[at] }));
+            assert_eq!(load.get(at + 1), Err(twin.not_kept()));
         }
     }
 }
@@ -137,7 +137,7 @@ fn values_are_asked_by_index() {
     load.push_many(&[0, 1, 1, 2], &[9, -4, 7, 7]).unwrap();
     assert_eq!(load.prepare(Kind::Best), Ok(()));
     let window = load.between(1..3).unwrap();
-    assert_eq!(load.values().where_greatest(window.clone()), Ok(Some(series::Placed { index: 2, value: 7 })));
+    assert_eq!(load.values().where_greatest(window.clone()), Ok(Some(Placed { index: 2, value: 7 })));
     assert_eq!((load.values().best(window.clone()), load.values().where_reaches(.., 10)), (Ok(Some(14)), Ok(Some(3))));
     assert_eq!(load.values().value(Kind::Least, window), Ok(Value::Least(Some(-4))));
     let mut room = [0; 3];

@@ -150,7 +150,7 @@ fn a_vector_is_saved_as_a_series_of_its_elements() {
             [Vector::load(&bytes).unwrap(), Vector::load_from(&*bytes).unwrap(), Vector::load_from(Slow(&bytes, false)).unwrap()]
         {
             assert_eq!((back.to_vec().unwrap(), back.edits() as usize), (values.clone(), count));
-            assert_eq!((back.push_saved(&bytes).unwrap() as usize, back.len() as usize), (2 * count, 2 * count));
+            assert_eq!((back.push_saved(&bytes).unwrap() as usize, back.len()), (2 * count, 2 * count));
             assert_eq!(back.elements(count..).unwrap().collect::<Vec<_>>(), values);
         }
         assert_eq!(Series::load(&bytes).unwrap().to_vec(..).unwrap(), values);

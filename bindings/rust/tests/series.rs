@@ -32,7 +32,7 @@ impl Plain {
     }
 
     fn not_kept(&self) -> Refusal {
-        Refusal::NotKept { first: self.first as u64, size: self.size() as u64 }
+        Refusal::NotKept { first: self.first, size: self.size() }
     }
 
     fn keeps(&self, index: usize) -> bool {
@@ -54,8 +54,8 @@ fn alike(values: Values, elements: &[i64]) {
 }
 
 fn look(series: &Series, plain: &Plain, numbers: &mut Numbers) {
-    assert_eq!((series.first(), series.size(), series.edits()), (plain.first as u64, plain.size() as u64, plain.edits));
-    assert_eq!((series.len() as usize, series.is_empty()), (plain.size() - plain.first, plain.size() == plain.first));
+    assert_eq!((series.first(), series.size(), series.edits()), (plain.first, plain.size(), plain.edits));
+    assert_eq!((series.len(), series.is_empty()), (plain.size() - plain.first, plain.size() == plain.first));
     let lo = plain.first + numbers.below(plain.size() - plain.first + 1);
     let hi = lo + numbers.below((plain.size() - lo).min(300) + 1);
     let range = lo as u64..hi as u64;
@@ -71,7 +71,7 @@ fn edit(series: &mut Series, plain: &mut Plain, numbers: &mut Numbers) {
     match numbers.below(if plain.size() - plain.first > 90 { 7 } else { 4 }) {
         0 | 1 => {
             plain.edits += 1;
-            assert_eq!(series.push(x), Ok(series::Pushed { edit: plain.edits, index: plain.size() as u64 }));
+            assert_eq!(series.push(x), Ok(series::Pushed { edit: plain.edits, index: plain.size() }));
             plain.all.push(x);
         }
         2 if plain.keeps(i) => {
@@ -95,13 +95,13 @@ fn edit(series: &mut Series, plain: &mut Plain, numbers: &mut Numbers) {
             plain.edits += 1;
             let dropped = numbers.below(4);
             plain.all.truncate(plain.size() - dropped);
-            assert_eq!(series.truncate(plain.size() as u64), Ok(series::Dropped { edit: plain.edits, dropped: dropped as u64 }));
+            assert_eq!(series.truncate(plain.size()), Ok(series::Dropped { edit: plain.edits, dropped }));
         }
         _ => {
             plain.edits += 1;
             let dropped = numbers.below(5);
             plain.first += dropped;
-            assert_eq!(series.expire(plain.first as u64), Ok(series::Dropped { edit: plain.edits, dropped: dropped as u64 }));
+            assert_eq!(series.expire(plain.first), Ok(series::Dropped { edit: plain.edits, dropped }));
         }
     }
 }
@@ -133,7 +133,7 @@ fn a_window_slides_over_shards() {
         if plain.size() > 2 * SHARD {
             plain.first = plain.size() - 2 * SHARD;
             plain.edits += 1;
-            assert_eq!(series.expire(plain.first as u64).unwrap().edit, plain.edits);
+            assert_eq!(series.expire(plain.first).unwrap().edit, plain.edits);
             let forgotten = plain.first as u64 - 1;
             assert_eq!(series.get(forgotten), Err(plain.not_kept()));
             assert_eq!(series.write(forgotten, 1), Err(plain.not_kept()));
@@ -170,10 +170,10 @@ fn pieces_and_scans_are_those_of_a_loop() {
         alike(before, &all[lo..lo + k]);
         assert_eq!(with[k], series.reduce(lo as u64..=(lo + k) as u64).unwrap().values);
     }
-    let (later, earlier) = (hi as u64, lo as u64);
+    let (later, earlier) = (hi, lo);
     assert_eq!(series.reduce(later..earlier), Err(Refusal::BadRange));
     assert_eq!(series.scan_inclusive(later..earlier).unwrap_err(), Refusal::BadRange);
-    assert_eq!(series.to_vec(..u64::MAX), Err(Refusal::NotKept { first: 700, size: all.len() as u64 }));
+    assert_eq!(series.to_vec(..u64::MAX), Err(Refusal::NotKept { first: 700, size: all.len() }));
     assert_eq!(series.least(700..700), Ok(None));
     assert_eq!((series.greatest(..).unwrap(), series.best(700..701).unwrap()), (all[700..].iter().max().copied(), Some(all[700].into())));
     assert_eq!(format!("{series:?}"), format!("Series {{ first: 700, size: {}, edits: {}, .. }}", all.len(), all.len() + 1));

@@ -85,7 +85,7 @@ fn values_by_each_kind() {
 #[test]
 fn ranges_that_are_refused() {
     let (_, series) = numbers();
-    let not_kept = Refusal::NotKept { first: GONE as u64, size: SIZE as u64 };
+    let not_kept = Refusal::NotKept { first: GONE, size: SIZE };
     let (first, size) = (GONE as u64, SIZE as u64);
     assert_eq!(series.value(Kind::Sum, first - 1..size), Err(not_kept));
     #[allow(clippy::reversed_empty_ranges)]

@@ -63,9 +63,9 @@ fn feed(shared: &Shared, seed: u64, rounds: u32) -> Vec<(u32, Did)> {
             9 => {
                 let of = shared.reduce(..).unwrap();
                 assert!(of.values.least <= of.values.greatest);
-                let pushed = shared.with(|vector| (vector.push(vector.len().into()).unwrap(), vector.len())).unwrap();
+                let pushed = shared.with(|vector| (vector.push(vector.len() as i64).unwrap(), vector.len())).unwrap();
                 assert_eq!(pushed.0.index + 1, pushed.1);
-                did.push((pushed.0.edit, Did::Push(pushed.0.index.into())));
+                did.push((pushed.0.edit, Did::Push(pushed.0.index as i64)));
             }
             _ => did.push((shared.push(value).unwrap().edit, Did::Push(value))),
         }

@@ -49,6 +49,9 @@ fn a_text_has_each_kind() -> Result<(), Refusal> {
     assert_eq!(Verdict::of(vector.transcript(&answers)?.as_bytes())?, Verdict::No(5));
     answers[5].edit = 1;
     assert_eq!(vector.transcript(&answers), Err(Refusal::NotInOrder));
+    // an index that no vector has isn't cut to one that there is
+    let wide = Recorded { lo: 1 << 32, ..answers[0] };
+    assert_eq!(vector.transcript(&[wide]), Err(Refusal::OutOfRange { size: vector.len() }));
     Ok(())
 }
 

@@ -108,6 +108,8 @@ fn verdicts_are_what_the_edits_answer() {
         vector.write(0, 2).unwrap();
     }
     assert_eq!(edits.map(|edit| vector.verdict(edit)), [Err(Refusal::Worn); 6]);
+    let wide = [Edit::Write { index: 1 << 32, value: 7 }, Edit::Swap { first: 0, second: 1 << 32 }, Edit::Truncate(1 << 32)];
+    assert_eq!(wide.map(|edit| of(&[4]).verdict(edit)), [Err(Refusal::OutOfRange { size: 1 }); 3]);
 }
 
 #[test]

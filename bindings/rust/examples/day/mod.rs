@@ -14,7 +14,7 @@ pub const HOT: i64 = 1_200;
 /// What the samples of the last minutes come to.
 #[derive(Debug, PartialEq, Eq)]
 pub struct Window {
-    pub samples: u64,
+    pub samples: usize,
     pub sum: i64,
     pub greatest: i64,
 }
@@ -28,9 +28,9 @@ pub trait Store: Sized + Sync {
     fn new() -> Result<Self, Self::Error>;
     fn alerts(&self) -> Result<Self::Alerts, Self::Error>;
     /// Takes samples of one time, and gives the number of the first, counted from the first that was ever taken.
-    fn take(&self, time: i64, values: &[i64]) -> Result<u64, Self::Error>;
+    fn take(&self, time: i64, values: &[i64]) -> Result<usize, Self::Error>;
     /// Puts another value in the place of a sample, if that is kept.
-    fn correct(&self, number: u64, value: i64) -> Result<(), Self::Error>;
+    fn correct(&self, number: usize, value: i64) -> Result<(), Self::Error>;
     /// Forgets the samples before a time. The others keep their numbers.
     fn forget(&self, before: i64) -> Result<(), Self::Error>;
     /// The samples of the last so many seconds, of which there are some.
@@ -43,7 +43,7 @@ pub trait Store: Sized + Sync {
 struct Writer {
     state: u64,
     /// The numbers of the first samples that it sent at each step.
-    sent: Vec<u64>,
+    sent: Vec<usize>,
 }
 
 impl Writer {
@@ -57,7 +57,7 @@ impl Writer {
         let values = [(); AT_ONCE].map(|()| self.next(1_000) as i64 + if self.next(16_000) == 0 { 700 } else { 0 });
         self.sent.push(store.take(time, &values)?);
         let step = self.next(self.sent.len() as u64) as usize;
-        let (number, value) = (self.sent[step] + self.next(AT_ONCE as u64), self.next(1_000) as i64);
+        let (number, value) = (self.sent[step] + self.next(AT_ONCE as u64) as usize, self.next(1_000) as i64);
         store.correct(number, value)
     }
 }

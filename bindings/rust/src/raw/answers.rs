@@ -44,7 +44,7 @@ pub(crate) struct Long {
 impl Says for Long {
     fn refusal(&self) -> Option<Refusal> {
         match self.number {
-            3 => Some(Refusal::NotKept { first: self.first, size: self.size }),
+            3 => Some(Refusal::NotKept { first: self.first as usize, size: self.size as usize }),
             number => number.refusal(),
         }
     }

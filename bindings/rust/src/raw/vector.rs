@@ -3,6 +3,7 @@
 use super::{
     Boxed, EditKind, Edited, Element, Many, PushedMany, Short, Slot, Sort, array_calls, buffer_calls, calls, counts, livevec_free_slot,
 };
+use crate::indices::narrow;
 use crate::{Edit, Refusal, RefusedAt};
 
 unsafe extern "C" {
@@ -72,10 +73,10 @@ fn parts(edit: Edit) -> (EditKind, u32, u32, i64) {
     match edit {
         Edit::Push(value) => (EditKind::Push, 0, 0, value),
         Edit::Pop => (EditKind::Pop, 0, 0, 0),
-        Edit::Write { index, value } => (EditKind::Write, index, 0, value),
-        Edit::Reserve(elements) => (EditKind::Reserve, elements, 0, 0),
-        Edit::Swap { first, second } => (EditKind::Swap, first, second, 0),
-        Edit::Truncate(elements) => (EditKind::Truncate, elements, 0, 0),
+        Edit::Write { index, value } => (EditKind::Write, narrow(index), 0, value),
+        Edit::Reserve(elements) => (EditKind::Reserve, narrow(elements), 0, 0),
+        Edit::Swap { first, second } => (EditKind::Swap, narrow(first), narrow(second), 0),
+        Edit::Truncate(elements) => (EditKind::Truncate, narrow(elements), 0, 0),
     }
 }
 
