@@ -88,7 +88,8 @@ pub enum Refusal {
     NoSeat,
     /// 106: a seat of the board is not dropped yet.
     SeatsOut,
-    /// 108: another call is under way at the slot. No value of this crate can be called twice at once.
+    /// 108: another call is under way: of a [`Shared`](crate::Shared) the `with` of the same thread, in which this one was made. Reads of one value by
+    /// several threads wait for each other, and are not refused.
     Busy,
     /// 109: bytes of a summary of another version of the layout, or of no summary at all.
     OtherVersion,
