@@ -99,7 +99,7 @@ def unflushed(room):
     """The folder can't be flushed once the new log has its name: that it has is told."""
     folder = folder_of(room, "unflushed")
     it = meanwhile(room, folder, COMPACT, "fsync", 2, ":", errno.EIO)
-    if it.returncode != 1 or b"'log' was made anew, but its folder can't be flushed to the disk" not in it.stderr or text_at(f"{folder}/log") != seals.seal("livevec 3 3 1\nj push 5\n"):
+    if it.returncode != 1 or b"'log' was replaced by a new log, but its folder can't be flushed to the disk" not in it.stderr or text_at(f"{folder}/log") != seals.seal("livevec 3 3 1\nj push 5\n"):
         stop(f"a folder that can't be flushed: status {it.returncode}, {it.stderr!r}, {text_at(f'{folder}/log')!r}")
     shutil.rmtree(folder)
     # with --sync a transcript's name is on the disk too: its folder is what is flushed by this call
