@@ -34,7 +34,8 @@ pub(crate) trait AtHub<B: Body> {
     ) -> (Share<N>, Self::Seen)
         requires two { share.parts ≡ 2 }
         requires numbers { N.numbers ≡ from_the_first }
-        requires lists { N.lists ≡ true }
+        requires lists { N.sessions.listed ≡ true }
+        requires short { N.sessions.full ≡ false }
         requires one { IsOfOneVector N.limits }
         ensures { result.0.parts ≡ 2 };
 }
@@ -66,7 +67,8 @@ fn hold<B: Body, N: WithBody<B>, T: AtHub<B>, R: Wait + Abort>(
     requires limits { limits ≡ N.limits }
     requires history { opened ≡ N.history }
     requires numbers { N.numbers ≡ from_the_first }
-    requires lists { N.lists ≡ true }
+    requires lists { N.sessions.listed ≡ true }
+    requires short { N.sessions.full ≡ false }
     requires body { N.body ≡ Some body }
 {
     let (hub, share) = Hub::<B, N>::new(alloc, limits, body, blank, 2, opened);
@@ -88,7 +90,8 @@ pub(crate) fn place_of<'a, N: WithBody<Six>, R: Wait>(
     hub: &'a Hub<Six, N>,
 ) -> SessionPlace<'a, N, R>
     requires numbers { N.numbers ≡ from_the_first }
-    requires lists { N.lists ≡ true }
+    requires lists { N.sessions.listed ≡ true }
+    requires short { N.sessions.full ≡ false }
     requires one { IsOfOneVector N.limits }
 {
     SessionPlace {
@@ -97,6 +100,7 @@ pub(crate) fn place_of<'a, N: WithBody<Six>, R: Wait>(
         alloc,
         numbers: from_the_first(),
         keeps: KeptAnswers::Listed(usize::MAX),
+        full: false,
     }
 }
 

@@ -67,7 +67,8 @@ fn hear_beside<N: WithBody<Six>, K: Begun, R: Wait + Abort>(
 ) -> Share<N>
     requires two { share.parts ≡ 2 }
     requires numbers { N.numbers ≡ from_the_first }
-    requires lists { N.lists ≡ true }
+    requires lists { N.sessions.listed ≡ true }
+    requires short { N.sessions.full ≡ false }
     requires one { IsOfOneVector N.limits }
     ensures { result.parts ≡ 2 }
 {
@@ -96,7 +97,8 @@ fn hold_counted<N: WithBody<Six>, K: Begun, R: Wait + Abort>(
     requires limits { limits ≡ N.limits }
     requires history { opened ≡ N.history }
     requires numbers { N.numbers ≡ from_the_first }
-    requires lists { N.lists ≡ true }
+    requires lists { N.sessions.listed ≡ true }
+    requires short { N.sessions.full ≡ false }
     requires body { N.body ≡ Some body }
     requires start { K.start ≡ None }
     requires there { K.there ≡ None }

@@ -34,7 +34,8 @@ fn hold_alone<N: WithBody<Six>, R: Wait + Abort>(
     requires limits { limits ≡ N.limits }
     requires history { opened ≡ N.history }
     requires numbers { N.numbers ≡ from_the_first }
-    requires lists { N.lists ≡ true }
+    requires lists { N.sessions.listed ≡ true }
+    requires short { N.sessions.full ≡ false }
     requires body { N.body ≡ Some body }
 {
     let (hub, mut share) = Hub::<Six, N>::new(alloc, limits, body, blank, 1, opened);

@@ -183,7 +183,8 @@ fn hold_logged<N: WithBody<Six> + Send + Sync, K: Begun + Send + Sync, R: Thread
     requires limits { limits ≡ N.limits }
     requires history { opened ≡ N.history }
     requires numbers { N.numbers ≡ from_the_first }
-    requires lists { N.lists ≡ true }
+    requires lists { N.sessions.listed ≡ true }
+    requires short { N.sessions.full ≡ false }
     requires body { N.body ≡ Some body }
     requires start { K.start ≡ None }
     requires there { K.there ≡ None }

@@ -86,7 +86,8 @@ struct Held<'a, N: WithBody<Six>, K: Begun, R> {
     log: &'a Mutex<OperationLog<N, ShortFile, K>>,
     ghost told_by: { numbers ≡ N.numbers },
     ghost low: { numbers.base ≤ 2 ^ 62 },
-    ghost lists: { N.lists ≡ false },
+    ghost lists: { N.sessions.listed ≡ false },
+    ghost short: { N.sessions.full ≡ false },
 }
 
 // Holds a session by a share, and sees that it hears what it should.
@@ -103,6 +104,7 @@ fn hear<N: WithBody<Six>, K: Begun, R: Wait + Abort>(
         alloc: held.alloc,
         numbers: held.numbers,
         keeps: KeptAnswers::Logged,
+        full: false,
     };
     let (mut lines, replies) = session;
     let mut heard = Vec::new(held.alloc);
@@ -180,7 +182,8 @@ fn hold<N: WithBody<Six>, K: Begun, R: Wait + Abort>(
     requires all { N.parts ≡ 2 }
     requires numbers { numbers ≡ N.numbers }
     requires low { numbers.base ≤ 2 ^ 62 }
-    requires lists { N.lists ≡ false }
+    requires lists { N.sessions.listed ≡ false }
+    requires short { N.sessions.full ≡ false }
 {
     let (hub, share, log) = logged;
     let mut mine = share;
@@ -216,7 +219,8 @@ fn hold_renewed<N: WithBody<Six>, K: Begun, R: Wait + Abort>(
     requires numbers { numbers ≡ N.numbers }
     requires low { numbers.base ≤ 2 ^ 62 }
     requires none { numbers.elements ≡ 0 }
-    requires lists { N.lists ≡ false }
+    requires lists { N.sessions.listed ≡ false }
+    requires short { N.sessions.full ≡ false }
     requires body { N.body ≡ Some body }
     requires start { K.start ≡ None }
     requires there { K.there ≡ Some (record { heading = numbers; entries = [] }) }

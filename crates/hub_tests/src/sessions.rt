@@ -189,7 +189,8 @@ fn one_history<N: WithBody<Six> + Send + Sync, R: Threads + Wait + Abort + Sync>
     requires limits { limits ≡ N.limits }
     requires history { opened ≡ N.history }
     requires numbers { N.numbers ≡ from_the_first }
-    requires lists { N.lists ≡ true }
+    requires lists { N.sessions.listed ≡ true }
+    requires short { N.sessions.full ≡ false }
     requires body { N.body ≡ Some body }
 {
     let (hub, share) = Hub::<Six, N>::new(alloc, limits, body, blank, 2, opened);

@@ -141,6 +141,7 @@ pub fn plan(matches: &ArgMatches<'_>) -> Plan {
         workers: matches.get_one::<u32>("workers").unwrap_or(1),
         turns: matches.get_one::<u32>("turns").unwrap_or(1000).into(),
         most: matches.get_one::<u32>("answers").unwrap_or(100_000_000) as usize,
+        full: matches.get_flag("full"),
     }
 }
 

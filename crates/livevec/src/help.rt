@@ -90,6 +90,11 @@ sessions share one vector.
 They know the lines push, pop, write, reserve, swap, truncate, reduce, inc and exc; `livevec run
 --help` explains these. The reply to any other line is `bad N`.
 
+With --full they also know get, size and capacity, and watch, unwatch and answer for queries of their own,
+of which each session has at most 64. Behind the reply to a line, other than inc and exc, there is then a
+line `note NAME VALUE` for each of its queries whose answer is no longer the one that it was told last,
+whoever made the update. All these notes are of one update, which isn't before that of the reply.
+
 Workers precompute parts of the tree. They sleep while there is nothing to do, and end with the last
 session. A turn that finds no task counts too, so give workers more turns for long sessions.
 

@@ -185,6 +185,10 @@ pub const SERVE: Mode = Mode {
         Argument::Number(ANSWERS),
         Argument::Number(BUCKETS),
         Argument::Number(EDITS),
+        Argument::Flag(
+            "full",
+            "Sessions also know get, size, capacity, watch, unwatch and answer: see below",
+        ),
         Argument::File(
             "transcript",
             "Writes updates and answers there as they come, in real order",

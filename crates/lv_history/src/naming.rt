@@ -1,16 +1,16 @@
-//! Which hub it is: its ledger, its limits, its history, the numbers that its edits are told by, and its body.
-ghost use Rattle.std.specs.Prelude.{Bool, None, Option, true};
+//! Which hub it is: its ledger, its limits, its history, the numbers that its edits are told by, how its sessions answer, and its body.
+ghost use Rattle.std.specs.Prelude.{None, Option, false, true};
 ghost use Rattle.lv_geometry.specs.Bounds.{Bounds};
 ghost use Rattle.lv_transcript.specs.declared.log_heading.LogHeading.{LogHeading};
 ghost use Rattle.lv_history.specs.Growing.{Beginning};
+ghost use Rattle.lv_history.specs.Manners.{Manner};
 ghost use Rattle.lv_history.specs.Numbering.{from_the_first};
 
 use std::marker::Brand;
 use std::sync::ledger::Ledger;
 
-/// Which hub it is: the ledger that counts its edits, its limits, the history of its edits, the numbers that they are told by, and whether
-/// its sessions list what they are answered. A program takes `Brand`, and says at
-/// the call for which hub it stands.
+/// Which hub it is: the ledger that counts its edits, its limits, the history of its edits, the numbers that they are told by, and how its
+/// sessions answer. A program takes `Brand`, and says at the call for which hub it stands.
 pub trait Naming: Ledger {
     // The limits of the hub's vector.
     ghost limits: { Bounds };
@@ -18,8 +18,8 @@ pub trait Naming: Ledger {
     ghost history: { Beginning };
     // The numbers that its edits are told by.
     ghost numbers: { LogHeading };
-    // Whether its sessions list the reductions that they are answered, for a transcript.
-    ghost lists: { Bool };
+    // How its sessions answer.
+    ghost sessions: { Manner };
 }
 
 impl Naming for Brand {
@@ -29,7 +29,7 @@ impl Naming for Brand {
 
     ghost numbers = { from_the_first };
 
-    ghost lists = { true };
+    ghost sessions = { record { listed = true; full = false } };
 }
 
 /// The same, with the body of the hub's vector.

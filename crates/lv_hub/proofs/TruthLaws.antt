@@ -1,5 +1,5 @@
 -- The reductions that a session lists are true of what its share has seen.
-use Rattle.std.proofs.Common.{◌≡◌, ℕ, Bool, true, false, ◌+◌, ◌-◌, ◌≤◌, None, Option, Result, Ok, Err, OnOk, IfOk, IfErr, List, [], ◌∷◌, ◌++◌, length, take, slice_range, All, nat_lt, refl, sym, ap, ◌∙◌, subst, inl, inr, arith}
+use Rattle.std.proofs.Common.{◌≡◌, ℕ, Bool, true, false, ◌+◌, ◌-◌, ◌≤◌, None, Some, Option, Result, Ok, Err, OnOk, IfOk, IfErr, List, [], ◌∷◌, ◌++◌, length, take, slice_range, All, nat_lt, refl, sym, ap, ◌∙◌, subst, inl, inr, arith}
 use Rattle.std.proofs.lemmas.Bool.{cases_Bool, cond-false, cond-true, ltb-false}
 use Rattle.std.proofs.lemmas.List.{take_all, take-append-le}
 use Rattle.std.proofs.lemmas.List.Elements.{All-get_or, All-push, All-weaker}
@@ -13,7 +13,9 @@ use Rattle.lv_bodies.specs.declared.kinds.Kind.{Kind}
 use Rattle.lv_bodies.specs.Plain.{plain_value}
 use Rattle.lv_edits.specs.declared.edit.Edit.{Edit}
 use Rattle.lv_edits.specs.declared.receipt.Receipt.{Receipt}
+use Rattle.lv_edits.specs.Capacity.{capacity_after}
 use Rattle.lv_edits.specs.History.{list_of}
+use Rattle.lv_edits.specs.Verdict.{element_at}
 use Rattle.lv_edits.specs.Ranges.{range_refusal}
 use Rattle.lv_lines.specs.declared.command.Command.{Command}
 use Rattle.lv_lines.specs.declared.command.Command.TheVariants as commands
@@ -23,13 +25,19 @@ use Rattle.lv_lines.specs.declared.fault.Fault.{Fault}
 use Rattle.lv_lines.specs.declared.fault.Fault.TheVariants.{NoMemory, ReadFault, TooLong, WriteFault}
 use Rattle.lv_lines.specs.Grammar.{line_of}
 use Rattle.lv_lines.specs.Replies.{Answered, LinesServed}
+use Rattle.lv_lines.specs.Texts.{capacity_text, element_text, named_text, size_text}
+use Rattle.lv_history.specs.Manners.{Manner}
+use Rattle.lv_history.specs.Numbering.{told_number}
 use Rattle.lv_transcript.specs.declared.claimed.Claimed.{Claimed}
 use Rattle.lv_transcript.specs.declared.log_heading.LogHeading.{LogHeading}
 use Rattle.lv_transcript.specs.Transcript.{AreInOrder, IsTrueAnswer}
-use Rattle.lv_hub.specs.Replying.{ListsAnswer, SessionCommandAnswer, SessionLineAnswer, TellsLine, listed_of, having_counted, up_to}
+use Rattle.lv_hub.specs.OwnQueries.{Owner}
+use Rattle.lv_hub.specs.PlainSession.{is_scan, known_of}
+use Rattle.lv_hub.specs.Replying.{CommandReply, ListsAnswer, SessionAnswer, SessionReply, TellsLine, TellsNamed, TellsNotesBehind, TellsRead, TellsUnwatch, listed_of, having_counted, up_to}
 use Rattle.lv_hub.specs.Session.{SessionState, listed_if}
 use Rattle.lv_hub.specs.Told.{EditTold, ValueTold, valued_at}
-use Rattle.lv_standing.specs.Queries.{IsValue}
+use Rattle.lv_standing.specs.Queries.{IsValue, query_of, watch_answer}
+use Rattle.lv_standing.specs.declared.queries.Query.{Query}
 use Rattle.lv_standing.specs.declared.notes.Answered.{Answered as Valued}
 use Rattle.lv_history.proofs.PrefixLaws.{prefix_length, prefix_self, prefix_trans}
 
@@ -144,29 +152,44 @@ module _ (limits : Bounds) (numbers : LogHeading) (listing : Bool) where
   reduction_keeps old new kind lo hi text (Err refusal) told number lists = keeps_by_more old new told.seen (ap (λ s. s.answers) lists.1)
 
   -- a command
-  command_keeps : (old new : SessionState) (n : ℕ) (command : Command) (text : List ℕ) → SessionCommandAnswer limits numbers listing old n command text new → Keeps old new
+  read_keeps : (old new : Owner SessionState) (text_of : List Edit → List ℕ) (text : List ℕ) → TellsRead limits old text_of text new → Keeps old.session new.session
+  read_keeps old new text_of text a = keeps_by_more old.session new.session a.seen (ap (λ s. s.session.answers) a.state)
+
+  unwatch_keeps : (old new : Owner SessionState) (name : List ℕ) (o : Option Query) (text : List ℕ) → TellsUnwatch old name o text new → Keeps old.session new.session
+  unwatch_keeps old new name None text a = keeps_same old.session new.session (ap (λ s. s.session) a.1)
+  unwatch_keeps old new name (Some q) text a = keeps_same old.session new.session (ap (λ s. s.session) a.1)
+
+  named_keeps : (old new : Owner SessionState) (name : List ℕ) (o : Option Query) (text : List ℕ) → TellsNamed limits numbers old name o text new → Keeps old.session new.session
+  named_keeps old new name None text a = keeps_same old.session new.session (ap (λ s. s.session) a.1)
+  named_keeps old new name (Some q) text a = read_keeps old new (λ edits. named_text (told_number numbers (length edits)) name (watch_answer edits q)) text a
+
+  command_keeps : (old new : Owner SessionState) (n : ℕ) (command : Command) (text : List ℕ) → CommandReply limits numbers listing old n command text new → Keeps old.session new.session
   command_keeps old new n (commands.Edit e) text a =
-      keeps_by_more old new (edit_grows limits old.seen new.seen e a.result a.told) (ap (λ s. s.answers) a.state ∙ edit_lists_nothing (up_to old new.seen) a.result)
-  command_keeps old new n (commands.Reduce kind lo hi) text a = reduction_keeps old new kind lo hi text a.result a.told a.number a.lists
-  command_keeps old new n (commands.Scan inclusive kind lo hi) text a = keeps_by_more old new a.told.seen (ap (λ s. s.answers) a.state)
-  command_keeps old new n _ text a = keeps_same old new a.1
+      keeps_by_more old.session new.session (edit_grows limits old.session.seen new.session.seen e a.0.result a.0.told) (ap (λ s. s.answers) a.0.state ∙ edit_lists_nothing (up_to old.session new.session.seen) a.0.result)
+  command_keeps old new n (commands.Reduce kind lo hi) text a = reduction_keeps old.session new.session kind lo hi text a.0.result a.0.told a.0.number a.0.lists
+  command_keeps old new n (commands.Scan inclusive kind lo hi) text a = keeps_by_more old.session new.session a.0.told.seen (ap (λ s. s.answers) a.0.state)
+  command_keeps old new n (commands.Get i) text a = read_keeps old new (λ edits. element_text (element_at edits i)) text a
+  command_keeps old new n commands.Size text a = read_keeps old new (λ edits. size_text (length (list_of edits)) (told_number numbers (length edits))) text a
+  command_keeps old new n commands.Capacity text a = read_keeps old new (λ edits. capacity_text (capacity_after edits)) text a
+  command_keeps old new n (commands.Watch name kind lo hi) text a = keeps_by_more old.session new.session a.seen (ap (λ s. s.answers) a.state)
+  command_keeps old new n (commands.Unwatch name) text a = unwatch_keeps old new name (query_of old.own.queries name) text a
+  command_keeps old new n (commands.Answer name) text a = named_keeps old new name (query_of old.own.queries name) text a
+  command_keeps old new n _ text a = keeps_same old.session new.session (ap (λ s. s.session) a.1)
 
-  -- a line
-  line_keeps : (old new : SessionState) (n : ℕ) (line : Line Command) (text : List ℕ) → SessionLineAnswer limits numbers listing old n line text new → Keeps old new
-  line_keeps old new n Nothing text a = keeps_same old new a.1
-  line_keeps old new n Bad text a = keeps_same old new a.1
-  line_keeps old new n (Do command) text a = command_keeps old new n command text a
+  -- a reply to a line
+  reply_keeps : (old new : Owner SessionState) (n : ℕ) (line : Line Command) (text : List ℕ) → SessionReply limits numbers listing old n line text new → Keeps old.session new.session
+  reply_keeps old new n Nothing text a = keeps_same old.session new.session (ap (λ s. s.session) a.1)
+  reply_keeps old new n Bad text a = keeps_same old.session new.session (ap (λ s. s.session) a.1)
+  reply_keeps old new n (Do command) text a = command_keeps old new n command text a
 
-  step_keeps : (old new : SessionState) (n : ℕ) (line text : List ℕ) → TellsLine limits numbers listing old n line text new → Keeps old new
-  unfolding TellsLine
-  step_keeps old new n line text a = line_keeps old new n (line_of line) text a
-
-  -- a line that was answered, whether its reply could be written or not
-  pub answered_keeps : (P Q : List ℕ → Type 0) (old new : SessionState) (n : ℕ) (line : Line Command) (result : Result (Unit {0}) Fault)
-      → OnOk result ((text : List ℕ) × SessionLineAnswer limits numbers listing old n line text new × P text) → IfErr result (λ fault. (fault ≡ WriteFault) × (text : List ℕ) × SessionLineAnswer limits numbers listing old n line text new × Q text)
-      → All (IsTrueAnswer old.seen) old.answers → All (IsTrueAnswer new.seen) new.answers
-  answered_keeps P Q old new n line (Ok u) ok err = (line_keeps old new n line ok.0 ok.1).all_true
-  answered_keeps P Q old new n line (Err fault) ok err = (line_keeps old new n line err.1 err.2).all_true
+  -- the notes behind it
+  notes_keep : (scan : Bool) (old new : Owner SessionState) (text : List ℕ) → TellsNotesBehind limits scan old text new → Keeps old.session new.session
+  notes_keep true old new text a = keeps_same old.session new.session (ap (λ s. s.session) a.1)
+  notes_keep false old new text a =
+      elim a [
+        | inl none ↦ keeps_same old.session new.session (ap (λ s. s.session) none.2)
+        | inr due ↦ keeps_by_more old.session new.session due.seen (ap (λ s. s.session.answers) due.state)
+      ]
 
   -- one after the other
   keeps_both : (old mid new : SessionState) → Keeps old mid → Keeps mid new → Keeps old new
@@ -177,14 +200,34 @@ module _ (limits : Bounds) (numbers : LogHeading) (listing : Bool) where
         order = λ holds rises. second.order (first.all_true holds) (first.order holds rises);
       }
 
+  -- a line
+  line_keeps : (old new : Owner SessionState) (n : ℕ) (line : Line Command) (text : List ℕ) → SessionAnswer limits numbers listing old n line text new → Keeps old.session new.session
+  line_keeps old new n line text a =
+      keeps_both old.session a.mid.session new.session (reply_keeps old a.mid n line a.reply a.replies) (notes_keep (is_scan line) a.mid new a.notes a.tells)
+
+  -- a line that was answered, whether its answer could be written or not
+  pub answered_keeps : (P Q : List ℕ → Type 0) (old new : Owner SessionState) (n : ℕ) (line : Line Command) (result : Result (Unit {0}) Fault)
+      → OnOk result ((text : List ℕ) × SessionAnswer limits numbers listing old n line text new × P text) → IfErr result (λ fault. (fault ≡ WriteFault) × (text : List ℕ) × SessionAnswer limits numbers listing old n line text new × Q text)
+      → All (IsTrueAnswer old.session.seen) old.session.answers → All (IsTrueAnswer new.session.seen) new.session.answers
+  answered_keeps P Q old new n line (Ok u) ok err = (line_keeps old new n line ok.0 ok.1).all_true
+  answered_keeps P Q old new n line (Err fault) ok err = (line_keeps old new n line err.1 err.2).all_true
+
+module _ (limits : Bounds) (numbers : LogHeading) (manner : Manner) where
+  step_keeps : (old new : Owner SessionState) (n : ℕ) (line text : List ℕ) → TellsLine limits numbers manner old n line text new → Keeps old.session new.session
+  unfolding TellsLine
+  step_keeps old new n line text a = line_keeps limits numbers manner.listed old new n (known_of manner.full (line_of line)) text a
+
+  stays : (old new : Owner SessionState) → new ≡ old → Keeps old.session new.session
+  stays old new same = keeps_same limits numbers manner.listed old.session new.session (ap (λ s. s.session) same)
+
   -- many lines
-  lines_keep : (old new : SessionState) (n : ℕ) (lines : List (List ℕ)) (text : List ℕ) → Answered (TellsLine limits numbers listing) old n lines text new → Keeps old new
-  lines_keep old new n [] text a = keeps_same old new a.1
+  lines_keep : (old new : Owner SessionState) (n : ℕ) (lines : List (List ℕ)) (text : List ℕ) → Answered (TellsLine limits numbers manner) old n lines text new → Keeps old.session new.session
+  lines_keep old new n [] text a = stays old new a.1
   lines_keep old new n (line ∷ lines) text a =
-      keeps_both old a.2 new (step_keeps old a.2 n line a.0 a.3) (lines_keep a.2 new (n + 1) lines a.1 a.4)
+      keeps_both limits numbers manner.listed old.session a.2.session new.session (step_keeps old a.2 n line a.0 a.3) (lines_keep a.2 new (n + 1) lines a.1 a.4)
 
   -- a conversation
-  pub lines_served_keeps : {T : Type 0} (old new : SessionState) (a b k l : Option (List ℕ)) (result : Result T Fault) → LinesServed (TellsLine limits numbers listing) old new a b k l result → Keeps old new
+  pub lines_served_keeps : {T : Type 0} (old new : Owner SessionState) (a b k l : Option (List ℕ)) (result : Result T Fault) → LinesServed (TellsLine limits numbers manner) old new a b k l result → Keeps old.session new.session
   lines_served_keeps old new a b k l (Ok x) c = lines_keep old new 1 _ c.ends.2.text c.ends.2.answered
   lines_served_keeps old new a b k l (Err ReadFault) c = lines_keep old new 1 _ c.ends.1.text c.ends.1.answered
   lines_served_keeps old new a b k l (Err TooLong) c = lines_keep old new 1 _ c.ends.1.text c.ends.1.answered
@@ -193,4 +236,4 @@ module _ (limits : Bounds) (numbers : LogHeading) (listing : Bool) where
         | inl part ↦ lines_keep old new 1 _ part.text part.answered
         | inr part ↦ lines_keep old new 1 _ part.2.text part.2.answered
       ]
-  lines_served_keeps old new a b k l (Err NoMemory) c = keeps_same old new c.ends.0
+  lines_served_keeps old new a b k l (Err NoMemory) c = stays old new c.ends.0

@@ -5,6 +5,7 @@ pub mod Counting
 pub mod Logging
 pub mod Notes
 pub mod Noticing
+pub mod OwnQueries
 pub mod PlainSession
 pub mod Renewing
 pub mod Replying

@@ -6,7 +6,7 @@ use Rattle.lv_bodies.specs.declared.kinds.Kind.{Kind}
 use Rattle.lv_bodies.specs.Plain.{plain_value}
 use Rattle.lv_edits.specs.declared.edit.Edit.{Edit}
 use Rattle.lv_edits.specs.Ranges.{slice_of}
-use Rattle.lv_lines.specs.declared.command.Command.TheVariants.{Reduce}
+use Rattle.lv_lines.specs.declared.command.Command.TheVariants.{Answer, Reduce, Unwatch}
 use Rattle.lv_lines.specs.declared.command.Command.{Command}
 use Rattle.lv_lines.specs.declared.lines.Line.{Line}
 use Rattle.lv_lines.specs.declared.lines.Line.TheVariants.{Do}
@@ -16,6 +16,8 @@ use Rattle.lv_transcript.specs.declared.log_heading.LogHeading.{LogHeading}
 use Rattle.lv_hub.specs.declared.kept_answers.KeptAnswers.{KeptAnswers}
 use Rattle.lv_hub.specs.declared.kept_answers.KeptAnswers.TheVariants.{Listed}
 use Rattle.lv_hub.specs.Counting.{ShareState}
+use Rattle.lv_hub.specs.OwnQueries.{Own, Owner}
+use Rattle.lv_history.specs.Manners.{Manner}
 use Rattle.lv_history.specs.Numbering.{told_number}
 use Rattle.lv_hub.specs.PlainSession.{PlainSessionStep, Seen, session_line_of}
 use Rattle.lv_hub.specs.Renewing.{IsRun}
@@ -31,14 +33,22 @@ pub record SessionState : Type 0 where
 abbrev pub session_at : ShareState → List Claimed → SessionState
 session_at share answers = record { count = share.count; seen = share.seen; answers = answers }
 
--- a session as it is held: its state, and up to which entry its log has to have those of the hub before what it was answered may be told
+-- with these queries of its own
+abbrev pub owner_at : ShareState → List Claimed → Own → Owner SessionState
+owner_at share answers own = record { session = session_at share answers; own = own }
+
+-- a session as it is held: its state and its own queries, and up to which entry its log has to have those of the hub before what it was
+-- answered may be told
 pub record HeldSession : Type 0 where
-  pub session : SessionState
+  pub owner : Owner SessionState
   pub entry : ℕ
 
--- what the plain interpreter keeps of it
-abbrev pub kept_by : SessionState → Seen
-kept_by s = record { edits = s.seen; made = s.count }
+-- what the plain interpreter keeps of a session, and with its own queries
+abbrev pub seen_of : SessionState → Seen
+seen_of s = record { edits = s.seen; made = s.count }
+
+abbrev pub kept_by : Owner SessionState → Owner Seen
+kept_by s = record { session = seen_of s.session; own = s.own }
 
 -- the reductions at each edit stand in the order that they had
 abbrev pub KeepTies : List Claimed → List Claimed → Type 0
@@ -71,14 +81,17 @@ module _ (numbers : LogHeading) (listing : Bool) where
   Lists edits _ text old new = new ≡ old
 
 module _ (limits : Bounds) where
-  -- an edit, a reduction or a scan was answered after edits that are legal within the limits; any other line changed nothing
-  abbrev pub IsWithin : SessionState → List Edit → Line Command → SessionState → Type 0
-  IsWithin old before (Do c) new = IsRun limits before
-  IsWithin old before _ new = new ≡ old
+  -- a command was answered after edits that are possible one after the other within the limits. To forget a query the hub isn't asked, nor is it
+  -- for the answer of one that there isn't, nor where a line asks nothing
+  abbrev pub IsWithin : List Edit → List Edit → Line Command → Type 0
+  IsWithin seen before (Do (Unwatch name)) = before ≡ seen
+  IsWithin seen before (Do (Answer name)) = IsRun limits before ⊎ (before ≡ seen)
+  IsWithin seen before (Do c) = IsRun limits before
+  IsWithin seen before _ = before ≡ seen
 
-module _ (limits : Bounds) (numbers : LogHeading) (listing : Bool) where
+module _ (limits : Bounds) (numbers : LogHeading) (manner : Manner) where
   -- one line of a session, by its bytes and its number: the interpreter's reply, and what it leaves
-  pub record SessionStep (old : SessionState) (n : ℕ) (line text : List ℕ) (new : SessionState) : Type 0 where
-    pub plain : PlainSessionStep limits numbers (kept_by old) n line text (kept_by new)
-    pub within : IsWithin limits old plain.before (session_line_of line) new
-    pub lists : Lists numbers listing plain.before (session_line_of line) text old.answers new.answers
+  pub record SessionStep (old : Owner SessionState) (n : ℕ) (line text : List ℕ) (new : Owner SessionState) : Type 0 where
+    pub plain : PlainSessionStep limits numbers manner.full (kept_by old) n line text (kept_by new)
+    pub within : IsWithin limits old.session.seen plain.before (session_line_of manner.full line)
+    pub lists : Lists numbers manner.listed plain.before (session_line_of manner.full line) plain.reply old.session.answers new.session.answers

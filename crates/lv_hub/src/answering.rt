@@ -11,7 +11,7 @@ use crate::hubs::Hub;
 use crate::shares::Share;
 use lv_bodies::{Kind, Shown, Six};
 use lv_history::WithBody;
-use lv_standing::{Askable, Query, QuerySet};
+use lv_standing::{Askable, Asks, Query, QuerySet};
 use std::sync::Wait;
 
 impl<N: WithBody<Six>> Askable for Desk<Six, N> {
@@ -39,6 +39,18 @@ impl<N: WithBody<Six>> Askable for Desk<Six, N> {
 }
 
 impl<N: WithBody<Six>> Desk<Six, N> {
+    /// What a query answers, where the share sees all edits. Takes no memory.
+    pub fn answer(&mut self, share: &mut Share<N>, query: &Query) -> Shown
+        ensures begins { IsPrefix share.old.seen share.new.seen }
+        ensures within { IsRun N.limits share.new.seen }
+        ensures answer { result ≡ watch_answer share.new.seen query.now }
+        ensures share { share.new ≡ having_seen share.old share.new.seen }
+        ensures same { self.new ≡ self.old }
+    {
+        share.see(&mut self.head);
+        query.answer_by(self)
+    }
+
     /// Asks all queries of a set, where the share sees all edits; says how many there are. Takes no memory.
     pub fn answer_all(&mut self, share: &mut Share<N>, set: &mut QuerySet<Query>) -> u64
         ensures begins { IsPrefix share.old.seen share.new.seen }
@@ -57,6 +69,16 @@ impl<N: WithBody<Six>> Desk<Six, N> {
 }
 
 impl<N: WithBody<Six>> Hub<Six, N> {
+    /// What a query answers at the last edit, up to which the share then sees the hub's edits. Takes no memory.
+    pub fn answer<R: Wait>(&self, rt: &R, share: &mut Share<N>, query: &Query) -> Shown
+        ensures begins { IsPrefix share.old.seen share.new.seen }
+        ensures within { IsRun N.limits share.new.seen }
+        ensures answer { result ≡ watch_answer share.new.seen query.now }
+        ensures share { share.new ≡ having_seen share.old share.new.seen }
+    {
+        self.desk.lock(rt).answer(share, query)
+    }
+
     /// Asks all queries of a set: at one edit, up to which the share then sees the hub's edits. Gives the number of that edit. Takes no
     /// memory.
     pub fn answer_all<R: Wait>(

@@ -4,6 +4,7 @@ ghost use mathlib.Core.List.{IsPrefix};
 ghost use Rattle.lv_geometry.specs.Elements.{IsElement};
 ghost use Rattle.lv_geometry.specs.declared.nodes.Node.{Node};
 ghost use Rattle.lv_bodies.specs.Plain.{program_table};
+ghost use Rattle.lv_edits.specs.Capacity.{capacity_after};
 ghost use Rattle.lv_edits.specs.History.{list_of};
 ghost use Rattle.lv_edits.specs.Kept.{CarriesElement, IsLegalInLimits};
 ghost use Rattle.lv_edits.specs.Verdict.{Answers, IsRefusal, verdict_of};
@@ -468,6 +469,14 @@ impl<B: Body, N: WithBody<B>> Desk<B, N> {
     {
         self.live.keeps();
         &self.live
+    }
+
+    /// How many cells are open: no fewer than when the vector was made anew.
+    pub fn capacity(&self) -> u32
+        ensures capacity { result ≡ capacity_after self.now.edits }
+        ensures within { IsRun N.limits self.now.edits }
+    {
+        greater(self.live.capacity(), self.capacity)
     }
 
     // Its vector and its edits, once no thread makes any more, of which the share has seen a beginning. The share that is handed in has all parts.

@@ -1,5 +1,5 @@
 //! What holds of all sessions together, and of all subscribers.
-ghost use Rattle.std.specs.Prelude.{◌≡◌, ◌↔◌, ◌++◌, ℕ, List, Some, length, map};
+ghost use Rattle.std.specs.Prelude.{◌≡◌, ◌⊎◌, ◌↔◌, ◌++◌, ℕ, Bool, false, List, Some, length, map};
 ghost use mathlib.Core.List.{IsPrefix};
 ghost use Rattle.lv_edits.specs.declared.edit.Edit.{Edit};
 ghost use Rattle.lv_geometry.specs.Bounds.{Bounds};
@@ -11,23 +11,27 @@ ghost use Rattle.lv_transcript.specs.Transcript.{ended};
 ghost use Rattle.lv_hub.specs.AsScripts.{ScriptedStep};
 ghost use Rattle.lv_hub.specs.Counting.{ShareState};
 ghost use Rattle.lv_hub.specs.Noticing.{NoticesState, WatcherState};
+ghost use Rattle.lv_hub.specs.OwnQueries.{Owner, none_own};
 ghost use Rattle.lv_history.specs.Numbering.{from_the_first};
-ghost use Rattle.lv_hub.specs.PlainSession.{PlainSessionStep, Seen, TrueReply};
+ghost use Rattle.lv_hub.specs.PlainSession.{IsReplied, PlainSessionStep, Seen, TrueReply};
 ghost use Rattle.lv_hub.specs.Watched.{AreWatched, WatchState};
 ghost use Rattle.lv_hub.specs.Watchers.{AllTellLast, AreWatchedFrom, LeftState, TakesWatchers, watcher_at};
 
 /// Sessions have one list of edits: what a session is answered is true of each list that goes on from what it has seen, so of
-/// all that the hub accepts. Each reply is the plain interpreter's after the first so many of them, `refused 6` apart.
-/// That interpreter is the one of scripts, where no query stands, but for the numbers that it tells.
+/// all that the hub accepts. Each reply is the plain interpreter's after the first so many of them, `refused 6` apart, and the notes of a session's own
+/// queries are those that are due after no fewer. That interpreter is the one of scripts, but for the numbers that it tells.
 pub fn replies_are_true_of_one_list()
-    ensures replies { (limits : Bounds) (numbers : LogHeading) (edits : List Edit) (old new : Seen) (lines : List (List ℕ)) (text : List ℕ) →
-        Answered (PlainSessionStep limits numbers) old 1 lines text new → IsPrefix new.edits edits → Answered (TrueReply limits numbers edits) tt 1 lines text tt }
+    ensures replies { (limits : Bounds) (numbers : LogHeading) (full : Bool) (edits : List Edit) (old new : Owner Seen) (lines : List (List ℕ)) (text : List ℕ) →
+        Answered (PlainSessionStep limits numbers full) old 1 lines text new → IsPrefix new.session.edits edits → Answered (TrueReply limits numbers full edits) old.own 1 lines text new.own }
+    // A session that doesn't answer in full has no queries of its own, and a line's reply is all that it is answered.
+    ensures short { (limits : Bounds) (numbers : LogHeading) (old new : Owner Seen) (n : ℕ) (line text : List ℕ) →
+        PlainSessionStep limits numbers false old n line text new → old.own ≡ none_own → (new.own ≡ none_own) × IsReplied limits numbers old.session n line text new.session }
     // A session never goes back.
-    ensures forward { (limits : Bounds) (numbers : LogHeading) (old new : Seen) (lines : List (List ℕ)) (text : List ℕ) →
-        Answered (PlainSessionStep limits numbers) old 1 lines text new → IsPrefix old.edits new.edits }
+    ensures forward { (limits : Bounds) (numbers : LogHeading) (full : Bool) (old new : Owner Seen) (lines : List (List ℕ)) (text : List ℕ) →
+        Answered (PlainSessionStep limits numbers full) old 1 lines text new → IsPrefix old.session.edits new.session.edits }
     // Where each edit is told by its own number, a line is answered so exactly where the interpreter of scripts answers it so.
-    ensures scripted { (limits : Bounds) (old : Seen) (n : ℕ) (line text : List ℕ) (new : Seen) →
-        PlainSessionStep limits from_the_first old n line text new ↔ ScriptedStep limits old n line text new }
+    ensures scripted { (limits : Bounds) (full : Bool) (old : Owner Seen) (n : ℕ) (line text : List ℕ) (new : Owner Seen) →
+        PlainSessionStep limits from_the_first full old n line text new ↔ ScriptedStep limits full old n line text new }
 {}
 
 /// Subscribers that began with `subscribe_all`, ran, were taken back by `leave_all` and told the last, have lines of one list of edits:

@@ -7,24 +7,30 @@ ghost use Rattle.lv_transcript.specs.declared.claimed.Claimed.{Claimed};
 ghost use Rattle.lv_transcript.specs.Transcript.{AreInOrder, IsTrueAnswer};
 ghost use Rattle.std.specs.List.Sorted.{IsPermutation};
 ghost use Rattle.lv_hub.specs.Counting.{ShareState};
+ghost use Rattle.lv_hub.specs.OwnQueries.{Own, Owner, none_own};
 ghost use Rattle.lv_hub.specs.PlainSession.{PlainSessionStep, seen_by};
 ghost use Rattle.lv_hub.specs.Replying.{TellsLine};
-ghost use Rattle.lv_hub.specs.Session.{KeepTies, HeldSession, SessionState, SessionStep, most_listed, session_at};
+ghost use Rattle.lv_hub.specs.Session.{KeepTies, HeldSession, SessionState, SessionStep, most_listed, owner_at, session_at};
 
+use crate::own_queries::OwnQueries;
 use crate::replying::{SessionPlace, answer_line, make_room};
 use crate::session_logs::SessionLog;
 use crate::shares::Share;
 use lv_bodies::Six;
 use lv_history::WithBody;
-use lv_script::{Claimed, Fault, LineHandler, MOST_READ, ReplyBuffer, read_line, serve_lines};
+use lv_script::{
+    Claimed, Fault, LINE, LineHandler, MOST_READ, ReplyBuffer, read_line, serve_lines,
+};
 use std::alloc::AllocError;
 use std::io::{Read, Write};
 use std::marker::{Brand, Model, PhantomData};
 use std::mem;
 use std::sync::Wait;
 
-/// Answers the lines of a session on a hub: pushes, pops, writes, reserves, swaps, truncates, reductions and scans, as a script's; every
-/// other line that says something is bad. Their numbers are those of the place. Where it lists reductions, it does so with each that was
+/// Answers the lines of a session on a hub: pushes, pops, writes, reserves, swaps, truncates, reductions and scans, as a script's. Where it answers in full,
+/// it also answers `get`, `size` and `capacity`, and `watch`, `unwatch` and `answer` of queries of its own, of which it has at most 64; behind
+/// the reply to each line but a scan then stands a note of each whose answer isn't the one that it was told last, all at one edit, which isn't
+/// before that of the reply. Every other line that says something is bad. Numbers are those of the place. Where it lists reductions, it does so with each that was
 /// answered, in order, at most as many as the place says; one whose entry finds no room is refused with `NoMemory`. What the session does is recorded by the log before a reply to it goes out; where that
 /// fails, the fault is `WriteFault`, and nothing more goes out.
 ///
@@ -37,14 +43,15 @@ pub fn run_session<N: WithBody<Six>, T: Wait, L: SessionLog<N>, R: Read, W: Writ
     reader: &mut R,
     writer: &mut W,
 ) -> Result<Vec<Claimed>, Fault>
-    ensures lines_served { (last : SessionState)
-        × LinesServed (SessionStep N.limits N.numbers N.lists) (session_at share.old []) last
+    ensures lines_served { (last : Owner SessionState)
+        × LinesServed (SessionStep N.limits N.numbers N.sessions) (owner_at share.old [] none_own) last
         (R.remaining reader.old) (R.remaining reader.new) (W.contents writer.old) (W.contents writer.new) result
-        × (share.new.count ≡ last.count)
-        × (share.new.seen ≡ last.seen)
-        × IfOk result (λ answers. answers.items ≡ last.answers) }
+        × (share.new.count ≡ last.session.count)
+        × (share.new.seen ≡ last.session.seen)
+        × IfOk result (λ answers. answers.items ≡ last.session.answers) }
     // Line by line the replies are those of the plain interpreter, each at some edits of the hub's.
-    ensures plain { LinesServed (PlainSessionStep N.limits N.numbers) (seen_by share.old) (seen_by share.new)
+    ensures plain { (own : Own)
+        × LinesServed (PlainSessionStep N.limits N.numbers N.sessions.full) (seen_by share.old none_own) (seen_by share.new own)
         (R.remaining reader.old) (R.remaining reader.new) (W.contents writer.old) (W.contents writer.new) result }
     // All edits that it has seen are recorded, and all entries up to its last answer.
     ensures recorded { OnOk result ((entry : ℕ) × L.has_recorded log.now share.new.seen entry) }
@@ -113,7 +120,8 @@ fn hold<K: SessionStart, N: WithBody<Six>, T: Wait, L: SessionLog<N>, R: Read, W
     requires most { most_listed place.keeps ≡ K.most }
     requires log { (edits : List Edit) (entries : ℕ) → L.has_recorded log.now edits entries → K.recorded edits entries }
     ensures recorded { OnOk result.2 ((entry : ℕ) × K.recorded result.0.seen entry) }
-    ensures lines_served { LinesServed (TellsLine N.limits N.numbers N.lists) (session_at share []) (session_at result.0 result.1.items)
+    ensures lines_served { (own : Own)
+        × LinesServed (TellsLine N.limits N.numbers N.sessions) (owner_at share [] none_own) (owner_at result.0 result.1.items own)
         (R.remaining reader.old) (R.remaining reader.new) (W.contents writer.old) (W.contents writer.new) result.2 }
     ensures parts { result.0.parts ≡ share.parts }
     ensures more { share.count ≤ result.0.count }
@@ -125,6 +133,7 @@ fn hold<K: SessionStart, N: WithBody<Six>, T: Wait, L: SessionLog<N>, R: Read, W
         log,
         share,
         answers: Vec::new(alloc),
+        own: OwnQueries::new(alloc),
         entry: 0,
         of: PhantomData,
     };
@@ -140,6 +149,7 @@ struct Session<'a, N: WithBody<Six>, T: Wait, L: SessionLog<N>, K: SessionStart>
     log: &'a L,
     share: Share<N>,
     answers: Vec<Claimed>,
+    own: OwnQueries,
     // Up to which entry the log has to have those of the hub before replies go out: where answers are kept, that is the last one that this session was given.
     entry: u64,
     of: PhantomData<K>,
@@ -150,11 +160,11 @@ impl<'a, N: WithBody<Six>, T: Wait, L: SessionLog<N>, K: SessionStart> Model
     ghost use Rattle.std.specs.Prelude.{◌≡◌, ◌≤◌, ℕ, All, List, vec_len};
     ghost use Rattle.lv_edits.specs.declared.edit.Edit.{Edit};
     ghost use Rattle.lv_transcript.specs.Transcript.{IsTrueAnswer};
-    ghost use Rattle.lv_hub.specs.Session.{HeldSession, most_listed, session_at};
+    ghost use Rattle.lv_hub.specs.Session.{HeldSession, most_listed, owner_at};
 
     ghost Value = { HeldSession };
 
-    ghost view = { λ s. record { session = session_at s.share s.answers.items; entry = s.entry } };
+    ghost view = { λ s. record { owner = owner_at s.share s.answers.items s.own.own; entry = s.entry } };
 
     ghost invariant = { λ s. (s.share.parts ≡ K.holding.parts) × (K.holding.count ≤ s.share.count) × All (IsTrueAnswer s.share.seen) s.answers.items × (most_listed s.place.keeps ≡ K.most) × (vec_len s.answers ≤ K.most) × ((edits : List Edit) (entries : ℕ) → L.has_recorded s.log.now edits entries → K.recorded edits entries) };
 }
@@ -165,9 +175,9 @@ impl<'a, N: WithBody<Six>, T: Wait, L: SessionLog<N>, K: SessionStart, W: Write>
 
     ghost state = { λ s. s };
 
-    ghost step = { λ old number line reply new. TellsLine N.limits N.numbers N.lists old.session number line reply new.session };
+    ghost step = { λ old number line reply new. TellsLine N.limits N.numbers N.sessions old.owner number line reply new.owner };
 
-    ghost may_send = { λ s. K.recorded s.session.seen s.entry };
+    ghost may_send = { λ s. K.recorded s.owner.session.seen s.entry };
 
     fn handle(
         &mut self,
@@ -175,12 +185,13 @@ impl<'a, N: WithBody<Six>, T: Wait, L: SessionLog<N>, K: SessionStart, W: Write>
         line: &[u8],
         buffer: &mut ReplyBuffer<'_, W>,
     ) -> Result<(), Fault> {
-        make_room(&self.place, self.log, &self.share, self.entry, buffer)?;
+        make_room(&self.place, self.log, &self.share, self.entry, LINE, buffer)?;
         answer_line(
             &self.place,
             self.log,
             &mut self.share,
             &mut self.answers,
+            &mut self.own,
             &mut self.entry,
             number,
             read_line(line),

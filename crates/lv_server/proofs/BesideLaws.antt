@@ -9,6 +9,7 @@ use Rattle.lv_lines.specs.declared.fault.Fault.{Fault}
 use Rattle.lv_transcript.specs.declared.claimed.Claimed.{Claimed}
 use Rattle.lv_transcript.specs.declared.log_heading.LogHeading.{LogHeading}
 use Rattle.lv_hub.proofs.TruthLaws.{all_true_of_more}
+use Rattle.lv_history.specs.Manners.{Manner}
 use Rattle.lv_hub.specs.Counting.{ShareState}
 use Rattle.lv_hub.specs.Noticing.{NoticesState, WatcherState}
 use Rattle.lv_hub.specs.Watchers.{AllTellLast, AreWatchedFrom, ClosesTelling, LeftState, TakesWatchers, left_by}
@@ -18,9 +19,9 @@ use Rattle.lv_server.specs.Writing.{Writes}
 use Rattle.lv_server.proofs.ServedLaws.{begins}
 
 -- sessions were held, by a share that has seen more
-pub held_more : (limits : Bounds) (numbers : LogHeading) (listing : Bool) (begun : List Edit) (share more : ShareState) (olds news : List Sides) (answers : List Claimed) → AreAllHeld limits numbers listing begun share olds news answers → more.count ≡ share.count → IsPrefix share.seen more.seen
-    → AreAllHeld limits numbers listing begun more olds news answers
-held_more limits numbers listing begun share more olds news answers held count seen = record {
+pub held_more : (limits : Bounds) (numbers : LogHeading) (manner : Manner) (begun : List Edit) (share more : ShareState) (olds news : List Sides) (answers : List Claimed) → AreAllHeld limits numbers manner begun share olds news answers → more.count ≡ share.count → IsPrefix share.seen more.seen
+    → AreAllHeld limits numbers manner begun more olds news answers
+held_more limits numbers manner begun share more olds news answers held count seen = record {
   states = held.states;
   held = held.held;
   count = count ∙ held.count;

@@ -24,7 +24,8 @@ use Rattle.lv_hub.specs.Logging.{EndsInFile, WroteWhole, heading_after, log_afte
 use Rattle.lv_hub.specs.Noticing.{NoticesState}
 use Rattle.lv_hub.specs.PlainSession.{Seen}
 use Rattle.lv_hub.specs.Renewing.{IsClosed, IsRun, lasting, renewed_after}
-use Rattle.lv_hub.specs.Session.{SessionState, kept_by}
+use Rattle.lv_history.specs.Manners.{Manner}
+use Rattle.lv_hub.specs.Session.{SessionState, seen_of}
 use Rattle.lv_hub.specs.Watched.{WatchState}
 use Rattle.lv_hub.specs.Watchers.{AllTellLast, AreLeft, LeftState}
 use Rattle.lv_hub.proofs.WatchedLaws.{watched_each}
@@ -104,19 +105,19 @@ has_all limits served heading begun edits log fresh start contents is few goes e
 -- ---- what was served
 
 -- sessions and subscribers were served, where the hub was closed and all was written
-pub log_served : {V : Type 0} (fresh : Option (List ℕ)) (contents : V → Option (List ℕ)) (heading : LogHeading) (begun : List Edit) (log : Option LogThere) (start : Option (List ℕ)) (limits served : Bounds) (listing : Bool) (share : ShareState) (olds news : List Sides) (answers : List Claimed)
+pub log_served : {V : Type 0} (fresh : Option (List ℕ)) (contents : V → Option (List ℕ)) (heading : LogHeading) (begun : List Edit) (log : Option LogThere) (start : Option (List ℕ)) (limits served : Bounds) (manner : Manner) (share : ShareState) (olds news : List Sides) (answers : List Claimed)
     (watches : List WatchState) (left : List LeftState) (told : List NoticesState) (file : Option V) → served ≡ served_limits limits → limits.edits ≤ 16777215 → log ≡ Some (log_of_edits heading begun)
-    → AreAllHeld served heading listing begun share olds news answers → AreLeft heading share.seen watches left → ClosesLog fresh contents log start served heading share left told file
-    → IfSome file (λ kept. LogServed limits heading begun olds news watches told fresh start (contents kept))
-log_served fresh contents heading begun log start limits served listing share olds news answers watches left told file same few is held are closed =
+    → AreAllHeld served heading manner begun share olds news answers → AreLeft heading share.seen watches left → ClosesLog fresh contents log start served heading share left told file
+    → IfSome file (λ kept. LogServed limits heading manner.full begun olds news watches told fresh start (contents kept))
+log_served fresh contents heading begun log start limits served manner share olds news answers watches left told file same few is held are closed =
     if_some file
     (λ kept whole. record {
       edits = closed.edits;
       legal = subst (λ (b : Bounds). IsRun b closed.edits) same closed.run;
-      sessions = map kept_by held.states;
-      held = subst (λ (b : Bounds). AreHeldPlainly b heading begun olds news (map kept_by held.states)) same (held_plainly served heading listing begun olds news held.states held.held);
+      sessions = map seen_of held.states;
+      held = subst (λ (b : Bounds). AreHeldPlainly b heading manner.full begun olds news (map seen_of held.states)) same (held_plainly served heading manner begun olds news held.states held.held);
       starts = begins begun share.seen closed.edits held.starts closed.seen;
-      seen = All-map (λ (seen : Seen). IsPrefix seen.edits closed.edits) kept_by held.states
+      seen = All-map (λ (seen : Seen). IsPrefix seen.edits closed.edits) seen_of held.states
           (All-weaker (λ (s : SessionState). IsPrefix s.seen share.seen) (λ (s : SessionState). IsPrefix s.seen closed.edits) (λ s more. begins s.seen share.seen closed.edits more closed.seen) held.states held.seen);
       made = closed.counted ∙ held.count ∙ ap (λ n. length begun + n) (made_so held.states);
       log = has_all limits served heading begun closed.edits log fresh start (contents kept) same few is whole;

@@ -22,40 +22,42 @@ use Rattle.lv_edits.specs.History.{History}
 use Rattle.lv_edits.specs.Kept.{IsLegalInLimits}
 use Rattle.lv_transcript.specs.Transcript.{AreAccepted, IsSoundTranscript, IsTrueAnswer, Transcribes, greatest, transcript_text}
 use Rattle.lv_hub.specs.Counting.{AreTogether, ShareState}
+use Rattle.lv_history.specs.Manners.{Manner}
+use Rattle.lv_hub.specs.OwnQueries.{Own, Owner}
 use Rattle.lv_hub.specs.Session.{KeepTies, SessionState, SessionStep, session_at}
 use Rattle.lv_hub.specs.Renewing.{IsClosed, IsOfOneVector}
-use Rattle.lv_server.specs.Served.{AreHeld, FailsToServe, Served, Sides, Transcript, answered_to, ended_well}
+use Rattle.lv_server.specs.Served.{AreHeld, FailsToServe, Served, Sides, Transcript, answered_to, ended_well, unasked}
 use Rattle.lv_server.specs.Starting.{start_of}
 use Rattle.lv_server.specs.Tasks.{AreAllHeld, AreHeldFrom, IsHeldFrom, IsHeldOnce, Sitting, TakesBack, begun_at, state_of}
 use Rattle.lv_server.specs.Writing.{FailsToClose, IsJournal, IsTextOf, Writes, WritesClosed}
 
-module _ (limits : Bounds) (numbers : LogHeading) (listing : Bool) where
+module _ (limits : Bounds) (numbers : LogHeading) (manner : Manner) where
   -- a session that came to a state was held
-  held_so : (begun ended : Sitting) (state : SessionState) → state_of ended ≡ Some state → IsHeldFrom limits numbers listing begun ended
-      → LinesServed (SessionStep limits numbers listing) (session_at begun.share []) state begun.sides.lines ended.sides.lines begun.sides.replies ended.sides.replies ended_well
+  held_so : (begun ended : Sitting) (state : SessionState) → state_of ended ≡ Some state → IsHeldFrom limits numbers manner begun ended
+      → (own : Own) × LinesServed (SessionStep limits numbers manner) (unasked (session_at begun.share [])) record { session = state; own = own } begun.sides.lines ended.sides.lines begun.sides.replies ended.sides.replies ended_well
   held_so begun ended state is held =
-      subst (λ (found : Option SessionState). IfSome found (λ state. LinesServed (SessionStep limits numbers listing) (session_at begun.share []) state begun.sides.lines ended.sides.lines begun.sides.replies ended.sides.replies ended_well)) is held
+      subst (λ (found : Option SessionState). IfSome found (λ state. (own : Own) × LinesServed (SessionStep limits numbers manner) (unasked (session_at begun.share [])) record { session = state; own = own } begun.sides.lines ended.sides.lines begun.sides.replies ended.sides.replies ended_well)) is held
 
   -- one that began to wait was held, or has come to no state
-  once_so : (begun : List Edit) (side : Sides) (e : Sitting) → IsHeldOnce limits numbers listing (begun_at begun side) e → IsHeldFrom limits numbers listing (begun_at begun side) e
+  once_so : (begun : List Edit) (side : Sides) (e : Sitting) → IsHeldOnce limits numbers manner (begun_at begun side) e → IsHeldFrom limits numbers manner (begun_at begun side) e
   once_so begun side e held =
       elim held [
-        | inl same ↦ subst (λ e. IsHeldFrom limits numbers listing (begun_at begun side) e) (sym same) tt
+        | inl same ↦ subst (λ e. IsHeldFrom limits numbers manner (begun_at begun side) e) (sym same) tt
         | inr came ↦ came.2
       ]
 
   -- what is held once, and then again where it waits still, is held once
-  held_again : (old mid new : Sitting) → IsHeldOnce limits numbers listing old mid → IsHeldOnce limits numbers listing mid new → IsHeldOnce limits numbers listing old new
+  held_again : (old mid new : Sitting) → IsHeldOnce limits numbers manner old mid → IsHeldOnce limits numbers manner mid new → IsHeldOnce limits numbers manner old new
   held_again old mid new first second =
       elim first [
-        | inl same ↦ subst (λ mid. IsHeldOnce limits numbers listing mid new) same second
+        | inl same ↦ subst (λ mid. IsHeldOnce limits numbers manner mid new) same second
         | inr came ↦ elim second [
-          | inl same ↦ subst (λ new. IsHeldOnce limits numbers listing old new) (sym same) (inr came)
+          | inl same ↦ subst (λ new. IsHeldOnce limits numbers manner old new) (sym same) (inr came)
           | inr late ↦ absurd (cc (came.1, late.0))
         ]
       ]
 
-  pub are_held_again : (olds mids news : List Sitting) → AreHeldFrom limits numbers listing olds mids → AreHeldFrom limits numbers listing mids news → AreHeldFrom limits numbers listing olds news
+  pub are_held_again : (olds mids news : List Sitting) → AreHeldFrom limits numbers manner olds mids → AreHeldFrom limits numbers manner mids news → AreHeldFrom limits numbers manner olds news
   are_held_again olds mids news first second = record {
     len = second.len ∙ first.len;
     each = λ i b e within. held_again (slice_index_or olds i b) (slice_index_or mids i b) (slice_index_or news i e) (first.each i b b within) (second.each i b e (omega (arith, first.len, within)));
@@ -65,8 +67,8 @@ module _ (limits : Bounds) (numbers : LogHeading) (listing : Bool) where
   first_of x y xs ys e = (cc e, cc e)
 
   -- each of several that began anew, and came to these states, was held
-  pub each_held : (begun : List Edit) (olds : List Sides) (ended : List Sitting) (states : List SessionState) → AreHeldFrom limits numbers listing (map (begun_at begun) olds) ended → map state_of ended ≡ map Some states
-      → AreHeld limits numbers listing begun olds (map (λ ended. ended.sides) ended) states
+  pub each_held : (begun : List Edit) (olds : List Sides) (ended : List Sitting) (states : List SessionState) → AreHeldFrom limits numbers manner (map (begun_at begun) olds) ended → map state_of ended ≡ map Some states
+      → AreHeld limits numbers manner begun olds (map (λ ended. ended.sides) ended) states
   each_held begun [] [] [] held is = tt
   each_held begun [] [] (s ∷ states) held is = absurd (cc is)
   each_held begun [] (e ∷ ended) states held is = absurd (omega (arith, held.len))
@@ -141,11 +143,11 @@ begins_one_more begun tasks more task streams its are pushed is =
     pushed ∙ ap (λ tasks. tasks ++ task ∷ []) are ∙ ap (λ task. map begun streams ++ task ∷ []) is ∙ sym (map-append begun streams (its ∷ []))
 
 -- all sessions were held, and their shares taken back by one that had counted and seen what the server began with
-all_held : (limits : Bounds) (numbers : LogHeading) (listing : Bool) (first : List Edit) (old new : ShareState) (olds news : List Sides) (begun : List Sitting) (ended : List Sitting) (answers : List Claimed)
-    → begun ≡ map (begun_at first) olds → AreHeldFrom limits numbers listing begun ended → TakesBack old new ended answers news → old.count ≡ length first → old.seen ≡ first → AreAllHeld limits numbers listing first new olds news answers
-all_held limits numbers listing first old new olds news begun ended answers is held t many seen = record {
+all_held : (limits : Bounds) (numbers : LogHeading) (manner : Manner) (first : List Edit) (old new : ShareState) (olds news : List Sides) (begun : List Sitting) (ended : List Sitting) (answers : List Claimed)
+    → begun ≡ map (begun_at first) olds → AreHeldFrom limits numbers manner begun ended → TakesBack old new ended answers news → old.count ≡ length first → old.seen ≡ first → AreAllHeld limits numbers manner first new olds news answers
+all_held limits numbers manner first old new olds news begun ended answers is held t many seen = record {
   states = t.states;
-  held = subst (λ news. AreHeld limits numbers listing first olds news t.states) (sym t.sides_are) (each_held limits numbers listing first olds ended t.states (subst (λ begun. AreHeldFrom limits numbers listing begun ended) is held) t.states_are);
+  held = subst (λ news. AreHeld limits numbers manner first olds news t.states) (sym t.sides_are) (each_held limits numbers manner first olds ended t.states (subst (λ begun. AreHeldFrom limits numbers manner begun ended) is held) t.states_are);
   count = omega (arith, t.count, many);
   starts = subst (λ (es : List Edit). IsPrefix es new.seen) seen t.more;
   seen = t.seen;
@@ -165,14 +167,14 @@ as_many begun (s ∷ streams) = ap suc (as_many begun streams)
 pub begun_as_many : {S : Type 0} (begun : S → Sitting) (tasks : List Sitting) (streams : List S) → tasks ≡ map begun streams → length tasks ≡ length streams
 begun_as_many begun tasks streams is = ap length is ∙ as_many begun streams
 
-pub all_held_by : {S : Type 0} (side : S → Sides) (limits : Bounds) (numbers : LogHeading) (listing : Bool) (first start : List Edit) (old new : ShareState) (streams : List S) (news : List Sides) (begun : List Sitting) (ended : List Sitting) (answers : List Claimed)
-    → begun ≡ map (λ s. begun_at start (side s)) streams → AreHeldFrom limits numbers listing begun ended → TakesBack old new ended answers news → old.count ≡ length first → old.seen ≡ start → start ≡ first
-    → AreAllHeld limits numbers listing first new (map side streams) news answers
-all_held_by side limits numbers listing first start old new streams news begun ended answers is held t many seen same =
-    all_held limits numbers listing first old new (map side streams) news begun ended answers (is ∙ begun_for start side streams ∙ ap (λ es. map (begun_at es) (map side streams)) same) held t many (seen ∙ same)
+pub all_held_by : {S : Type 0} (side : S → Sides) (limits : Bounds) (numbers : LogHeading) (manner : Manner) (first start : List Edit) (old new : ShareState) (streams : List S) (news : List Sides) (begun : List Sitting) (ended : List Sitting) (answers : List Claimed)
+    → begun ≡ map (λ s. begun_at start (side s)) streams → AreHeldFrom limits numbers manner begun ended → TakesBack old new ended answers news → old.count ≡ length first → old.seen ≡ start → start ≡ first
+    → AreAllHeld limits numbers manner first new (map side streams) news answers
+all_held_by side limits numbers manner first start old new streams news begun ended answers is held t many seen same =
+    all_held limits numbers manner first old new (map side streams) news begun ended answers (is ∙ begun_for start side streams ∙ ap (λ es. map (begun_at es) (map side streams)) same) held t many (seen ∙ same)
 
 -- the transcript of the journal is that of the sessions
-module _ (limits : Bounds) (numbers : LogHeading) (listing : Bool) (begun : List Edit) (share : ShareState) (olds news : List Sides) (answers : List Claimed) (held : AreAllHeld limits numbers listing begun share olds news answers) where
+module _ (limits : Bounds) (numbers : LogHeading) (manner : Manner) (begun : List Edit) (share : ShareState) (olds news : List Sides) (answers : List Claimed) (held : AreAllHeld limits numbers manner begun share olds news answers) where
   transcript_so : (journal : List Edit) (text : List ℕ) → IsJournal limits share journal → IsTextOf journal answers text → Transcript limits begun held.states text
   transcript_so journal text of is = record {
     journal = journal;
@@ -190,7 +192,7 @@ module _ (limits : Bounds) (numbers : LogHeading) (listing : Bool) (begun : List
   }
 
   -- where it was written, the sessions were served
-  pub served_so : {T : Type 0} (x : T) (contents_old contents_new : Option (List ℕ)) → WritesClosed {T = T} limits share answers contents_old contents_new (Ok x) → Served limits numbers listing begun olds news contents_old contents_new
+  pub served_so : {T : Type 0} (x : T) (contents_old contents_new : Option (List ℕ)) → WritesClosed {T = T} limits share answers contents_old contents_new (Ok x) → Served limits numbers manner begun olds news contents_old contents_new
   served_so x contents_old contents_new w =
       let written = w.written in record {
         states = held.states;
@@ -252,11 +254,11 @@ writes_so journal listed answers old new (Err ReadFault) is written sound = absu
 writes_so journal listed answers old new (Err TooLong) is written sound = absurd written
 
 -- a session that ended well
-pub ended_so : {T : Type 0} (limits : Bounds) (numbers : LogHeading) (listing : Bool) (old new last : SessionState) (a b k l : Option (List ℕ)) (x : T) → LinesServed (SessionStep limits numbers listing) old last a b k l (Ok x)
-    → new.count ≡ last.count → new.seen ≡ last.seen → new.answers ≡ last.answers → LinesServed (SessionStep limits numbers listing) old new a b k l ended_well
-ended_so limits numbers listing old new last a b k l x c count seen answers =
-    let same : last ≡ new = λ i. record { count = sym count i; seen = sym seen i; answers = sym answers i } in
-    subst (λ state. LinesServed (SessionStep limits numbers listing) old state a b k l ended_well) same (record { seen = c.seen; read = c.read; few = c.few; ends = c.ends })
+pub ended_so : {T : Type 0} (limits : Bounds) (numbers : LogHeading) (manner : Manner) (old last : Owner SessionState) (new : SessionState) (a b k l : Option (List ℕ)) (x : T) → LinesServed (SessionStep limits numbers manner) old last a b k l (Ok x)
+    → new.count ≡ last.session.count → new.seen ≡ last.session.seen → new.answers ≡ last.session.answers → (own : Own) × LinesServed (SessionStep limits numbers manner) old record { session = new; own = own } a b k l ended_well
+ended_so limits numbers manner old last new a b k l x c count seen answers =
+    let same : last.session ≡ new = λ i. record { count = sym count i; seen = sym seen i; answers = sym answers i } in
+    (last.own, subst (λ state. LinesServed (SessionStep limits numbers manner) old record { session = state; own = last.own } a b k l ended_well) same (record { seen = c.seen; read = c.read; few = c.few; ends = c.ends }))
 
 -- answers in their order have a text
 pub ordered_text : (journal : List Edit) (listed : List Claimed) → IsTextOf journal listed (transcript_text journal (by_edit listed))

@@ -1,6 +1,6 @@
 -- What a server that goes on from a log comes to, by lists alone: sessions answered by the reference interpreter, whose numbers go on, and a file
 -- that stays a log of all edits.
-use Rattle.std.specs.Prelude.{◌≡◌, ◌⊎◌, ℕ, ◌+◌, ◌≤◌, nat_eq, Option, Some, List, ◌++◌, All, drop, length, map, take}
+use Rattle.std.specs.Prelude.{◌≡◌, ◌⊎◌, ℕ, ◌+◌, ◌≤◌, nat_eq, Bool, Option, Some, List, ◌++◌, All, drop, length, map, take}
 use Rattle.std.specs.List.{sum_by}
 use Rattle.std.specs.Io.KnownBytes.{Appends}
 use mathlib.Core.List.{IsPrefix}
@@ -50,11 +50,11 @@ HasAllEdits limits heading begun edits fresh contents_old contents_new =
 -- sessions and subscribers were served from a log with this first line and these edits: there is one list of edits, possible one after the other, which begins with those,
 -- and has as many more as the sessions made together; of it each session has seen a beginning at its end. The last file has all of them, and
 -- subscribers were told of them
-pub record LogServed (limits : Bounds) (heading : LogHeading) (begun : List Edit) (old new : List Sides) (watches : List WatchState) (told : List NoticesState) (fresh contents_old contents_new : Option (List ℕ)) : Type 0 where
+pub record LogServed (limits : Bounds) (heading : LogHeading) (full : Bool) (begun : List Edit) (old new : List Sides) (watches : List WatchState) (told : List NoticesState) (fresh contents_old contents_new : Option (List ℕ)) : Type 0 where
   pub edits : List Edit
   pub legal : IsRun (served_limits limits) edits
   pub sessions : List Seen
-  pub held : AreHeldPlainly (served_limits limits) heading begun old new sessions
+  pub held : AreHeldPlainly (served_limits limits) heading full begun old new sessions
   pub starts : IsPrefix begun edits
   pub seen : All (λ seen. IsPrefix seen.edits edits) sessions
   pub made : length edits ≡ length begun + sum_by (λ seen. seen.made) sessions

@@ -1,6 +1,6 @@
 -- What it means that sessions were served: each was a conversation on its own streams, on one vector whose edits are one list; and
 -- what the transcript tells of them.
-use Rattle.std.specs.Prelude.{⊤, ◌≡◌, ◌⊎◌, ℕ, ◌+◌, Bool, Option, Result, Ok, List, [], ◌∷◌, All, length}
+use Rattle.std.specs.Prelude.{⊤, ◌≡◌, ◌⊎◌, ℕ, ◌+◌, Option, Result, Ok, List, [], ◌∷◌, All, length}
 use Rattle.std.specs.List.{flat_map, sum_by}
 use Rattle.std.specs.List.Sorted.{IsPermutation}
 use Rattle.std.specs.Io.KnownBytes.{Appends}
@@ -15,6 +15,8 @@ use Rattle.lv_edits.specs.Kept.{IsLegalInLimits}
 use Rattle.lv_lines.specs.Output.{WritesFront}
 use Rattle.lv_lines.specs.Replies.{LinesServed}
 use Rattle.lv_transcript.specs.Transcript.{AreAccepted, AreInOrder, IsSoundTranscript, IsTrueAnswer, greatest, transcript_text}
+use Rattle.lv_history.specs.Manners.{Manner}
+use Rattle.lv_hub.specs.OwnQueries.{Own, Owner, none_own}
 use Rattle.lv_hub.specs.Session.{KeepTies, SessionState, SessionStep}
 use Rattle.lv_hub.specs.Told.{history_of}
 
@@ -30,6 +32,10 @@ ended_well = Ok tt
 -- a session that has counted no edit, has seen those that the server began with, and was answered no reduction
 abbrev pub new_session : List Edit → SessionState
 new_session begun = record { count = 0; seen = begun; answers = [] }
+
+-- a session without queries of its own
+abbrev pub unasked : SessionState → Owner SessionState
+unasked state = record { session = state; own = none_own }
 
 -- the edits that sessions count together, and the reductions that they were answered, session by session
 abbrev pub counted_by : List SessionState → ℕ
@@ -63,11 +69,11 @@ module _ (limits : Bounds) (begun : List Edit) where
       (contents_new ≡ contents_old)
       ⊎ ((fault ≡ WriteFault) × (states : List SessionState) × (text : List ℕ) × Transcript states text × WritesFront contents_old [] contents_new text)
 
--- of one that tells edits by these numbers, and lists for the transcript what sessions are answered, or not
-module _ (limits : Bounds) (numbers : LogHeading) (listing : Bool) (begun : List Edit) where
-  -- a session was held to the end of its lines, and came to this state
+-- of one that tells edits by these numbers, and whose sessions answer in this manner
+module _ (limits : Bounds) (numbers : LogHeading) (manner : Manner) (begun : List Edit) where
+  -- a session, which had no queries of its own, was held to the end of its lines, and came to this state
   abbrev pub IsHeld : Sides → Sides → SessionState → Type 0
-  IsHeld old new state = LinesServed (SessionStep limits numbers listing) (new_session begun) state old.lines new.lines old.replies new.replies ended_well
+  IsHeld old new state = (own : Own) × LinesServed (SessionStep limits numbers manner) (unasked (new_session begun)) record { session = state; own = own } old.lines new.lines old.replies new.replies ended_well
 
   -- so was each of several
   abbrev pub AreHeld : List Sides → List Sides → List SessionState → Type 0

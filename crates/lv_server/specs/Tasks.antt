@@ -8,8 +8,10 @@ use Rattle.lv_geometry.specs.Bounds.{Bounds}
 use Rattle.lv_lines.specs.Replies.{LinesServed}
 use Rattle.lv_transcript.specs.Transcript.{IsTrueAnswer}
 use Rattle.lv_hub.specs.Counting.{ShareState}
+use Rattle.lv_history.specs.Manners.{Manner}
+use Rattle.lv_hub.specs.OwnQueries.{Own}
 use Rattle.lv_hub.specs.Session.{SessionState, SessionStep, session_at}
-use Rattle.lv_server.specs.Served.{AreHeld, Sides, answered_to, counted_by, ended_well}
+use Rattle.lv_server.specs.Served.{AreHeld, Sides, answered_to, counted_by, ended_well, unasked}
 
 -- a session: its share, what its streams are at, whether it waits to be held, and the reductions that it was answered once it was. It has
 -- none where it ended with a fault
@@ -45,12 +47,12 @@ pub record TakesBack (old new : ShareState) (ended : List Sitting) (answers : Li
   pub all_true : All (IsTrueAnswer new.seen) answers
   pub sides_are : sides ≡ map (λ ended. ended.sides) ended
 
--- of a server that tells edits by these numbers, and lists for the transcript what sessions are answered, or not
-module _ (limits : Bounds) (numbers : LogHeading) (listing : Bool) where
+-- of a server that tells edits by these numbers, and whose sessions answer in this manner
+module _ (limits : Bounds) (numbers : LogHeading) (manner : Manner) where
   -- unless it ended with a fault, a session was held from where it began
   abbrev pub IsHeldFrom : Sitting → Sitting → Type 0
   IsHeldFrom begun ended =
-      IfSome (state_of ended) (λ state. LinesServed (SessionStep limits numbers listing) (session_at begun.share []) state begun.sides.lines ended.sides.lines begun.sides.replies ended.sides.replies ended_well)
+      IfSome (state_of ended) (λ state. (own : Own) × LinesServed (SessionStep limits numbers manner) (unasked (session_at begun.share [])) record { session = state; own = own } begun.sides.lines ended.sides.lines begun.sides.replies ended.sides.replies ended_well)
 
   -- one that waits was held, or waits still, and nothing is changed; nor is one that doesn't wait
   abbrev pub IsHeldOnce : Sitting → Sitting → Type 0
@@ -64,7 +66,7 @@ module _ (limits : Bounds) (numbers : LogHeading) (listing : Bool) where
   -- sessions of a server that began with these edits were held, and their shares are one
   pub record AreAllHeld (begun : List Edit) (share : ShareState) (old new : List Sides) (answers : List Claimed) : Type 0 where
     pub states : List SessionState
-    pub held : AreHeld limits numbers listing begun old new states
+    pub held : AreHeld limits numbers manner begun old new states
     pub count : share.count ≡ length begun + counted_by states
     pub starts : IsPrefix begun share.seen
     pub seen : All (λ state. IsPrefix state.seen share.seen) states

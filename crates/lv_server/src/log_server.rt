@@ -54,7 +54,7 @@ pub fn serve_log<
     requires base { heading.base ≤ 2 ^ 62 }
     ensures back { IfOk result (λ done. is_some done.1 ≡ true) }
     // Replies are the plain interpreter's, at beginnings of one list of edits, and the file has all of that list.
-    ensures served { IfOk result (λ done. IfSome done.1 (λ kept. LogServed plan.limits heading begun.now (map (λ s. record { lines = F.remaining s.lines; replies = F.contents s.replies }) streams.items) (map (λ s. record { lines = F.remaining s.lines; replies = F.contents s.replies }) done.0.items)
+    ensures served { IfOk result (λ done. IfSome done.1 (λ kept. LogServed plan.limits heading plan.full begun.now (map (λ s. record { lines = F.remaining s.lines; replies = F.contents s.replies }) streams.items) (map (λ s. record { lines = F.remaining s.lines; replies = F.contents s.replies }) done.0.items)
         (map (λ w. record { questions = w.questions.items; contents = F.contents w.notes }) watches.items) (map (λ w. w.notices) done.2.items) V.made (V.contents file) (V.contents kept))) }
 {
     let parts = streams.len() as u64 + watches.len() as u64 + 1;
@@ -114,14 +114,15 @@ fn serve_log_as<
     requires history { opened ≡ N.history }
     requires numbers { heading ≡ N.numbers }
     requires base { heading.base ≤ 2 ^ 62 }
-    requires lists { are_listed keeps ≡ N.lists }
-    requires unlisted { N.lists ≡ false }
+    requires lists { are_listed keeps ≡ N.sessions.listed }
+    requires unlisted { N.sessions.listed ≡ false }
+    requires fully { plan.full ≡ N.sessions.full }
     requires body { N.body ≡ Some body }
     requires start { K.start ≡ V.contents file }
     requires there { K.there ≡ Some (log_of_edits heading begun.now) }
     requires log { IsLogOfEdits heading begun.now }
     ensures back { IfOk result (λ done. is_some done.1 ≡ true) }
-    ensures served { IfOk result (λ done. IfSome done.1 (λ kept. LogServed plan.limits heading begun.now (map (λ s. record { lines = F.remaining s.lines; replies = F.contents s.replies }) clients.streams.items) (map (λ s. record { lines = F.remaining s.lines; replies = F.contents s.replies }) done.0.items)
+    ensures served { IfOk result (λ done. IfSome done.1 (λ kept. LogServed plan.limits heading plan.full begun.now (map (λ s. record { lines = F.remaining s.lines; replies = F.contents s.replies }) clients.streams.items) (map (λ s. record { lines = F.remaining s.lines; replies = F.contents s.replies }) done.0.items)
         (map (λ w. record { questions = w.questions.items; contents = F.contents w.notes }) clients.watches.items) (map (λ w. w.notices) done.2.items) V.made (V.contents file) (V.contents kept))) }
 {
     let (hub, mut share) = Hub::<Six, N>::open(

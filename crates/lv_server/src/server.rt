@@ -47,6 +47,8 @@ pub struct Plan {
     pub turns: u64,
     /// At most how many answered reductions each session keeps for the transcript.
     pub most: usize,
+    /// Whether sessions answer in full: also what the vector has, and queries of their own.
+    pub full: bool,
 }
 
 /// Holds a session for each pair of streams, in a thread of its own where one can be made, with workers beside them, on a vector that begins
@@ -78,9 +80,9 @@ pub fn serve<
     writer: &mut W,
 ) -> Result<(Vec<OpenedClient<F>>, Option<V>, Vec<Watched<F>>), ProgramError>
     requires { IfSome file (λ _. begun.now ≡ []) }
-    ensures served { IfOk result (λ done. Served plan.limits from_the_first true begun.now (map (λ s. record { lines = F.remaining s.lines; replies = F.contents s.replies }) streams.items) (map (λ s. record { lines = F.remaining s.lines; replies = F.contents s.replies }) done.0.items) (W.contents writer.old) (W.contents writer.new)) }
+    ensures served { IfOk result (λ done. Served plan.limits from_the_first record { listed = true; full = plan.full } begun.now (map (λ s. record { lines = F.remaining s.lines; replies = F.contents s.replies }) streams.items) (map (λ s. record { lines = F.remaining s.lines; replies = F.contents s.replies }) done.0.items) (W.contents writer.old) (W.contents writer.new)) }
     // Each reply is the plain interpreter's, at a beginning of one list of edits.
-    ensures plain { IfOk result (λ done. ServedPlainly plan.limits from_the_first begun.now (map (λ s. record { lines = F.remaining s.lines; replies = F.contents s.replies }) streams.items) (map (λ s. record { lines = F.remaining s.lines; replies = F.contents s.replies }) done.0.items) (W.contents writer.old) (W.contents writer.new)) }
+    ensures plain { IfOk result (λ done. ServedPlainly plan.limits from_the_first plan.full begun.now (map (λ s. record { lines = F.remaining s.lines; replies = F.contents s.replies }) streams.items) (map (λ s. record { lines = F.remaining s.lines; replies = F.contents s.replies }) done.0.items) (W.contents writer.old) (W.contents writer.new)) }
     ensures failed { IfErr result (λ failure. FailsToServe plan.limits begun.now (W.contents writer.old) (W.contents writer.new) failure.fault) }
     ensures back { IfOk result (λ done. is_some done.1 ≡ is_some file) }
     // The file has got the edits of the transcript that was written, and true answers between them, in the order of time.
@@ -137,12 +139,13 @@ fn serve_as<
     requires history { opened ≡ N.history }
     requires numbers { numbers ≡ N.numbers }
     requires base { numbers.base ≤ 2 ^ 62 }
-    requires lists { are_listed keeps ≡ N.lists }
+    requires lists { are_listed keeps ≡ N.sessions.listed }
+    requires fully { plan.full ≡ N.sessions.full }
     requires body { N.body ≡ Some body }
     requires start { IfSome file (λ file. K.start ≡ V.contents file) }
     requires transcript { K.there ≡ None }
     requires fresh { IfSome file (λ _. begun.now ≡ []) }
-    ensures served { IfOk result (λ done. Served plan.limits N.numbers N.lists begun.now (map (λ s. record { lines = F.remaining s.lines; replies = F.contents s.replies }) clients.streams.items) (map (λ s. record { lines = F.remaining s.lines; replies = F.contents s.replies }) done.0.items) (W.contents writer.old) (W.contents writer.new)) }
+    ensures served { IfOk result (λ done. Served plan.limits N.numbers N.sessions begun.now (map (λ s. record { lines = F.remaining s.lines; replies = F.contents s.replies }) clients.streams.items) (map (λ s. record { lines = F.remaining s.lines; replies = F.contents s.replies }) done.0.items) (W.contents writer.old) (W.contents writer.new)) }
     ensures failed { IfErr result (λ failure. FailsToServe plan.limits begun.now (W.contents writer.old) (W.contents writer.new) failure.fault) }
     ensures back { IfOk result (λ done. is_some done.1 ≡ is_some file) }
     ensures recorded { IfOk result (λ done. IfSome done.1 (λ kept. Records K.start (V.contents kept) (W.contents writer.old) (W.contents writer.new))) }
@@ -205,8 +208,9 @@ pub fn serve_all<
     requires begins { IfSome file (λ _. begun.now ≡ edits_there K.there) }
     requires numbers { numbers ≡ N.numbers }
     requires base { numbers.base ≤ 2 ^ 62 }
-    requires lists { are_listed keeps ≡ N.lists }
-    requires one { N.lists ≡ true → IsOfOneVector N.limits }
+    requires lists { are_listed keeps ≡ N.sessions.listed }
+    requires fully { plan.full ≡ N.sessions.full }
+    requires one { N.sessions.listed ≡ true → IsOfOneVector N.limits }
     requires lasts { IfSome lasts (AreLasting N.limits) }
     requires all { share.old.parts ≡ N.parts }
     requires parts { share.old.parts ≡ vec_len clients.streams + vec_len clients.watches + 1 }
@@ -215,7 +219,7 @@ pub fn serve_all<
     ensures parts { IfOk result (λ all. share.new.parts ≡ share.old.parts) }
     ensures unused { IfOk result (λ all. IsUnused all.0.transcript) }
     ensures logged { IfOk result (λ all. is_some all.1 ≡ is_some file) }
-    ensures held { IfOk result (λ all. AreAllHeld N.limits N.numbers N.lists begun.now share.new (map (λ s. record { lines = F.remaining s.lines; replies = F.contents s.replies }) clients.streams.items) (map (λ s. record { lines = F.remaining s.lines; replies = F.contents s.replies }) all.0.streams.items) (in_a_row all.0.answers.items)) }
+    ensures held { IfOk result (λ all. AreAllHeld N.limits N.numbers N.sessions begun.now share.new (map (λ s. record { lines = F.remaining s.lines; replies = F.contents s.replies }) clients.streams.items) (map (λ s. record { lines = F.remaining s.lines; replies = F.contents s.replies }) all.0.streams.items) (in_a_row all.0.answers.items)) }
     ensures left { IfOk result (λ all. AreLeft N.numbers share.new.seen (map (λ w. record { questions = w.questions.items; contents = F.contents w.notes }) clients.watches.items) all.2.left.items) }
     ensures none { IfOk result (λ all. all.2.watched.items ≡ []) }
     ensures room { IfOk result (λ all. vec_len all.2.left ≤ vec_capacity all.2.watched) }
@@ -236,6 +240,7 @@ pub fn serve_all<
         alloc,
         numbers,
         keeps,
+        full: plan.full,
     };
     let (held, watchers) = hold_all(&place, plan, log.as_ref(), tasks, watchers);
     let all = take_back(room, share, held)?;

@@ -34,7 +34,7 @@ pub fn hold_all<
     tasks: Vec<Task<N, F>>,
     watchers: Vec<Watcher<N, F>>,
 ) -> (Vec<Task<N, F>>, Vec<Watcher<N, F>>)
-    ensures held { AreHeldFrom N.limits N.numbers N.lists tasks.items result.0.items }
+    ensures held { AreHeldFrom N.limits N.numbers N.sessions tasks.items result.0.items }
     ensures watched { AreWatchedFrom N.limits N.numbers watchers.items result.1.items }
 {
     let Plan { workers, turns, .. } = plan;
@@ -43,7 +43,7 @@ pub fn hold_all<
         rt,
         move || refresh(rt, alloc, hub, workers, turns),
         move || -> (Vec<Task<N, F>>, Vec<Watcher<N, F>>)
-            ensures { AreHeldFrom N.limits N.numbers N.lists tasks.items result.0.items
+            ensures { AreHeldFrom N.limits N.numbers N.sessions tasks.items result.0.items
                 × AreWatchedFrom N.limits N.numbers watchers.items result.1.items }
         { hold_beside(place, log, tasks, watchers) },
     );
@@ -82,7 +82,7 @@ fn hold_beside<
     tasks: Vec<Task<N, F>>,
     watchers: Vec<Watcher<N, F>>,
 ) -> (Vec<Task<N, F>>, Vec<Watcher<N, F>>)
-    ensures held { AreHeldFrom N.limits N.numbers N.lists tasks.items result.0.items }
+    ensures held { AreHeldFrom N.limits N.numbers N.sessions tasks.items result.0.items }
     ensures watched { AreWatchedFrom N.limits N.numbers watchers.items result.1.items }
 {
     if watchers.len() == 0 {
@@ -96,7 +96,7 @@ fn hold_beside<
             ensures { AreWatchedFrom N.limits N.numbers watchers.items result.items }
         { watch_all(rt, alloc, hub, log, watchers) },
         move || -> Vec<Task<N, F>>
-            ensures { AreHeldFrom N.limits N.numbers N.lists tasks.items result.items }
+            ensures { AreHeldFrom N.limits N.numbers N.sessions tasks.items result.items }
         { hold_each(place, log, tasks) },
     );
     (held, watchers)
@@ -161,7 +161,7 @@ fn hold_each<
     log: Option<&Mutex<OperationLog<N, V, K>>>,
     tasks: Vec<Task<N, F>>,
 ) -> Vec<Task<N, F>>
-    ensures { AreHeldFrom N.limits N.numbers N.lists tasks.items result.items }
+    ensures { AreHeldFrom N.limits N.numbers N.sessions tasks.items result.items }
 {
     let mut tasks = tasks;
     hold_in_place(place, log, tasks.as_mut_slice());
@@ -182,7 +182,7 @@ fn hold_in_place<
     log: Option<&Mutex<OperationLog<N, V, K>>>,
     tasks: &mut [Task<N, F>],
 )
-    ensures { AreHeldFrom N.limits N.numbers N.lists tasks.old tasks.new }
+    ensures { AreHeldFrom N.limits N.numbers N.sessions tasks.old tasks.new }
 {
     let threads = tasks.len();
     hold_waiting(place, log, tasks, threads, false);
@@ -204,10 +204,10 @@ fn hold_waiting<
     threads: usize,
     frees: bool,
 )
-    ensures { AreHeldFrom N.limits N.numbers N.lists tasks.old tasks.new }
+    ensures { AreHeldFrom N.limits N.numbers N.sessions tasks.old tasks.new }
 {
     let held = |_: usize, task: &mut Task<N, F>|
-        ensures { IsHeldOnce N.limits N.numbers N.lists task.old task.new }
+        ensures { IsHeldOnce N.limits N.numbers N.sessions task.old task.new }
     {
         if frees {
             task.spare = None;
@@ -223,7 +223,7 @@ fn hold<N: WithBody<Six>, K: Begun, F: Read + Write + Drop, V: LogWriter + Drop,
     log: Option<&Mutex<OperationLog<N, V, K>>>,
     task: &mut Task<N, F>,
 )
-    ensures { IsHeldOnce N.limits N.numbers N.lists task.old task.new }
+    ensures { IsHeldOnce N.limits N.numbers N.sessions task.old task.new }
 {
     if task.ended.is_some() {
         return;
@@ -235,6 +235,7 @@ fn hold<N: WithBody<Six>, K: Begun, F: Read + Write + Drop, V: LogWriter + Drop,
         alloc: place.alloc,
         numbers: place.numbers,
         keeps: place.keeps,
+        full: place.full,
     };
     let answers = run_session(
         here,

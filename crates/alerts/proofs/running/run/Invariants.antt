@@ -6,7 +6,7 @@ abbrev pub ghosts-run_as-N-Ledger : goal.ghosts-run_as-N-Ledger
 ghosts-run_as-N-Ledger g a = record { name = a.blank.name; parts = a.blank.parts }
 
 abbrev pub ghosts-run_as-N-Naming : goal.ghosts-run_as-N-Naming
-ghosts-run_as-N-Naming g a = record { limits = a.limits; history = a.opened; numbers = record { base = 0; elements = 0 }; lists = true }
+ghosts-run_as-N-Naming g a = record { limits = a.limits; history = a.opened; numbers = record { base = 0; elements = 0 }; sessions = record { listed = true; full = false } }
 
 abbrev pub ghosts-run_as-N-WithBody : goal.ghosts-run_as-N-WithBody
 ghosts-run_as-N-WithBody g a = record { body = Some a.body }

@@ -7,7 +7,7 @@ abbrev pub ghosts-hold-N-Ledger : goal.ghosts-hold-N-Ledger
 ghosts-hold-N-Ledger g a = record { name = a.blank.name; parts = a.blank.parts }
 
 abbrev pub ghosts-hold-N-Naming : goal.ghosts-hold-N-Naming
-ghosts-hold-N-Naming g a = record { limits = a.limits; history = a.opened; numbers = from_the_first; lists = true }
+ghosts-hold-N-Naming g a = record { limits = a.limits; history = a.opened; numbers = from_the_first; sessions = record { listed = true; full = false } }
 
 abbrev pub ghosts-hold-N-WithBody : goal.ghosts-hold-N-WithBody
 ghosts-hold-N-WithBody g a = record { body = Some a.body }

@@ -7,7 +7,7 @@ abbrev pub ghosts-hold_a_job-N-Ledger : goal.ghosts-hold_a_job-N-Ledger
 ghosts-hold_a_job-N-Ledger g a = record { name = a.blank.name; parts = a.blank.parts }
 
 abbrev pub ghosts-hold_a_job-N-Naming : goal.ghosts-hold_a_job-N-Naming
-ghosts-hold_a_job-N-Naming g a = record { limits = a.limits; history = a.opened; numbers = from_the_first; lists = true }
+ghosts-hold_a_job-N-Naming g a = record { limits = a.limits; history = a.opened; numbers = from_the_first; sessions = record { listed = true; full = false } }
 
 abbrev pub ghosts-hold_a_job-N-WithBody : goal.ghosts-hold_a_job-N-WithBody
 ghosts-hold_a_job-N-WithBody g a = record { body = Some a.body }

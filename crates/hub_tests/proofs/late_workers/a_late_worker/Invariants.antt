@@ -7,7 +7,7 @@ abbrev pub ghosts-late_worker-N-Ledger : goal.ghosts-late_worker-N-Ledger
 ghosts-late_worker-N-Ledger g a = record { name = a.blank.name; parts = a.blank.parts }
 
 abbrev pub ghosts-late_worker-N-Naming : goal.ghosts-late_worker-N-Naming
-ghosts-late_worker-N-Naming g a = record { limits = a.limits; history = a.opened; numbers = from_the_first; lists = true }
+ghosts-late_worker-N-Naming g a = record { limits = a.limits; history = a.opened; numbers = from_the_first; sessions = record { listed = true; full = false } }
 
 abbrev pub ghosts-late_worker-N-WithBody : goal.ghosts-late_worker-N-WithBody
 ghosts-late_worker-N-WithBody g a = record { body = Some a.body }

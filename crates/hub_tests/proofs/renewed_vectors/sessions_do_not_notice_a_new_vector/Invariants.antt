@@ -7,7 +7,7 @@ abbrev pub ghosts-hold_renewed-N-Ledger : goal.ghosts-hold_renewed-N-Ledger
 ghosts-hold_renewed-N-Ledger g a = record { name = a.blank.name; parts = a.blank.parts }
 
 abbrev pub ghosts-hold_renewed-N-Naming : goal.ghosts-hold_renewed-N-Naming
-ghosts-hold_renewed-N-Naming g a = record { limits = lasting a.limits; history = a.opened; numbers = a.numbers; lists = false }
+ghosts-hold_renewed-N-Naming g a = record { limits = lasting a.limits; history = a.opened; numbers = a.numbers; sessions = record { listed = false; full = false } }
 
 abbrev pub ghosts-hold_renewed-N-WithBody : goal.ghosts-hold_renewed-N-WithBody
 ghosts-hold_renewed-N-WithBody g a = record { body = Some a.body }

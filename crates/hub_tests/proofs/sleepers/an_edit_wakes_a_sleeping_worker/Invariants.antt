@@ -7,7 +7,7 @@ abbrev pub ghosts-woken-N-Ledger : goal.ghosts-woken-N-Ledger
 ghosts-woken-N-Ledger g a = record { name = a.blank.name; parts = a.blank.parts }
 
 abbrev pub ghosts-woken-N-Naming : goal.ghosts-woken-N-Naming
-ghosts-woken-N-Naming g a = record { limits = a.limits; history = a.opened; numbers = from_the_first; lists = true }
+ghosts-woken-N-Naming g a = record { limits = a.limits; history = a.opened; numbers = from_the_first; sessions = record { listed = true; full = false } }
 
 abbrev pub ghosts-woken-N-WithBody : goal.ghosts-woken-N-WithBody
 ghosts-woken-N-WithBody g a = record { body = Some a.body }

@@ -7,7 +7,7 @@ abbrev pub ghosts-dismissed-N-Ledger : goal.ghosts-dismissed-N-Ledger
 ghosts-dismissed-N-Ledger g a = record { name = a.blank.name; parts = a.blank.parts }
 
 abbrev pub ghosts-dismissed-N-Naming : goal.ghosts-dismissed-N-Naming
-ghosts-dismissed-N-Naming g a = record { limits = a.limits; history = a.opened; numbers = from_the_first; lists = true }
+ghosts-dismissed-N-Naming g a = record { limits = a.limits; history = a.opened; numbers = from_the_first; sessions = record { listed = true; full = false } }
 
 abbrev pub ghosts-dismissed-N-WithBody : goal.ghosts-dismissed-N-WithBody
 ghosts-dismissed-N-WithBody g a = record { body = Some a.body }

@@ -14,4 +14,4 @@ returns-in-Nothing-clause-ok g c =
 -- what is listed stays true
 pub returns-in-Do-clause-all_true : goal.returns-in-Do-clause-all_true
 returns-in-Do-clause-all_true g c =
-    answered_keeps g.N.Naming.limits g.N.Naming.numbers g.N.Naming.lists _ _ (session_at c.args.share.now c.args.answers.now.items) (session_at c.answer.new.share c.answer.new.answers.items) c.args.number (Do c.in-Do.command) c.answer.result c.answer.ensures.ok c.answer.ensures.fault c.requires.all_true
+    answered_keeps g.N.Naming.limits g.N.Naming.numbers g.N.Naming.sessions.listed _ _ (session_at c.args.share.now c.args.answers.now.items) (session_at c.answer.new.share c.answer.new.answers.items) c.args.number (Do c.in-Do.command) c.answer.result c.answer.ensures.ok c.answer.ensures.fault c.requires.all_true

@@ -20,7 +20,7 @@ returns-in-Ok-clause-ok g c =
     let text_of : ℕ → List ℤ → List ℕ = λ edit xs. scan_text edit asked.inclusive asked.kind (scan_by (plain_value asked.kind) asked.inclusive xs) in
     let is : text_of c.last_number.result c.elements.result.now ≡ scan_reply_text (told_number g.N.Naming.numbers (length c.copy_range-copied.new.share.seen)) asked.inclusive asked.kind (Ok c.in-Ok.stretch) =
     ap₂ text_of c.last_number.ensures c.elements.ensures.same in
-    let tells : (answers : List Claimed) → TellsScan g.N.Naming.limits g.N.Naming.numbers g.N.Naming.lists (session_at c.args.share.now answers) asked.inclusive asked.kind asked.lo asked.hi (text_of c.last_number.result c.elements.result.now) (session_at c.copy_range-copied.new.share answers) =
+    let tells : (answers : List Claimed) → TellsScan g.N.Naming.limits g.N.Naming.numbers g.N.Naming.sessions.listed (session_at c.args.share.now answers) asked.inclusive asked.kind asked.lo asked.hi (text_of c.last_number.result c.elements.result.now) (session_at c.copy_range-copied.new.share answers) =
     λ answers. record { body = c.args.place.now.hub.now; result = Ok c.in-Ok.stretch; told = c.in-Ok.ensures.told; text_is = is; state = ap (λ h. session_at h answers) c.copy_range-copied.ensures.share } in
     on_ok_weaker c.put_recorded_scan.result (λ puts. (text_of c.last_number.result c.elements.result.now, tells, puts)) c.put_recorded_scan.ensures.ok
 
@@ -30,6 +30,6 @@ returns-in-Ok-clause-fault g c =
     let text_of : ℕ → List ℤ → List ℕ = λ edit xs. scan_text edit asked.inclusive asked.kind (scan_by (plain_value asked.kind) asked.inclusive xs) in
     let is : text_of c.last_number.result c.elements.result.now ≡ scan_reply_text (told_number g.N.Naming.numbers (length c.copy_range-copied.new.share.seen)) asked.inclusive asked.kind (Ok c.in-Ok.stretch) =
     ap₂ text_of c.last_number.ensures c.elements.ensures.same in
-    let tells : (answers : List Claimed) → TellsScan g.N.Naming.limits g.N.Naming.numbers g.N.Naming.lists (session_at c.args.share.now answers) asked.inclusive asked.kind asked.lo asked.hi (text_of c.last_number.result c.elements.result.now) (session_at c.copy_range-copied.new.share answers) =
+    let tells : (answers : List Claimed) → TellsScan g.N.Naming.limits g.N.Naming.numbers g.N.Naming.sessions.listed (session_at c.args.share.now answers) asked.inclusive asked.kind asked.lo asked.hi (text_of c.last_number.result c.elements.result.now) (session_at c.copy_range-copied.new.share answers) =
     λ answers. record { body = c.args.place.now.hub.now; result = Ok c.in-Ok.stretch; told = c.in-Ok.ensures.told; text_is = is; state = ap (λ h. session_at h answers) c.copy_range-copied.ensures.share } in
     IfErr-weaker c.put_recorded_scan.result _ _ (λ fault fails. (fails.0, text_of c.last_number.result c.elements.result.now, tells, fails.1)) c.put_recorded_scan.ensures.fault

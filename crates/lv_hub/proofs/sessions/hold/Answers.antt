@@ -11,10 +11,10 @@ use Rattle.lv_hub.proofs.sessions.hold.Goals as goal
 
 pub returns-clause-lines_served : goal.returns-clause-lines_served
 returns-clause-lines_served g c =
-    let tells = TellsLine g.N.Naming.limits g.N.Naming.numbers g.N.Naming.lists in
+    let tells = TellsLine g.N.Naming.limits g.N.Naming.numbers g.N.Naming.sessions.listed in
     let begun : SessionState = session_at c.args.share c.new.result.items in
     let ended = c.serve_lines-ended in
-    let came = lines_served_as stands_for (as_session g.N.Naming.limits g.N.Naming.numbers g.N.Naming.lists) _ begun _ _ _ _ _ ended.result refl ended.ensures.served in
+    let came = lines_served_as stands_for (as_session g.N.Naming.limits g.N.Naming.numbers g.N.Naming.sessions.listed) _ begun _ _ _ _ _ ended.result refl ended.ensures.served in
     let at : SessionState = session_at c.session.inside.share c.session.inside.answers.items in
     subst (λ (items : List Claimed). LinesServed tells (session_at c.args.share items) at (g.R.Read.remaining c.args.reader.now) (g.R.Read.remaining ended.new.reader) (g.W.Write.contents c.args.writer.now) (g.W.Write.contents ended.new.writer) ended.result) c.new.ensures.items
     (subst (λ (s : SessionState). LinesServed tells begun s (g.R.Read.remaining c.args.reader.now) (g.R.Read.remaining ended.new.reader) (g.W.Write.contents c.args.writer.now) (g.W.Write.contents ended.new.writer) ended.result)

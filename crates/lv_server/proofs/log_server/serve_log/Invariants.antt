@@ -8,7 +8,7 @@ abbrev pub ghosts-serve_log_as-N-Ledger : goal.ghosts-serve_log_as-N-Ledger
 ghosts-serve_log_as-N-Ledger g a = record { name = a.blank.name; parts = a.blank.parts }
 
 abbrev pub ghosts-serve_log_as-N-Naming : goal.ghosts-serve_log_as-N-Naming
-ghosts-serve_log_as-N-Naming g a = record { limits = served_limits a.plan.limits; history = a.opened; numbers = a.heading; lists = false }
+ghosts-serve_log_as-N-Naming g a = record { limits = served_limits a.plan.limits; history = a.opened; numbers = a.heading; sessions = record { listed = false; full = a.plan.full } }
 
 abbrev pub ghosts-serve_log_as-N-WithBody : goal.ghosts-serve_log_as-N-WithBody
 ghosts-serve_log_as-N-WithBody g a = record { body = Some a.body }

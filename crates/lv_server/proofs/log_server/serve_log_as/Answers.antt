@@ -24,7 +24,7 @@ pub returns-in-Ok-clause-served : goal.returns-in-Ok-clause-served
 returns-in-Ok-clause-served g c =
     rw (c.requires.numbers, ← c.requires.start)
     (passes_well _ _ _ c.close_log-file.result.1 c.all_or_failure.result c.all_or_failure.ensures
-    (λ done closed. log_served g.V.LogWriter.made g.V.Write.contents g.N.Naming.numbers c.args.begun.now g.K.Begun.there g.K.Begun.start c.args.plan.limits g.N.Naming.limits g.N.Naming.lists _ _ _ _ _ _ _ _ c.requires.limits c.lasting-lasts.ensures.few
+    (λ done closed. log_served g.V.LogWriter.made g.V.Write.contents g.N.Naming.numbers c.args.begun.now g.K.Begun.there g.K.Begun.start c.args.plan.limits g.N.Naming.limits g.N.Naming.sessions _ _ _ _ _ _ _ _ c.requires.limits c.lasting-lasts.ensures.few
     (rw (← c.requires.numbers) c.requires.there) c.in-Ok.ensures.held c.in-Ok.ensures.left closed)
     c.close_log-file.ensures.closed)
 

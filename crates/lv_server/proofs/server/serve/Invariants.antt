@@ -8,7 +8,7 @@ abbrev pub ghosts-serve_as-N-Ledger : goal.ghosts-serve_as-N-Ledger
 ghosts-serve_as-N-Ledger g a = record { name = a.blank.name; parts = a.blank.parts }
 
 abbrev pub ghosts-serve_as-N-Naming : goal.ghosts-serve_as-N-Naming
-ghosts-serve_as-N-Naming g a = record { limits = a.plan.limits; history = a.opened; numbers = from_the_first; lists = true }
+ghosts-serve_as-N-Naming g a = record { limits = a.plan.limits; history = a.opened; numbers = from_the_first; sessions = record { listed = true; full = a.plan.full } }
 
 abbrev pub ghosts-serve_as-N-WithBody : goal.ghosts-serve_as-N-WithBody
 ghosts-serve_as-N-WithBody g a = record { body = Some a.body }

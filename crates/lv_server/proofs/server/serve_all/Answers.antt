@@ -30,8 +30,8 @@ returns-clause-held g c =
     let left = c.leave_all-left.ensures.left in
     let begun = c.args.begun.now in
     let made = c.in_ok-begin.ensures in
-    held_more g.N.Naming.limits g.N.Naming.numbers g.N.Naming.lists begun _ _ _ _ _
-    (all_held_by _ g.N.Naming.limits g.N.Naming.numbers g.N.Naming.lists begun _ _ _ c.args.clients.streams.items _ _ _ _ c.in_ok-present.ensures.sessions c.hold_all-held.ensures.held c.in_ok-all.ensures.back (c.in_ok-present.ensures.count ∙ ap (λ s. s.count) made) c.in_ok-present.ensures.seen (ap (λ s. s.seen) made))
+    held_more g.N.Naming.limits g.N.Naming.numbers g.N.Naming.sessions begun _ _ _ _ _
+    (all_held_by _ g.N.Naming.limits g.N.Naming.numbers g.N.Naming.sessions begun _ _ _ c.args.clients.streams.items _ _ _ _ c.in_ok-present.ensures.sessions c.hold_all-held.ensures.held c.in_ok-all.ensures.back (c.in_ok-present.ensures.count ∙ ap (λ s. s.count) made) c.in_ok-present.ensures.seen (ap (λ s. s.seen) made))
     left.count left.more
 
 -- what each subscriber has left is told of all that was seen

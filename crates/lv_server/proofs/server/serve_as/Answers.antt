@@ -9,11 +9,11 @@ use Rattle.lv_server.proofs.server.serve_as.Goals as goal
 
 pub returns-in-Ok-clause-served : goal.returns-in-Ok-clause-served
 returns-in-Ok-clause-served g c =
-    rw c.requires.limits (passes_well _ _ _ c.write_closed-file.result.1 c.all_or_failure.result c.all_or_failure.ensures (λ done. served_so g.N.Naming.limits g.N.Naming.numbers g.N.Naming.lists _ _ _ _ _ c.in-Ok.ensures.held done _ _) c.write_closed-file.ensures.written)
+    rw c.requires.limits (passes_well _ _ _ c.write_closed-file.result.1 c.all_or_failure.result c.all_or_failure.ensures (λ done. served_so g.N.Naming.limits g.N.Naming.numbers g.N.Naming.sessions _ _ _ _ _ c.in-Ok.ensures.held done _ _) c.write_closed-file.ensures.written)
 
 pub returns-in-Ok-clause-failed : goal.returns-in-Ok-clause-failed
 returns-in-Ok-clause-failed g c =
-    rw c.requires.limits (passes_ill _ _ _ c.write_closed-file.result.1 c.all_or_failure.result c.all_or_failure.ensures (λ failure. failed_so g.N.Naming.limits g.N.Naming.numbers g.N.Naming.lists _ _ _ _ _ c.in-Ok.ensures.held failure.fault _ _) c.write_closed-file.ensures.failed)
+    rw c.requires.limits (passes_ill _ _ _ c.write_closed-file.result.1 c.all_or_failure.result c.all_or_failure.ensures (λ failure. failed_so g.N.Naming.limits g.N.Naming.numbers g.N.Naming.sessions _ _ _ _ _ c.in-Ok.ensures.held failure.fault _ _) c.write_closed-file.ensures.failed)
 
 -- the file is given back with what was written to it
 pub returns-in-Ok-clause-back : goal.returns-in-Ok-clause-back

@@ -4,4 +4,4 @@ use Rattle.lv_server.proofs.threads.hold_in_place.Goals as goal
 
 -- each that waited still was held behind the others
 pub returns : goal.returns
-returns g c = are_held_again g.N.Naming.limits g.N.Naming.numbers g.N.Naming.lists _ _ _ c.hold_waiting.ensures c.hold_waiting-2.ensures
+returns g c = are_held_again g.N.Naming.limits g.N.Naming.numbers g.N.Naming.sessions _ _ _ c.hold_waiting.ensures c.hold_waiting-2.ensures

@@ -7,7 +7,7 @@ abbrev pub ghosts-of_hub-N-Ledger : goal.ghosts-of_hub-N-Ledger
 ghosts-of_hub-N-Ledger g a = record { name = a.blank.name; parts = a.blank.parts }
 
 abbrev pub ghosts-of_hub-N-Naming : goal.ghosts-of_hub-N-Naming
-ghosts-of_hub-N-Naming g a = record { limits = a.limits; history = a.opened; numbers = from_the_first; lists = true }
+ghosts-of_hub-N-Naming g a = record { limits = a.limits; history = a.opened; numbers = from_the_first; sessions = record { listed = true; full = false } }
 
 abbrev pub ghosts-of_hub-N-WithBody : goal.ghosts-of_hub-N-WithBody
 ghosts-of_hub-N-WithBody g a = record { body = Some a.body }
