@@ -1,4 +1,5 @@
 """Sessions over FIFOs, whose client sends some lines to each, waits for all replies, and only then sends more."""
+import contextlib
 import os
 import subprocess
 import time
@@ -67,9 +68,16 @@ class Paced:
         for _ in self.naps("hasn't ended with its sessions"):
             if self.process.poll() is not None:
                 break
+            self.come_and_go()
         self.close()
         with open(self.said, "rb") as said:
             return self.process.returncode, but_start(said.read())
+
+    def come_and_go(self):
+        """Has a client come to each pipe and go. A session that has opened its pipe only after its own client went would wait for one."""
+        for name in self.names:
+            with contextlib.suppress(OSError):
+                os.close(os.open(name, os.O_WRONLY | os.O_NONBLOCK | os.O_CLOEXEC))
 
     def kill(self):
         """Kills the server."""
