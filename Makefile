@@ -67,11 +67,11 @@ $(LIB)/liblivevec.a:
 endif
 
 test: ## runs every test, row, example, page and binding, without proofs; with CRATE=.. only that crate's tests
-	@CC="$(CC)" tools/with_time test$(addprefix -,$(CRATE)) "runs $(if $(CRATE),the tests of $(CRATE),every test) without proofs" "$(if $(CRATE),1 to 3 min,some 8 min on 4 processors)" tools/test $(addprefix --crate ,$(CRATE))
+	@CC="$(CC)" tools/with_time test$(addprefix -,$(CRATE)) "runs $(if $(CRATE),the tests of $(CRATE),every test) without proofs" "$(if $(CRATE),1 to 3 min,8 to 12 min on 4 processors)" tools/test $(addprefix --crate ,$(CRATE))
 
 prove: ## every proof, every wrong body, memory refused in turn; with CRATE=.. proofs and wrong bodies of that crate and those below
 ifeq ($(CRATE),)
-	@CC="$(CC)" tools/with_time prove "proves all crates, tries the wrong bodies, refuses memory in turn" "some 70 min on 4 processors" tools/prove
+	@CC="$(CC)" tools/with_time prove "proves all crates, tries the wrong bodies, refuses memory in turn" "70 min on 4 quiet processors" tools/prove
 else
 	@tools/with_time prove-$(CRATE) "proves $(CRATE) and what lies below it, tries their wrong bodies" "1 to 60 min, by how high the crate stands" tools/prove $(CRATE)
 endif
